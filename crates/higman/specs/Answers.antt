@@ -1,0 +1,148 @@
+-- What the calls answer: the verdict on two columns, and a granted plan or a refusal for F, I, K, S and W. Each refusal has the
+-- number that document 01 gives it. The contracts of the calls cite these answers. Read Listing.antt next.
+use Prim.Native.Nat.{ℕ, zero, suc}
+use mathlib.Core.Path.{_≡_, refl}
+use mathlib.Core.Bool.{Bool, true, false, _&&_}
+use mathlib.Core.List.{List, [], _∷_, map}
+use mathlib.Core.Option.{Option, none, some}
+use lib.Dec.{leb, eqb}
+use lib.IntN.{ℤ, pos, negsuc, natAbs}
+use Rattle.higman.specs.Words.{Shape, Word, spell}
+use Rattle.higman.specs.Bases.{overlap, gap}
+use Rattle.higman.specs.Tables.{Table, froms, tos, image, sameTable, row, φ, ψ}
+use Rattle.higman.specs.Normal.{joined, normal, normalForm, keep, compose, inverse, identity}
+use Rattle.higman.specs.Limits.{Plan, granted, isCode, maxPairs, maxDigits, maxCode, maxPower}
+
+-- "6, one word begins or equals another; 7, a belt isn't covered"
+pub data Reason : Type 0 where
+  Overlap : Reason
+  Gap : Reason
+
+-- "the verdict on a plan names the column and, within it, the reason"
+pub data Verdict : Type 0 where
+  Accepted : Verdict
+  InFrom : Reason → Verdict
+  InTo : Reason → Verdict
+
+abbrev pub reasonNumber : Reason → ℕ
+reasonNumber Overlap = 6
+reasonNumber Gap = 7
+
+-- what is wrong with a column, overlap before gap
+abbrev pub fault : Shape → List Word → Option Reason
+fault s c = elim (overlap c) [ true ↦ some Overlap | false ↦ elim (gap s c) [ true ↦ some Gap | false ↦ none ] ]
+
+-- "two checks, both made of the from column and after that both of the to column"
+unfoldable pub verdict : Shape → Table → Verdict
+verdict s t =
+    elim (fault s (froms t)) [ some r ↦ InFrom r | none ↦ elim (fault s (tos t)) [ some r ↦ InTo r | none ↦ Accepted ] ]
+
+-- the refusals of the calls that take kept plans
+pub data Refusal : Type 0 where
+  BadCode : Refusal
+  ShapesDiffer : Refusal
+  LimitBroken : Refusal
+  PowerOutside : Refusal
+
+abbrev pub refusalNumber : Refusal → ℕ
+refusalNumber BadCode = 4
+refusalNumber ShapesDiffer = 10
+refusalNumber LimitBroken = 11
+refusalNumber PowerOutside = 12
+
+-- the plan that F, I or K would keep, or why not
+pub data Answer : Type 0 where
+  Granted : Plan → Answer
+  Refused : Refusal → Answer
+
+abbrev pub sameShape : Shape → Shape → Bool
+sameShape s u = eqb (s .arity) (u .arity) && eqb (s .roots) (u .roots)
+
+-- "11, the reduced result breaks a limit"
+abbrev pub grant : Shape → Table → Answer
+grant s t = elim (granted t) [ true ↦ Granted (record { shape = s; rows = t }) | false ↦ Refused LimitBroken ]
+
+-- F: "10, shapes differ; 11, the reduced result breaks a limit"
+unfoldable pub followed : Plan → Plan → Answer
+followed a b =
+    elim (sameShape (a .shape) (b .shape)) [ true ↦ grant (a .shape) (compose (a .shape) (a .rows) (b .rows)) | false ↦ Refused ShapesDiffer ]
+
+-- I
+unfoldable pub inverted : Plan → Answer
+inverted a = Granted (record { shape = a .shape; rows = inverse (a .shape) (a .rows) })
+
+-- the k-th power, if every power from the first to it keeps the limits
+unfoldable pub raised : Shape → Table → ℕ → Option Table
+raised s a zero = some (identity s)
+raised s a (suc k) =
+    elim (raised s a k) [ none ↦ none | some t ↦ let u = compose s t a in elim (granted u) [ true ↦ some u | false ↦ none ] ]
+
+-- what a power repeats: the plan, or below zero its inverse
+abbrev pub repeatable : Plan → ℤ → Table
+repeatable a (pos k) = a .rows
+repeatable a (negsuc k) = inverse (a .shape) (a .rows)
+
+-- K: "12, k outside −1,000 to 1,000; .. 11, some reduced power from 1 up to the size of k breaks a limit"
+unfoldable pub powered : Plan → ℤ → Answer
+powered a k =
+    elim
+    (leb (natAbs k) maxPower) [
+      | true ↦ elim (raised (a .shape) (repeatable a k) (natAbs k)) [ some t ↦ Granted (record { shape = a .shape; rows = t }) | none ↦ Refused LimitBroken ]
+      | false ↦ Refused PowerOutside
+    ]
+
+-- "0 is the plan that moves nothing"
+unfoldable pub identityPlan : Shape → Plan
+identityPlan s = record { shape = s; rows = identity s }
+
+-- S: whether two plans act alike, or why that is not asked
+pub data Comparison : Type 0 where
+  Alike : Bool → Comparison
+  NotCompared : Refusal → Comparison
+
+unfoldable pub same : Plan → Plan → Comparison
+same a b =
+    elim (sameShape (a .shape) (b .shape)) [ true ↦ Alike (sameTable (a .rows) (b .rows)) | false ↦ NotCompared ShapesDiffer ]
+
+-- "A route replies with an image, a code too short, or another refusal."
+pub data Route : Type 0 where
+  Image : Word → Route
+  TooShort : Route
+  NotRouted : Refusal → Route
+
+-- the number of a route's refusal; an image has none
+abbrev pub routeNumber : Route → Option ℕ
+routeNumber (Image w) = none
+routeNumber TooShort = some 13
+routeNumber (NotRouted r) = some (refusalNumber r)
+
+-- W: "4; 13, the code is a proper beginning of a from-word"
+unfoldable pub routed : Plan → Word → Route
+routed a c =
+    elim
+    (isCode (a .shape) c) [
+      | true ↦ elim (image (a .rows) c) [ some v ↦ Image v | none ↦ TooShort ]
+      | false ↦ NotRouted BadCode
+    ]
+
+verdict-example : verdict (record { arity = 2; roots = 1 }) (row 11 11 ∷ row 121 121 ∷ row 122 1221 ∷ []) ≡ InTo Gap
+unfolding verdict
+verdict-example = refl
+
+-- the from column first, and in a column the overlap
+verdict-order-example : verdict (record { arity = 2; roots = 2 }) (row 11 1 ∷ row 111 11 ∷ []) ≡ InFrom Overlap
+unfolding verdict
+verdict-order-example = refl
+
+routed-example : map (routed (record { shape = record { arity = 2; roots = 1 }; rows = ψ })) (spell 1122 ∷ spell 11 ∷ spell 13 ∷ []) ≡ Image (spell 1212) ∷ TooShort ∷ NotRouted BadCode ∷ []
+unfolding routed isCode maxCode
+routed-example = refl
+
+-- "k = 1000 passes the check of k, 1001 is 12"
+powered-example : map (powered (record { shape = record { arity = 2; roots = 1 }; rows = φ })) (negsuc 0 ∷ pos 1001 ∷ []) ≡ inverted (record { shape = record { arity = 2; roots = 1 }; rows = φ }) ∷ Refused PowerOutside ∷ []
+unfolding powered raised inverted granted maxPairs maxDigits maxPower compose inverse keep identity normalForm normal joined
+powered-example = refl
+
+same-example : same (record { shape = record { arity = 2; roots = 1 }; rows = φ }) (record { shape = record { arity = 2; roots = 1 }; rows = ψ }) ≡ Alike false
+unfolding same
+same-example = refl

@@ -1,0 +1,92 @@
+-- The statements. proofs/ has one term of each: ColumnIsBasis and BasisSize (what "accepted exactly when both columns are bases"
+-- rests on), NormalForm, GroupActs, AnswersExact, Demand3 and ListingFaithful. They hold for every arity and number of roots.
+use Prim.Native.Nat.{ℕ, zero, suc, _+_, _*_, _-_, _≤_}
+use mathlib.Core.Path.{_≡_}
+use mathlib.Core.Logic.{_↔_}
+use mathlib.Core.Bool.{Bool, true, false}
+use mathlib.Core.List.{List, [], _∷_, _++_, List·Memᴰ}
+use mathlib.Core.Option.{Option, none, some}
+use lib.Dec.{T, leb}
+use lib.ListN.{length}
+use lib.IntN.{ℤ, pos, natAbs, _+ℤ_, _*ℤ_}
+use Rattle.higman.specs.Words.{Shape, Word, isWord}
+use Rattle.higman.specs.Bases.{Basis, Column, all}
+use Rattle.higman.specs.Tables.{Pair, Table, froms, tos, image, longEnough}
+use Rattle.higman.specs.Normal.{keep, andThen, compose, inverse, repeated, power, Reduced, ordered, Joins}
+use Rattle.higman.specs.Limits.{Plan, Bases, Kept, shapeInRange, granted, isCode, maxPower}
+use Rattle.higman.specs.Answers.{verdict, Accepted, Granted, Refused, LimitBroken, followed, inverted, powered, repeatable, identityPlan, same, Alike, routed, TooShort}
+use Rattle.higman.specs.Listing.{pairRecords, joinLines, listing}
+
+-- A column is a basis exactly when its words are words of the shape, none begins or equals another and every belt is covered.
+abbrev pub ColumnIsBasis : Type 0
+ColumnIsBasis = (s : Shape) → 1 ≤ s .arity → (c : List Word) → Basis s c ↔ Column s c
+
+-- "Every d-fold expansion of Y has |Y| + (n−1)d elements."
+abbrev pub BasisSize : Type 0
+BasisSize = (s : Shape) → 1 ≤ s .arity → (c : List Word) (b : Basis s c) → length c ≡ s .roots + b .folds * (s .arity - 1)
+
+-- The normal form of a table whose columns are bases.
+pub record NormalForm : Type 0 where
+  -- it acts as the table it came from
+  pub acts : (s : Shape) → 1 ≤ s .arity → (t : Table) → Bases s t → (w v : Word) → T (isWord s w) → image t w ≡ some v → image (keep s t) w ≡ some v
+  pub bases : (s : Shape) → 1 ≤ s .arity → (t : Table) → Bases s t → Bases s (keep s t)
+  pub reduced : (s : Shape) → 1 ≤ s .arity → (t : Table) → Bases s t → Reduced (s .arity) (keep s t)
+  pub in-order : (s : Shape) → 1 ≤ s .arity → (t : Table) → Bases s t → ordered (froms (keep s t)) ≡ true
+  -- a table with bases for columns is reduced and ordered exactly when it is its own normal form
+  pub own : (s : Shape) → 1 ≤ s .arity → (t : Table) → Bases s t → (Reduced (s .arity) t × (ordered (froms t) ≡ true)) ↔ (keep s t ≡ t)
+  -- Lemma 4.3: "it doesn't depend on which join came first"
+  pub any-joins : (s : Shape) → 1 ≤ s .arity → (t u : Table) → Bases s t → Joins (s .arity) t u → Reduced (s .arity) u → ordered (froms u) ≡ true → u ≡ keep s t
+
+-- Compositions and inverses act as those of the group G(n,r), on blocks and so on codes of any length, and have bases for columns.
+pub record GroupActs : Type 0 where
+  pub compose-acts : (s : Shape) → 1 ≤ s .arity → (a b : Table) → Bases s a → Bases s b → (w v : Word) → T (isWord s w) → andThen (image a) (image b) w ≡ some v → image (compose s a b) w ≡ some v
+  pub compose-bases : (s : Shape) → 1 ≤ s .arity → (a b : Table) → Bases s a → Bases s b → Bases s (compose s a b)
+  pub inverse-acts : (s : Shape) → 1 ≤ s .arity → (a : Table) → Bases s a → (w v : Word) → T (isWord s w) → image a w ≡ some v → image (inverse s a) v ≡ some w
+  pub inverse-bases : (s : Shape) → 1 ≤ s .arity → (a : Table) → Bases s a → Bases s (inverse s a)
+
+-- "Two plans send it to the same place if its two images agree in length and in every digit": every code that is long enough for both,
+-- whatever its length.
+abbrev pub ActAlike : Plan → Plan → Type 0
+ActAlike a b = (w : Word) → T (isWord (a .shape) w) → T (longEnough (a .rows) w) → T (longEnough (b .rows) w) → image (a .rows) w ≡ image (b .rows) w
+
+-- Each answer is given under its condition and no other.
+pub record AnswersExact : Type 0 where
+  -- a draft of words is accepted exactly when both columns are bases, and what is kept of it is within the limits if the draft is
+  pub accepted : (s : Shape) → 1 ≤ s .arity → (t : Table) → T (all (isWord s) (froms t)) → T (all (isWord s) (tos t)) → (verdict s t ≡ Accepted) ↔ Bases s t
+  pub keeps : (s : Shape) → T (shapeInRange s) → (t : Table) → Bases s t → T (granted t) → Kept (record { shape = s; rows = keep s t })
+  -- 11 of a power: "some reduced power from 1 up to the size of k breaks a limit"
+  pub power-refused : (a : Plan) (k : ℤ) → (powered a k ≡ Refused LimitBroken) ↔ (T (leb (natAbs k) maxPower) × ((j : ℕ) × (1 ≤ j) × (j ≤ natAbs k) × (granted (repeated (a .shape) (repeatable a k) j) ≡ false)))
+  -- where a power is granted, it is the power
+  pub power-granted : (a b : Plan) (k : ℤ) → powered a k ≡ Granted b → b ≡ record { shape = a .shape; rows = power (a .shape) (a .rows) k }
+  -- 13: "the code is a proper beginning of a from-word"
+  pub too-short : (a : Plan) → Kept a → (w : Word) → T (isCode (a .shape) w) → (routed a w ≡ TooShort) ↔ ((p : Pair) × (i : ℕ) × (x : Word) × List·Memᴰ p (a .rows) × (p .from ≡ w ++ i ∷ x))
+  -- S: "if the plans act alike"
+  pub alike : (a b : Plan) → Kept a → Kept b → a .shape ≡ b .shape → (same a b ≡ Alike true) ↔ ActAlike a b
+
+-- Demand 3: "The laws and the exactly-when of demand 3 are one claim over all such plans, numbers and codes". Over what F, I, K and
+-- L give; a law speaks wherever the plans that it names are granted, and these are kept plans again.
+pub record Demand3 : Type 0 where
+  pub followed-kept : (a b c : Plan) → Kept a → Kept b → followed a b ≡ Granted c → Kept c
+  pub inverted-kept : (a b : Plan) → Kept a → inverted a ≡ Granted b → Kept b
+  pub powered-kept : (a b : Plan) (k : ℤ) → Kept a → powered a k ≡ Granted b → Kept b
+  -- (a then b) then c is a then (b then c)
+  pub associative : (a b c ab bc : Plan) → Kept a → Kept b → Kept c → followed a b ≡ Granted ab → followed b c ≡ Granted bc → followed ab c ≡ followed a bc
+  -- power 0 is the identity, on both sides
+  pub power-zero : (a : Plan) → Kept a → powered a (pos 0) ≡ Granted (identityPlan (a .shape))
+  pub identity-left : (a : Plan) → Kept a → followed (identityPlan (a .shape)) a ≡ Granted a
+  pub identity-right : (a : Plan) → Kept a → followed a (identityPlan (a .shape)) ≡ Granted a
+  -- the inverse, on both sides
+  pub inverse-left : (a b : Plan) → Kept a → inverted a ≡ Granted b → followed b a ≡ Granted (identityPlan (a .shape))
+  pub inverse-right : (a b : Plan) → Kept a → inverted a ≡ Granted b → followed a b ≡ Granted (identityPlan (a .shape))
+  -- power j then power k is power j + k
+  pub power-sum : (a p q b : Plan) (j k : ℤ) → Kept a → powered a j ≡ Granted p → powered a k ≡ Granted q → powered a (j +ℤ k) ≡ Granted b → followed p q ≡ Granted b
+  -- power k of power j is power jk
+  pub power-product : (a p q b : Plan) (j k : ℤ) → Kept a → powered a j ≡ Granted p → powered p k ≡ Granted q → powered a (j *ℤ k) ≡ Granted b → q ≡ b
+  -- the M records agree exactly when every code long enough for both, whatever its length, is sent to the same place
+  pub same-listing : (a b : Plan) → Kept a → Kept b → a .shape ≡ b .shape → (pairRecords (a .rows) ≡ pairRecords (b .rows)) ↔ ActAlike a b
+
+-- "a listing read back is the same plan" rests on this: the bytes determine the slot's plan, and the M records the table.
+pub record ListingFaithful : Type 0 where
+  pub records : (t u : Table) → (pairRecords t ≡ pairRecords u) ↔ (t ≡ u)
+  pub lines : (t u : Table) → (joinLines (pairRecords t) ≡ joinLines (pairRecords u)) ↔ (t ≡ u)
+  pub whole-listing : (slot : ℕ) (a b : Plan) → (listing slot a ≡ listing slot b) ↔ (a ≡ b)
