@@ -1,19 +1,19 @@
 -- Maps on blocks that act on the words of a shape, as tables with bases for columns do, and their normal forms: they act alike, two
 -- actions that agree on all long words have one normal form, and one action after another is an action.
-use Prim.Native.Nat.{ℕ, zero, suc, _+_, _-_, _≤_, _<_, min}
-use mathlib.Core.Path.{_≡_, refl, sym, _∙_, ap, ap₂, subst}
-use mathlib.Core.Logic.{_⊎_, inl, inr}
-use mathlib.Core.List.{List, [], _∷_, _++_, append-assoc, append-cancel-right, List·Memᴰ}
+use Prim.Native.Nat.{ℕ, _+_, _≤_, _<_}
+use mathlib.Core.Path.{_≡_, refl, sym, _∙_, ap, subst}
+use mathlib.Core.List.{[], _∷_, _++_, append-cancel-right}
 use mathlib.Core.Option.{Option, none, some, Option·none-ne-some, Option·some-injective}
 use native.Mathlib.Omega.{arith}
 use lib.ListN.{length, take, drop, length-append, length-take, length-drop, take-append-drop}
 use Rattle.higman.specs.Words.{Shape, Word, digits}
-use Rattle.higman.specs.Tables.{Pair, Table, BlockMap, image}
-use Rattle.higman.specs.Normal.{below, gather, normal, normalForm, andThen}
+use Rattle.higman.specs.Tables.{BlockMap, image}
+use Rattle.higman.specs.Normal.{below, normal, normalForm, andThen}
 use Rattle.higman.proofs.Tests.{Digit, Ways, IsWord, digit-of-mem, mem-of-digit}
-use Rattle.higman.proofs.Prefixes.{ways-append, ways-left, word-append, ones, ones-ways, ones-length}
+use Rattle.higman.proofs.Prefixes.{ways-append, ways-left, ones, ones-ways, ones-length}
+use Rattle.higman.proofs.Blocks.{gather-path}
 use Rattle.higman.proofs.Images.{image-gather}
-use Rattle.higman.proofs.Maps.{Total, Agree, Steady, gather-path, normal-unique, image-normal}
+use Rattle.higman.proofs.Maps.{Total, Agree, Steady, normal-unique, image-normal}
 
 -- The parts of a block follow it, words go to words, and every word of more than `depth` digits goes somewhere.
 pub record Action (s : Shape) (f : BlockMap) : Type 0 where

@@ -1,9 +1,9 @@
 -- What a granted answer is: the composition, the inverse and the power of the group, within the limits. And when a power is refused.
-use Prim.Native.Nat.{ℕ, zero, suc, _≤_, _<_}
-use mathlib.Core.Path.{_≡_, refl, sym, _∙_, ap, ap₂, subst}
+use Prim.Native.Nat.{ℕ, zero, suc, _≤_}
+use mathlib.Core.Path.{_≡_, refl, sym, _∙_, ap, subst}
 use mathlib.Core.Logic.{_⊎_, inl, inr, ⊎-elim, _↔_}
-use mathlib.Core.Bool.{Bool, true, false, _&&_}
-use mathlib.Core.Option.{Option, none, some, Option·none-ne-some, Option·some-injective}
+use mathlib.Core.Bool.{Bool, true, false}
+use mathlib.Core.Option.{Option, none, some}
 use native.Mathlib.Nat.{le-refl}
 use native.Mathlib.Omega.{arith}
 use lib.Dec.{T, leb, leb·zero, eqb, eqb-refl, eqb→eq}
@@ -11,9 +11,9 @@ use borrow.Author.Tests.{leb-true, leb-false}
 use lib.IntN.{ℤ, pos, negsuc, natAbs}
 use Rattle.higman.specs.Words.{Shape}
 use Rattle.higman.specs.Tables.{Table}
-use Rattle.higman.specs.Normal.{compose, inverse, identity, repeated, power}
+use Rattle.higman.specs.Normal.{compose, identity, repeated, power}
 use Rattle.higman.specs.Limits.{Plan, granted, maxPower}
-use Rattle.higman.specs.Answers.{Answer, Granted, Refused, Refusal, ShapesDiffer, LimitBroken, PowerOutside, refusalNumber, sameShape, grant, followed, inverted, raised, repeatable, powered}
+use Rattle.higman.specs.Answers.{Answer, Granted, Refused, Refusal, ShapesDiffer, LimitBroken, PowerOutside, refusalNumber, sameShape, grant, followed, raised, repeatable, powered}
 use Rattle.higman.proofs.Tests.{passes, so, T-of, clash, and-left, and-right, and-intro}
 
 abbrev IsGranted : Answer → Type 0

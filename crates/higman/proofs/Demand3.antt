@@ -1,32 +1,30 @@
 -- Demand 3: the laws of the group on what F, I and K grant, and equal listings exactly for equal actions. Each law comes from the
 -- one over unlimited tables; the limits only say whether the plans that it names are granted.
-use Prim.Native.Nat.{ℕ, zero, suc, _+_, _≤_, _<_, max}
+use Prim.Native.Nat.{ℕ, zero, suc, _+_, _≤_}
 use mathlib.Core.Path.{_≡_, refl, sym, _∙_, ap, ap₂, subst}
-use mathlib.Core.Logic.{_⊎_, inl, inr, _↔_}
-use mathlib.Core.Bool.{Bool, true, false, _&&_}
-use mathlib.Core.List.{List, [], _∷_, _++_, map, List·Memᴰ, Memᴰ·map, Memᴰ·of-map}
-use mathlib.Core.Option.{Option, none, some}
-use native.Mathlib.Nat.{le-refl, le-trans, le-of-eq}
+use mathlib.Core.Logic.{_↔_}
+use mathlib.Core.List.{[], _∷_, List·Memᴰ, Memᴰ·of-map}
+use native.Mathlib.Nat.{le-refl, le-trans}
 use native.Mathlib.Omega.{arith}
-use lib.Dec.{T, leb, leb→le, le→leb, lit≤}
+use lib.Dec.{T, leb, le→leb, lit≤}
 use lib.ListN.{length, length-map}
-use lib.IntN.{ℤ, pos, negsuc, natAbs, _+ℤ_, _*ℤ_}
-use Rattle.higman.specs.Words.{Shape, Word, count, isWord}
+use lib.IntN.{ℤ, pos, negsuc, _+ℤ_, _*ℤ_}
+use Rattle.higman.specs.Words.{Shape, count}
 use Rattle.higman.specs.Bases.{all}
-use Rattle.higman.specs.Tables.{Pair, Table, froms, tos, swapped, image, longEnough}
-use Rattle.higman.specs.Normal.{compose, inverse, identity, repeated, power, keep, gather, whole}
-use Rattle.higman.specs.Limits.{Plan, Bases, Kept, shapeInRange, granted, maxPairs, maxDigits, fits, pairFits}
-use Rattle.higman.specs.Answers.{Answer, Granted, followed, inverted, powered, repeatable, identityPlan, grant}
+use Rattle.higman.specs.Tables.{Pair, Table, swapped, image}
+use Rattle.higman.specs.Normal.{compose, inverse, identity, repeated, power, gather, whole}
+use Rattle.higman.specs.Limits.{Plan, Kept, shapeInRange, granted, maxPairs, maxDigits, fits, pairFits}
+use Rattle.higman.specs.Answers.{Granted, followed, inverted, powered, identityPlan, grant}
 use Rattle.higman.specs.Listing.{pairRecords}
 use Rattle.higman.specs.Theorems.{ActAlike, Demand3}
-use Rattle.higman.proofs.Tests.{so, T-of, and-left, and-right, and-intro, all-at, all-of, word-of-test, test-of-word}
-use Rattle.higman.proofs.Images.{image-of-long-enough, long-enough-of-image}
+use Rattle.higman.proofs.Tests.{T-of, and-left, and-right, and-intro, all-at, all-of, test-of-word}
+use Rattle.higman.proofs.Images.{long-enough-of-image}
 use Rattle.higman.proofs.Actions.{Action, Same}
 use Rattle.higman.proofs.Elements.{Element, element-action, element-swapped}
-use Rattle.higman.proofs.Group.{Member, member-path, keep-member, compose-member, inverse-member, identity-member, compose-assoc, compose-identity-left, compose-identity-right, compose-inverse-left, compose-inverse-right}
+use Rattle.higman.proofs.Group.{Member, member-path, compose-member, inverse-member, identity-member, compose-assoc, compose-identity-left, compose-identity-right, compose-inverse-left, compose-inverse-right}
 use Rattle.higman.proofs.Smallest.{keep-granted}
-use Rattle.higman.proofs.KeptPlans.{InRange, in-range, arity-of-range, member-of-kept, kept-of-member}
-use Rattle.higman.proofs.Powers.{GroupLaws, pow, pow-in, pow-sum, pow-product, power-is-pow}
+use Rattle.higman.proofs.KeptPlans.{in-range, arity-of-range, member-of-kept, kept-of-member}
+use Rattle.higman.proofs.Powers.{GroupLaws, pow-in, pow-sum, pow-product, power-is-pow}
 use Rattle.higman.proofs.Answers.{followed-is, followed-cases, grant-of, granted-path, powered-cases, powered-zero}
 use Rattle.higman.proofs.Listing.{listing-faithful}
 

@@ -1,24 +1,20 @@
 -- The normal form of an invertible action has bases for columns. So tables with bases for columns are closed under reduction,
 -- composition and inversion; and a table that is its own normal form is determined by what it does to long words.
-use Prim.Native.Nat.{ℕ, zero, suc, _+_, _≤_, _<_}
-use mathlib.Core.Path.{_≡_, refl, sym, _∙_, ap, ap₂, subst}
-use mathlib.Core.Logic.{_⊎_, inl, inr}
-use mathlib.Core.Bool.{Bool, true, false}
-use mathlib.Core.List.{List, [], _∷_, _++_, map, nil≢cons, List·Memᴰ·eq-of-singleton, append-assoc, append-nil, append-cancel-right, List·Memᴰ, List·Memᴰ·head, List·Memᴰ·tail, List·Memᴰ·cases-cons, List·Memᴰ·not-nil, Memᴰ·map, Memᴰ·of-map, List·Memᴰ·append-cases}
-use mathlib.Core.Option.{Option, none, some, Option·none-ne-some, Option·some-injective}
-use native.Mathlib.Nat.{le-refl}
+use Prim.Native.Nat.{ℕ, suc, _≤_, _<_}
+use mathlib.Core.Path.{_≡_, refl, sym, _∙_, ap, subst}
+use mathlib.Core.List.{[], _∷_, _++_, append-assoc, append-cancel-right, List·Memᴰ, List·Memᴰ·head, List·Memᴰ·tail, Memᴰ·map, Memᴰ·of-map}
+use mathlib.Core.Option.{some, Option·some-injective}
 use native.Mathlib.Omega.{arith}
 use lib.ListN.{length, length-append}
-use Rattle.higman.specs.Words.{Shape, Word, digits, child}
+use Rattle.higman.specs.Words.{Shape, Word}
 use Rattle.higman.specs.Bases.{longest}
-use Rattle.higman.specs.Tables.{Pair, Table, BlockMap, froms, tos, swapped, image, sameTable}
-use Rattle.higman.specs.Normal.{below, under, gather, whole, parts, parent, joint, joined, normal, normalForm, keep, andThen, compose, inverse, identity}
-use Rattle.higman.proofs.Tests.{Digit, Ways, IsWord}
+use Rattle.higman.specs.Tables.{Pair, Table, BlockMap, froms, tos, swapped, image}
+use Rattle.higman.specs.Normal.{normalForm, andThen}
+use Rattle.higman.proofs.Tests.{Ways, IsWord}
 use Rattle.higman.proofs.Prefixes.{ways-append, ways-left, word-append, word-right, ones, ones-ways, ones-length}
-use Rattle.higman.proofs.Proper.{ApartFrom, Apart, Deep, Proper}
+use Rattle.higman.proofs.Proper.{ApartFrom, Apart, Proper}
 use Rattle.higman.proofs.Images.{row-of-image, image-of-row, image-steady, froms-swapped, tos-swapped}
-use Rattle.higman.proofs.Maps.{Steady}
-use Rattle.higman.proofs.Actions.{Action, Same, normal-form-unique, image-normal-form, and-then-some, and-then-cases, and-then-action}
+use Rattle.higman.proofs.Actions.{Action, image-normal-form, and-then-some, and-then-cases}
 use Rattle.higman.proofs.Solid.{normal-form-solid}
 use Rattle.higman.proofs.Columns.{deep-longest}
 use Rattle.higman.proofs.Ordered.{ordered-apart, normal-form-ordered, normal-form-words}
@@ -32,9 +28,6 @@ pub record Element (s : Shape) (t : Table) : Type 0 where
 pub record Mutual (s : Shape) (f g : BlockMap) : Type 0 where
   pub undo : (w v : Word) → IsWord s w → f w ≡ some v → g v ≡ some w
   pub redo : (w v : Word) → IsWord s w → g w ≡ some v → f v ≡ some w
-
-pub mutual-sym : (s : Shape) (f g : BlockMap) → Mutual s f g → Mutual s g f
-mutual-sym s f g m = record { undo = m .redo; redo = m .undo }
 
 -- a table whose from column is proper and whose to-words are words acts, as deep as its longest from-word
 pub table-action : (s : Shape) (t : Table) → 1 ≤ s .arity → Proper s (froms t) → ((v : Word) → List·Memᴰ v (tos t) → IsWord s v) → (F : Action s (image t)) × (F .depth ≡ longest (froms t))

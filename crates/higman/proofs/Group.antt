@@ -1,19 +1,17 @@
 -- The laws of a group, over tables of any size that have bases for columns and are their own normal forms. No limit appears here.
 -- Each law says that two actions do the same to every long word; the lemma of Actions.antt then makes the tables equal.
-use Prim.Native.Nat.{ℕ, zero, suc, _+_, _≤_, _<_, zero-le}
+use Prim.Native.Nat.{ℕ, suc, _+_, _≤_, zero-le}
 use mathlib.Core.Path.{_≡_, refl, sym, _∙_, ap, ap₂, subst}
-use mathlib.Core.List.{List, [], _∷_, _++_}
-use mathlib.Core.Option.{Option, none, some, Option·none-ne-some, Option·some-injective}
+use mathlib.Core.List.{_++_}
+use mathlib.Core.Option.{some, Option·some-injective}
 use native.Mathlib.Nat.{le-of-eq}
-use native.Mathlib.Omega.{arith}
-use lib.ListN.{length}
 use Rattle.higman.specs.Words.{Shape, Word}
 use Rattle.higman.specs.Bases.{longest}
-use Rattle.higman.specs.Tables.{Pair, Table, BlockMap, froms, tos, swapped, image}
+use Rattle.higman.specs.Tables.{Table, BlockMap, froms, swapped, image}
 use Rattle.higman.specs.Normal.{normalForm, normal, keep, andThen, compose, inverse, identity}
 use Rattle.higman.proofs.Tests.{IsWord}
 use Rattle.higman.proofs.Actions.{Action, Same, normal-form-unique, image-normal-form, and-then-some, and-then-cases, and-then-action}
-use Rattle.higman.proofs.Elements.{Element, Mutual, element-action, element-swapped, element-mutual, mutual-sym, and-then-mutual, normal-form-element}
+use Rattle.higman.proofs.Elements.{Element, Mutual, element-action, element-swapped, element-mutual, and-then-mutual, normal-form-element}
 
 -- an element of G(n,r): a table with bases for columns that is its own normal form
 pub record Member (s : Shape) (t : Table) : Type 0 where

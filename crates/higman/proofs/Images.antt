@@ -1,20 +1,19 @@
 -- Laws of `image`: a pair of the table decides the image of every word that its from-word begins, and where an image comes from.
 -- With words that are apart in the from column, the order of the pairs does not matter.
-use Prim.Native.Nat.{ℕ, zero, suc, _+_, _≤_, _<_}
-use mathlib.Core.Path.{_≡_, refl, sym, _∙_, ap, ap₂, subst}
+use Prim.Native.Nat.{ℕ, zero, suc, _<_}
+use mathlib.Core.Path.{_≡_, refl, sym, _∙_, ap}
 use mathlib.Core.Logic.{_⊎_, inl, inr}
-use mathlib.Core.Bool.{Bool, true, false, _||_}
-use mathlib.Core.List.{List, [], _∷_, _++_, map, append-assoc, List·Memᴰ, List·Memᴰ·head, List·Memᴰ·tail, List·Memᴰ·cases-cons, List·Memᴰ·not-nil, Memᴰ·map}
+use mathlib.Core.Bool.{true, _||_}
+use mathlib.Core.List.{[], _∷_, _++_, append-assoc, List·Memᴰ, List·Memᴰ·head, List·Memᴰ·tail, List·Memᴰ·cases-cons, List·Memᴰ·not-nil, Memᴰ·map}
 use mathlib.Core.Option.{Option, none, some, Option·none-ne-some, Option·some-injective}
 use native.Mathlib.Omega.{arith}
-use lib.Dec.{eqb}
 use borrow.Author.Tests.{eq-eqb, ne-eqb}
-use Rattle.higman.specs.Words.{Word, count, after, given, begins}
+use Rattle.higman.specs.Words.{Word, count, after, given}
 use Rattle.higman.specs.Tables.{Pair, Table, froms, tos, swapped, image, longEnough}
 use Rattle.higman.specs.Normal.{under, gather}
-use Rattle.higman.proofs.Tests.{passes, clash, count-bounds, or-cases, or-true-left, or-true-right}
+use Rattle.higman.proofs.Tests.{clash, count-bounds}
 use Rattle.higman.proofs.Prefixes.{after-append, after-some, comparable}
-use Rattle.higman.proofs.Proper.{ApartFrom, Apart}
+use Rattle.higman.proofs.Proper.{Apart}
 
 -- which pair an image comes from
 pub row-of-image : (t : Table) (w v : Word) → image t w ≡ some v → (p : Pair) × (x : Word) × List·Memᴰ p t × (w ≡ p .from ++ x) × (v ≡ p .to ++ x)

@@ -10,12 +10,12 @@ use mathlib.Core.List.{List·Memᴰ, List·Memᴰ·head, List·Memᴰ·tail, Lis
 use mathlib.Core.Option.{some}
 use native.Mathlib.Nat.{le-refl}
 use Rattle.higman.specs.Words.{Shape, Word, digits, child, children}
-use Rattle.higman.specs.Tables.{Pair, Table, froms, tos, image}
+use Rattle.higman.specs.Tables.{Pair, Table, froms, image}
 use Rattle.higman.specs.Normal.{keep, Reduced, ordered, Join, Joins, reorder, join}
 use Rattle.higman.specs.Limits.{Bases}
 use Rattle.higman.proofs.Tests.{Digit, IsWord, mem-of-digit}
 use Rattle.higman.proofs.Prefixes.{child-append, ways-left, word-right}
-use Rattle.higman.proofs.Proper.{ApartFrom, Apart, Proper}
+use Rattle.higman.proofs.Proper.{Apart, Proper}
 use Rattle.higman.proofs.Images.{row-of-image, image-of-row}
 use Rattle.higman.proofs.Expansions.{Begun, Separate, mem-of-perm, proper-of-perm}
 use Rattle.higman.proofs.Elements.{Element, element-action}
@@ -113,8 +113,8 @@ image-of-refined t u a r w v e =
     let (p, x, k, f′, g′) = r q m in
     ap (image u) (f ∙ ap (λ z. z ++ y) f′ ∙ append-assoc (p .from) x y) ∙ image-of-row u a p k (x ++ y) ∙ ap some (sym (g ∙ ap (λ z. z ++ y) g′ ∙ append-assoc (p .to) x y))
 
-refines-of-perm : {t u : Table} → List·Permᴰ t u → Refines t u
-refines-of-perm h q m = (q, [], mem-of-perm h m, sym (append-nil (q .from)), sym (append-nil (q .to)))
+above-of-mem : (u : Table) (q : Pair) → List·Memᴰ q u → Above u q
+above-of-mem u q m = (q, [], m, sym (append-nil (q .from)), sym (append-nil (q .to)))
 
 refines-of-join : (n : ℕ) {t u : Table} → Join n t u → Refines t u
 refines-of-join n {u} j q m = go (List·Memᴰ·append-cases (map rows (digits n)) (mem-of-perm (j .taken) m))
@@ -122,18 +122,21 @@ refines-of-join n {u} j q m = go (List·Memᴰ·append-cases (map rows (digits n
     rows : ℕ → Pair
     rows i = record { from = child (j .root ∷ j .ways) i; to = child (j .root′ ∷ j .ways′) i }
 
-    put : {p : Pair} → List·Memᴰ p (record { from = j .root ∷ j .ways; to = j .root′ ∷ j .ways′ } ∷ j .others) → List·Memᴰ p u
+    whole : Pair
+    whole = record { from = j .root ∷ j .ways; to = j .root′ ∷ j .ways′ }
+
+    put : {p : Pair} → List·Memᴰ p (whole ∷ j .others) → List·Memᴰ p u
     put k = mem-of-perm (Permᴰ·symm (j .put)) k
 
     go : List·Memᴰ q (map rows (digits n)) ⊎ List·Memᴰ q (j .others) → Above u q
     go (inl k) =
         let (i, l, e) = Memᴰ·of-map rows (digits n) k in
-        (record { from = j .root ∷ j .ways; to = j .root′ ∷ j .ways′ }, i ∷ [], put (List·Memᴰ·head refl), ap (λ r. r .from) (sym e), ap (λ r. r .to) (sym e))
-    go (inr k) = (q, [], put (List·Memᴰ·tail k), sym (append-nil (q .from)), sym (append-nil (q .to)))
+        (whole, i ∷ [], put (List·Memᴰ·head refl), ap (λ r. r .from) (sym e), ap (λ r. r .to) (sym e))
+    go (inr k) = above-of-mem u q (put (List·Memᴰ·tail k))
 
 -- Some joins in a row lead to a table with bases for columns that acts as the first one did.
 joins-keep : (s : Shape) {t u : Table} → 1 ≤ s .arity → Joins (s .arity) t u → Element s t → Element s u × ((w v : Word) → image t w ≡ some v → image u w ≡ some v)
-joins-keep s n (reorder {t} {u} h) E = let U = element-of-perm s h E in (U, image-of-refined t u (U .from-proper .apart) (refines-of-perm h))
+joins-keep s n (reorder {t} {u} h) E = let U = element-of-perm s h E in (U, image-of-refined t u (U .from-proper .apart) (λ q m. above-of-mem u q (mem-of-perm h m)))
 joins-keep s n (join {t} {u} h rest) E =
     let U = element-of-join s n h E in
     let (R, acts) = joins-keep s n rest U in

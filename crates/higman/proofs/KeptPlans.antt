@@ -1,16 +1,13 @@
 -- Kept plans are the elements of the group that keep the limits: reduced and ordered is the same as being one's own normal form.
-use Prim.Native.Nat.{ℕ, zero, suc, _≤_}
-use mathlib.Core.Path.{_≡_, refl, sym, _∙_, ap, subst}
-use mathlib.Core.Bool.{Bool, true, false, _&&_}
-use mathlib.Core.List.{List}
-use native.Mathlib.Nat.{le-trans}
+use Prim.Native.Nat.{_≤_}
+use mathlib.Core.Path.{_≡_, subst}
+use mathlib.Core.Bool.{true, _&&_}
 use native.Mathlib.Omega.{arith}
-use lib.Dec.{T, leb, leb→le, le→leb}
-use lib.ListN.{length}
-use Rattle.higman.specs.Words.{Shape, Word, digits}
-use Rattle.higman.specs.Bases.{longest, all}
+use lib.Dec.{T, leb, leb→le}
+use Rattle.higman.specs.Words.{Shape}
+use Rattle.higman.specs.Bases.{longest}
 use Rattle.higman.specs.Tables.{Table, froms, tos, image}
-use Rattle.higman.specs.Normal.{keep, normalForm, Reduced, ordered}
+use Rattle.higman.specs.Normal.{keep, Reduced, ordered}
 use Rattle.higman.specs.Limits.{Plan, Bases, Kept, shapeInRange, granted}
 use Rattle.higman.proofs.Tests.{and-left, and-right}
 use Rattle.higman.proofs.Columns.{deep-longest, proper-of-basis, basis-of-proper}

@@ -2,6 +2,7 @@
 -- Columns (bases), Statements (normal form, group, answers), Demand3, Listing and Cases.
 pub mod Tests
 pub mod Prefixes
+pub mod Blocks
 pub mod Proper
 pub mod Images
 pub mod Maps

@@ -1,23 +1,26 @@
 -- The lemma that carries the group laws. Two maps on blocks that are steady, total below their depths and agree wherever both are
 -- defined have the same normal form; and the normal form acts as the map it came from.
-use Prim.Native.Nat.{ℕ, zero, suc, _+_, _≤_, _<_}
-use mathlib.Core.Path.{_≡_, refl, sym, _∙_, ap, ap₂, subst}
-use mathlib.Core.Logic.{_⊎_, inl, inr}
-use mathlib.Core.Bool.{Bool, true, false}
-use mathlib.Core.List.{List, [], _∷_, _++_, append-assoc, append-nil, append-cancel-right, nil≢cons, List·Memᴰ, List·Memᴰ·head, List·Memᴰ·tail}
-use mathlib.Core.Option.{Option, none, some, Option·none-ne-some, Option·some-injective}
-use native.Mathlib.Omega.{arith}
-use lib.ListN.{length, length-append}
-use Rattle.higman.specs.Words.{Shape, Word, count, digits, child}
-use Rattle.higman.specs.Tables.{Pair, Table, BlockMap, image, sameTable}
-use Rattle.higman.specs.Normal.{below, under, gather, whole, parts, parent, joint, joined, normal, normalForm}
-use Rattle.higman.proofs.Tests.{so, T-of, Digit, Ways, IsWord, digit-of-mem, mem-of-digit, same-table, same-table-refl}
-use Rattle.higman.proofs.Prefixes.{child-append, ways-append, ones, ones-ways, ones-length}
+use Prim.Native.Nat.{ℕ, zero, suc, _≤_}
+use mathlib.Core.Path.{_≡_, refl, sym, _∙_, ap}
+use mathlib.Core.Logic.{inl, inr}
+use mathlib.Core.List.{[], _∷_, _++_, concat-ne-nil}
+use mathlib.Core.Option.{Option, none, some}
+use lib.ListN.{length}
+use Rattle.higman.specs.Words.{Word, digits, child}
+use Rattle.higman.specs.Tables.{Table, BlockMap, image}
+use Rattle.higman.specs.Normal.{below, gather, whole, joined, normal}
+use Rattle.higman.proofs.Tests.{Digit, Ways, digit-of-mem, mem-of-digit}
+use Rattle.higman.proofs.Prefixes.{child-append}
+use Rattle.higman.proofs.Blocks.{gather-path, JoinCases, joined-cases, joined-parts, normal-whole, normal-parts}
 use Rattle.higman.proofs.Images.{image-gather}
+
+-- what a block goes to, its parts follow
+abbrev pub Steady : BlockMap → Type 0
+Steady f = (w v x : Word) → f w ≡ some v → f (w ++ x) ≡ some (v ++ x)
 
 -- a map below a block: what a block goes to its parts follow, no block goes to the empty word, and every block d ways below goes somewhere
 pub record Total (n d : ℕ) (f : BlockMap) : Type 0 where
-  pub steady : (w v x : Word) → f w ≡ some v → f (w ++ x) ≡ some (v ++ x)
+  pub steady : Steady f
   pub solid : (w : Word) → Ways n w → f w ≡ some [] → ⊥
   pub total : (w : Word) → Ways n w → length w ≡ d → (v : Word) × (f w ≡ some v)
 
@@ -39,49 +42,13 @@ agree-below n f g a i k w v u y e e′ = a (i ∷ w) v u (k, y) e e′
 agree-sym : (n : ℕ) (f g : BlockMap) → Agree n f g → Agree n g f
 agree-sym n f g a w v u y e e′ = sym (a w u v y e′ e)
 
-pub gather-path : (is : List ℕ) (g h : ℕ → Table) → ((i : ℕ) → List·Memᴰ i is → g i ≡ h i) → gather is g ≡ gather is h
-gather-path [] g h e = refl
-gather-path (i ∷ is) g h e =
-    ap₂ (λ t u. under i t ++ u) (e i (List·Memᴰ·head refl)) (gather-path is g h (λ j m. e j (List·Memᴰ·tail m)))
-
-pub parent-child : (a : ℕ) (w : Word) (i : ℕ) → parent (child (a ∷ w) i) ≡ some (a ∷ w)
-parent-child a [] i = refl
-parent-child a (b ∷ w) i = rw (parent-child b w i, parent)
-
--- the n parts of a block to the n parts of v join into the block to v
-pub joined-parts : (n : ℕ) (v : Word) → 1 ≤ n → (v ≡ [] → ⊥) → joined n (parts n v) ≡ whole v
-unfolding joined
-joined-parts zero v h k = absurd (omega arith)
-joined-parts (suc n) [] h k = absurd (k refl)
-joined-parts (suc n) (a ∷ v) h k =
-    let t = parts (suc n) (a ∷ v) in
-    let j : joint (suc n) t ≡ some (a ∷ v) = rw (parent-child a v 1, joint) (rw (so (sameTable t t) (same-table-refl t))) in
-    rw (j, joint)
-
-child-solid : (w : Word) (i : ℕ) → child w i ≡ [] → ⊥
-child-solid [] i e = nil≢cons (sym e)
-child-solid (a ∷ w) i e = nil≢cons (sym e)
-
--- a map that sends the whole block somewhere
-pub normal-whole : (n d : ℕ) (f : BlockMap) (v : Word) → f [] ≡ some v → normal n d f ≡ whole v
-unfolding normal
-normal-whole n zero f v e = rw (e, normal)
-normal-whole n (suc d) f v e = rw (e, normal)
-
-normal-parts : (n d : ℕ) (f : BlockMap) → f [] ≡ none → normal n (suc d) f ≡ joined n (gather (digits n) (λ i. normal n d (below f i)))
-unfolding normal
-normal-parts n d f e = rw (e, normal)
-
-abbrev pub Steady : BlockMap → Type 0
-Steady f = (w v x : Word) → f w ≡ some v → f (w ++ x) ≡ some (v ++ x)
-
 -- where f sends the whole block to v, the normal form of a map that agrees with f is that one pair, however deep the map is defined
 normal-joins : (n e : ℕ) (f g : BlockMap) (v : Word) → 1 ≤ n → Steady f → (v ≡ [] → ⊥) → f [] ≡ some v → Total n e g → Agree n f g → normal n e g ≡ whole v
 normal-joins n zero f g v h st k p tg a =
     let (u, q) = tg .total [] tt refl in
     normal-whole n zero g u q ∙ ap whole (sym (a [] v u tt p q))
 normal-joins n (suc e) f g v h st k p tg a =
-    go (g []) refl (λ i d. normal-joins n e (below f i) (below g i) (child v i) h (λ w u x. st (i ∷ w) u x) (child-solid v i) (st [] v (i ∷ []) p) (total-below n e g tg i d) (agree-below n f g a i d))
+    go (g []) refl (λ i d. normal-joins n e (below f i) (below g i) (child v i) h (λ w u x. st (i ∷ w) u x) (concat-ne-nil i v) (st [] v (i ∷ []) p) (total-below n e g tg i d) (agree-below n f g a i d))
   where
     go : (o : Option Word) → g [] ≡ o → ((i : ℕ) → Digit n i → normal n e (below g i) ≡ whole (child v i)) → normal n (suc e) g ≡ whole v
     go (some u) q deeper = normal-whole n (suc e) g u q ∙ ap whole (sym (a [] v u tt p q))
@@ -112,31 +79,18 @@ normal-unique n (suc d) (suc e) f g h tf tg a =
         ∙ ap (joined n) (gather-path (digits n) (λ i. normal n d (below f i)) (λ i. normal n e (below g i)) (λ i m. deeper i (digit-of-mem n i m)))
         ∙ sym (normal-parts n e g q)
 
--- what joins is the n parts of the block to the n parts of a word
-pub joint-parts : (n : ℕ) (t : Table) (v : Word) → joint n t ≡ some v → t ≡ parts n v
-joint-parts n [] v e = absurd (Option·none-ne-some v e)
-joint-parts n (p ∷ t) v e = go (parent (p .to)) e
-  where
-    test : (u : Word) (b : Bool) → sameTable (p ∷ t) (parts n u) ≡ b → elim b as (λ _. Option Word) [ true ↦ some u | false ↦ none ] ≡ some v → p ∷ t ≡ parts n v
-    test u true h k = same-table (p ∷ t) (parts n u) (T-of h) ∙ ap (parts n) (Option·some-injective _ _ k)
-    test u false h k = absurd (Option·none-ne-some v k)
-
-    go : (o : Option Word) → elim o as (λ _. Option Word) [ none ↦ none | some u ↦ elim (sameTable (p ∷ t) (parts n u)) [ true ↦ some u | false ↦ none ] ] ≡ some v → p ∷ t ≡ parts n v
-    go none k = absurd (Option·none-ne-some v k)
-    go (some u) k = test u (sameTable (p ∷ t) (parts n u)) refl k
-
 -- a join leaves the images as they are
 image-joined : (n : ℕ) (t : Table) (i : ℕ) (x v : Word) → Digit n i → image t (i ∷ x) ≡ some v → image (joined n t) (i ∷ x) ≡ some v
-unfolding joined
-image-joined n t i x v k e = go (joint n t) refl
+image-joined n t i x v k e = go (joined-cases n t)
   where
-    go : (o : Option Word) → joint n t ≡ o → image (elim o as (λ _. Table) [ none ↦ t | some u ↦ whole u ]) (i ∷ x) ≡ some v
-    go none h = e
-    go (some u) h =
-        ap some (sym (child-append u i x))
+    go : JoinCases n t → image (joined n t) (i ∷ x) ≡ some v
+    go (inl (h, q)) = rw q e
+    go (inr (u, b, h, q)) =
+        rw q
+        (ap some (sym (child-append u i x))
         ∙ sym (image-gather 1 n (λ j. whole (child u j)) i x (mem-of-digit n i k))
-        ∙ ap (λ r. image r (i ∷ x)) (sym (joint-parts n t u h))
-        ∙ e
+        ∙ ap (λ r. image r (i ∷ x)) (sym h)
+        ∙ e)
 
 image-normal-whole : (n d : ℕ) (f : BlockMap) (u : Word) → f [] ≡ some u → Steady f → (w v : Word) → f w ≡ some v → image (normal n d f) w ≡ some v
 image-normal-whole n d f u p st w v e = ap (λ t. image t w) (normal-whole n d f u p) ∙ sym (st [] u w p) ∙ e

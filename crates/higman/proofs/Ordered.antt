@@ -1,19 +1,19 @@
 -- The order of a table's from-words: what `before` and `ordered` mean, that ordered words do not begin one another, and that a
--- table is known by its order and its rows. Then the rows of `gather`, and with them that every normal form, of any map at all,
--- is in order and has words of the shape on its left.
+-- table is known by its order and its rows. With it that every normal form, of any map at all, is in order and has words of the
+-- shape on its left.
 use Prim.Native.Nat.{ℕ, zero, suc, _<_}
-use mathlib.Core.Path.{_≡_, refl, sym, _∙_, ap, ap₂, subst}
+use mathlib.Core.Path.{_≡_, refl, sym, _∙_, ap₂, subst}
 use mathlib.Core.Logic.{_⊎_, inl, inr}
 use mathlib.Core.Bool.{true, _&&_}
-use mathlib.Core.List.{List, [], _∷_, _++_, List·Memᴰ, List·Memᴰ·head, List·Memᴰ·tail, List·Memᴰ·cases-cons, List·Memᴰ·not-nil, List·Memᴰ·append-cases, List·Memᴰ·eq-of-singleton, head-eq-of-cons-eq, tail-eq-of-cons-eq, Memᴰ·cast, Memᴰ·append-left, Memᴰ·append-right, Memᴰ·map, Memᴰ·of-map}
-use mathlib.Core.Option.{Option, none, some}
+use mathlib.Core.List.{List, [], _∷_, _++_, List·Memᴰ, List·Memᴰ·head, List·Memᴰ·tail, List·Memᴰ·cases-cons, List·Memᴰ·not-nil, List·Memᴰ·append-cases, List·Memᴰ·eq-of-singleton, Memᴰ·cast, Memᴰ·map, Memᴰ·of-map}
 use native.Mathlib.Omega.{arith}
 use lib.Dec.{T, eqb, ltb, ltb→lt, lt→ltb, eqb→eq, eqb-refl}
 use Rattle.higman.specs.Words.{Shape, Word, count, digits}
 use Rattle.higman.specs.Bases.{all}
 use Rattle.higman.specs.Tables.{Pair, Table, BlockMap, froms}
-use Rattle.higman.specs.Normal.{below, under, gather, whole, joint, joined, normal, normalForm, before, ordered}
-use Rattle.higman.proofs.Tests.{so, T-of, and-left, and-right, and-intro, or-cases, or-true-left, or-true-right, all-at, all-of, count-bounds, digit-of-mem, Ways, IsWord, pair-path}
+use Rattle.higman.specs.Normal.{below, under, gather, whole, normal, normalForm, before, ordered}
+use Rattle.higman.proofs.Tests.{so, T-of, and-left, and-right, and-intro, or-cases, or-true-left, or-true-right, all-at, all-of, count-bounds, digit-of-mem, Ways, IsWord}
+use Rattle.higman.proofs.Blocks.{rowUnder, gathered, normal-holds}
 use Rattle.higman.proofs.Proper.{Apart}
 
 -- at the first digit that differs, the first word has the smaller one
@@ -111,10 +111,6 @@ sorted-apart (w ∷ c) h = (
 pub ordered-apart : (c : List Word) → ordered c ≡ true → Apart c
 ordered-apart c e = sorted-apart c (sorted-of-test c e)
 
--- the words of a table's rows
-pub mem-froms : {p : Pair} {t : Table} → List·Memᴰ p t → List·Memᴰ (p .from) (froms t)
-mem-froms m = Memᴰ·map (λ p. p .from) m
-
 -- a word before the from-word of each row is before all from-words
 pub before-froms : (w : Word) (t : Table) → ((p : Pair) → List·Memᴰ p t → Before w (p .from)) → BeforeAll w (froms t)
 before-froms w t h u m = let r = Memᴰ·of-map (λ p. p .from) t m in subst (λ y. Before w y) (r .2) (h (r .0) (r .1))
@@ -131,14 +127,14 @@ sorted-same (p ∷ t) (q ∷ u) h k f g = ap₂ _∷_ first (sorted-same t u (h 
     meet : (p ≡ q) ⊎ List·Memᴰ p u → (q ≡ p) ⊎ List·Memᴰ q t → p ≡ q
     meet (inl e) o = e
     meet (inr m) (inl e) = sym e
-    meet (inr m) (inr l) = absurd (before-asymmetric (p .from) (q .from) (h .0 (q .from) (mem-froms l)) (k .0 (p .from) (mem-froms m)))
+    meet (inr m) (inr l) = absurd (before-asymmetric (p .from) (q .from) (h .0 (q .from) (Memᴰ·map (λ r. r .from) l)) (k .0 (p .from) (Memᴰ·map (λ r. r .from) m)))
 
     first : p ≡ q
     first = meet (List·Memᴰ·cases-cons (f p (List·Memᴰ·head refl))) (List·Memᴰ·cases-cons (g q (List·Memᴰ·head refl)))
 
     -- no row behind the first is the first again
     behind : (o r : Pair) (v : Table) → BeforeAll (o .from) (froms v) → List·Memᴰ r v → r ≡ o → ⊥
-    behind o r v b m e = let again = b (o .from) (mem-froms (Memᴰ·cast (sym e) m)) in before-asymmetric (o .from) (o .from) again again
+    behind o r v b m e = let again = b (o .from) (Memᴰ·map (λ r. r .from) (Memᴰ·cast (sym e) m)) in before-asymmetric (o .from) (o .from) again again
 
     forth : (r : Pair) → List·Memᴰ r t → List·Memᴰ r u
     forth r m = go (List·Memᴰ·cases-cons (f r (List·Memᴰ·tail m)))
@@ -154,53 +150,6 @@ sorted-same (p ∷ t) (q ∷ u) h k f g = ap₂ _∷_ first (sorted-same t u (h 
         go (inl e) = absurd (behind q r u (k .0) m (e ∙ first))
         go (inr l) = l
 
--- a row of the i-th part, as a row of the block
-abbrev pub rowUnder : ℕ → Pair → Pair
-rowUnder i p = record { from = i ∷ p .from; to = p .to }
-
--- a row of `gather` is a row of one of its tables, under that table's digit
-pub record Gathered (is : List ℕ) (g : ℕ → Table) (p : Pair) : Type 0 where
-  pub digit : ℕ
-  pub part : Pair
-  pub among : List·Memᴰ digit is
-  pub inside : List·Memᴰ part (g digit)
-  pub stands : p ≡ rowUnder digit part
-
-pub gathered : (is : List ℕ) (g : ℕ → Table) (p : Pair) → List·Memᴰ p (gather is g) → Gathered is g p
-gathered [] g p m = absurd (List·Memᴰ·not-nil m)
-gathered (i ∷ is) g p m = go (List·Memᴰ·append-cases (under i (g i)) m) (λ k. gathered is g p k)
-  where
-    go : List·Memᴰ p (under i (g i)) ⊎ List·Memᴰ p (gather is g) → (List·Memᴰ p (gather is g) → Gathered is g p) → Gathered (i ∷ is) g p
-    go (inl k) rest =
-        let r = Memᴰ·of-map (rowUnder i) (g i) k in
-        record { digit = i; part = r .0; among = List·Memᴰ·head refl; inside = r .1; stands = sym (r .2) }
-    go (inr k) rest =
-        let r = rest k in
-        record { digit = r .digit; part = r .part; among = List·Memᴰ·tail (r .among); inside = r .inside; stands = r .stands }
-
-pub mem-gather : (is : List ℕ) (g : ℕ → Table) (i : ℕ) (p : Pair) → List·Memᴰ i is → List·Memᴰ p (g i)
-    → List·Memᴰ (rowUnder i p) (gather is g)
-mem-gather [] g i p m k = absurd (List·Memᴰ·not-nil m)
-mem-gather (j ∷ is) g i p m k = go (List·Memᴰ·cases-cons m) (λ l. mem-gather is g i p l k)
-  where
-    go : (i ≡ j) ⊎ List·Memᴰ i is → (List·Memᴰ i is → List·Memᴰ (rowUnder i p) (gather is g))
-        → List·Memᴰ (rowUnder i p) (under j (g j) ++ gather is g)
-    go (inl e) rest = Memᴰ·append-left (gather is g) (subst (λ x. List·Memᴰ (rowUnder i p) (under x (g x))) e (Memᴰ·map (rowUnder i) k))
-    go (inr l) rest = Memᴰ·append-right (under j (g j)) (rest l)
-
--- the rows under i in `gather` are those of the i-th table
-pub part-of-gather : (is : List ℕ) (g : ℕ → Table) (i : ℕ) (p : Pair) → List·Memᴰ (rowUnder i p) (gather is g) → List·Memᴰ p (g i)
-part-of-gather is g i p m =
-    let r = gathered is g (rowUnder i p) m in
-    let e = ap (λ q. q .from) (r .stands) in
-    Memᴰ·cast
-    (pair-path (tail-eq-of-cons-eq e) (ap (λ q. q .to) (r .stands)))
-    (subst (λ j. List·Memᴰ (r .part) (g j)) (sym (head-eq-of-cons-eq e)) (r .inside))
-
-pub gather-same : (is : List ℕ) (g h : ℕ → Table) → ((i : ℕ) → List·Memᴰ i is → g i ≡ h i) → gather is g ≡ gather is h
-gather-same [] g h e = refl
-gather-same (i ∷ is) g h e = ap₂ (λ t u. under i t ++ u) (e i (List·Memᴰ·head refl)) (gather-same is g h (λ j m. e j (List·Memᴰ·tail m)))
-
 sorted-append : (t u : Table) → Sorted (froms t) → Sorted (froms u)
     → ((p q : Pair) → List·Memᴰ p t → List·Memᴰ q u → Before (p .from) (q .from)) → Sorted (froms (t ++ u))
 sorted-append [] u h k f = k
@@ -208,7 +157,7 @@ sorted-append (p ∷ t) u h k f =
     (before-froms (p .from) (t ++ u) (λ q m. go q (List·Memᴰ·append-cases t m)), sorted-append t u (h .1) k (λ q r m l. f q r (List·Memᴰ·tail m) l))
   where
     go : (q : Pair) → List·Memᴰ q t ⊎ List·Memᴰ q u → Before (p .from) (q .from)
-    go q (inl m) = h .0 (q .from) (mem-froms m)
+    go q (inl m) = h .0 (q .from) (Memᴰ·map (λ r. r .from) m)
     go q (inr m) = f p q (List·Memᴰ·head refl) m
 
 sorted-under : (i : ℕ) (t : Table) → Sorted (froms t) → Sorted (froms (under i t))
@@ -219,7 +168,7 @@ sorted-under i (p ∷ t) h = (
       (under i t)
       (λ q m.
       let r = Memᴰ·of-map (rowUnder i) t m in
-      subst (λ x. Before (i ∷ p .from) (x .from)) (r .2) (inr (refl, h .0 (r .0 .from) (mem-froms (r .1))))),
+      subst (λ x. Before (i ∷ p .from) (x .from)) (r .2) (inr (refl, h .0 (r .0 .from) (Memᴰ·map (λ r. r .from) (r .1))))),
   sorted-under i t (h .1),
 )
 
@@ -236,58 +185,12 @@ sorted-gather a (suc m) g h =
         let b = count-bounds (suc a) m (s .digit) (s .among) in
         subst (λ x. Before (x .from) (q .from)) (r .2) (subst (λ x. Before (a ∷ r .0 .from) (x .from)) (sym (s .stands)) (inl (b .0)))
 
--- a join leaves the table alone, or puts one row for the whole block
-abbrev pub JoinCases : ℕ → Table → Type 0
-JoinCases n t = ((joint n t ≡ none) × (joined n t ≡ t)) ⊎ ((v : Word) × (joint n t ≡ some v) × (joined n t ≡ whole v))
+normal-sorted : (n d : ℕ) (f : BlockMap) → Sorted (froms (normal n d f))
+normal-sorted n =
+    normal-holds n (λ f t. Sorted (froms t)) (λ f. tt) (λ f v e. (λ u m. absurd (List·Memᴰ·not-nil m), tt)) (λ f g h e. sorted-gather 1 n g h)
 
-pub joined-cases : (n : ℕ) (t : Table) → JoinCases n t
-unfolding joined
-joined-cases n t = go (joint n t) refl
-  where
-    put : Option Word → Table
-    put o = elim o [ none ↦ t | some v ↦ whole v ]
-
-    go : (o : Option Word) → joint n t ≡ o → JoinCases n t
-    go none e = inl (e, ap put e)
-    go (some v) e = inr (v, e, ap put e)
-
--- What holds of the empty table and of one row for the block, and passes from the parts to the joined block, holds of `normal`.
-pub normal-holds : (n : ℕ) (Q : Table → Type 0) → Q [] → ((v : Word) → Q (whole v))
-    → ((g : ℕ → Table) → ((i : ℕ) → Q (g i)) → Q (joined n (gather (digits n) g)))
-    → (d : ℕ) (f : BlockMap) → Q (normal n d f)
-unfolding normal
-normal-holds n Q empty one step zero f = go (f [])
-  where
-    go : (o : Option Word) → Q (elim o as (λ _. Table) [ none ↦ [] | some v ↦ whole v ])
-    go none = empty
-    go (some v) = one v
-normal-holds n Q empty one step (suc d) f = go (f []) (step (λ i. normal n d (below f i)) (λ i. normal-holds n Q empty one step d (below f i)))
-  where
-    t : Table
-    t = joined n (gather (digits n) (λ i. normal n d (below f i)))
-
-    go : (o : Option Word) → Q t → Q (elim o as (λ _. Table) [ none ↦ t | some v ↦ whole v ])
-    go none h = h
-    go (some v) h = one v
-
--- the same where the joining does no harm
-pub gathers-hold : (n : ℕ) (Q : Table → Type 0) → Q [] → ((v : Word) → Q (whole v))
-    → ((g : ℕ → Table) → ((i : ℕ) → Q (g i)) → Q (gather (digits n) g))
-    → (d : ℕ) (f : BlockMap) → Q (normal n d f)
-gathers-hold n Q empty one step = normal-holds n Q empty one (λ g h. go (gather (digits n) g) (step g h) (joined-cases n (gather (digits n) g)))
-  where
-    go : (t : Table) → Q t → JoinCases n t → Q (joined n t)
-    go t q (inl (e, k)) = subst Q (sym k) q
-    go t q (inr (v, e, k)) = subst Q (sym k) (one v)
-
-pub normal-sorted : (n d : ℕ) (f : BlockMap) → Sorted (froms (normal n d f))
-normal-sorted n = gathers-hold n (λ t. Sorted (froms t)) tt one (λ g h. sorted-gather 1 n g h)
-  where
-    one : (v : Word) → Sorted (froms (whole v))
-    one v = (λ u m. absurd (List·Memᴰ·not-nil m), tt)
-
-pub normal-ways : (n d : ℕ) (f : BlockMap) (p : Pair) → List·Memᴰ p (normal n d f) → Ways n (p .from)
-normal-ways n = gathers-hold n AllWays (λ p m. absurd (List·Memᴰ·not-nil m)) one parts
+normal-ways : (n d : ℕ) (f : BlockMap) (p : Pair) → List·Memᴰ p (normal n d f) → Ways n (p .from)
+normal-ways n = normal-holds n (λ f t. AllWays t) (λ f p m. absurd (List·Memᴰ·not-nil m)) (λ f v e. one v) (λ f g h e. parts g h)
   where
     AllWays : Table → Type 0
     AllWays t = (p : Pair) → List·Memᴰ p t → Ways n (p .from)

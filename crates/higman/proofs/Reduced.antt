@@ -2,11 +2,11 @@
 -- form. Both go block by block: a join below a block lies in one of its parts, or is the join of the block itself, and a table in
 -- order is what its parts are gathered to.
 use Prim.Native.Nat.{ℕ, zero, suc, _≤_}
-use mathlib.Core.Path.{_≡_, refl, sym, _∙_, ap, ap₂, subst, fun-ext}
+use mathlib.Core.Path.{_≡_, refl, sym, _∙_, ap, ap₂, subst, subst₂, fun-ext}
 use mathlib.Core.Logic.{_⊎_, inl, inr}
 use mathlib.Core.Bool.{Bool, true, false}
-use mathlib.Core.List.{[], _∷_, _++_, nil≢cons, append-nil, head-eq-of-cons-eq, tail-eq-of-cons-eq, List·Memᴰ, List·Memᴰ·head, List·Memᴰ·tail, List·Memᴰ·cases-cons, List·Memᴰ·not-nil, List·Memᴰ·eq-of-singleton, Memᴰ·cast, Memᴰ·of-map}
-use mathlib.Core.Option.{Option, none, some, Option·none-ne-some, Option·some-injective}
+use mathlib.Core.List.{[], _∷_, _++_, nil≢cons, append-nil, head-eq-of-cons-eq, tail-eq-of-cons-eq, List·Memᴰ, List·Memᴰ·head, List·Memᴰ·tail, List·Memᴰ·cases-cons, List·Memᴰ·not-nil, List·Memᴰ·eq-of-singleton, concat-ne-nil, Memᴰ·cast, Memᴰ·map, Memᴰ·of-map}
+use mathlib.Core.Option.{Option, none, some, Option·none-ne-some}
 use native.Mathlib.Omega.{arith}
 use native.Mathlib.Nat.{le-refl}
 use lib.Dec.{eqb}
@@ -14,56 +14,13 @@ use lib.ListN.{length}
 use borrow.Author.Tests.{eqb-true, eq-eqb}
 use Rattle.higman.specs.Words.{Shape, Word, digits, after, child}
 use Rattle.higman.specs.Bases.{longest}
-use Rattle.higman.specs.Tables.{Pair, Table, BlockMap, image, froms, sameTable}
-use Rattle.higman.specs.Normal.{below, gather, whole, parts, parent, joint, joined, normal, normalForm, keep, Joinable, Reduced, ordered}
-use Rattle.higman.proofs.Tests.{so, T-of, clash, Digit, Ways, IsWord, digit-of-mem, mem-of-digit, pair-path, same-table, same-table-refl}
+use Rattle.higman.specs.Tables.{Pair, Table, BlockMap, image, froms}
+use Rattle.higman.specs.Normal.{below, gather, whole, parts, joint, joined, normal, normalForm, keep, Joinable, Reduced, ordered}
+use Rattle.higman.proofs.Tests.{clash, Digit, Ways, IsWord, digit-of-mem, mem-of-digit, pair-path}
 use Rattle.higman.proofs.Prefixes.{after-some}
+use Rattle.higman.proofs.Blocks.{rowUnder, gathered, mem-gather, part-of-gather, gather-path, joint-of-parts, JoinCases, joined-cases, normal-whole, normal-parts, normal-holds}
 use Rattle.higman.proofs.Proper.{Deep, Proper}
-use Rattle.higman.proofs.Ordered.{Before, BeforeAll, Sorted, sorted-of-test, mem-froms, before-froms, sorted-same, rowUnder, gathered, mem-gather, part-of-gather, gather-same, sorted-gather, JoinCases, joined-cases, normal-holds}
-
-parent-of-child : (b : ℕ) (v : Word) (i : ℕ) → parent (child (b ∷ v) i) ≡ some (b ∷ v)
-parent-of-child b [] i = refl
-parent-of-child b (c ∷ v) i =
-    ap (λ o. elim o as (λ _. Option Word) [ none ↦ some (b ∷ []) | some u ↦ some (b ∷ u) ]) (parent-of-child c v i)
-
--- a parent is a word of at least a belt
-parent-not-empty : (w v : Word) → parent w ≡ some v → (b : ℕ) × (u : Word) × (v ≡ b ∷ u)
-parent-not-empty [] v e = absurd (Option·none-ne-some v e)
-parent-not-empty (a ∷ []) v e = absurd (Option·none-ne-some v e)
-parent-not-empty (a ∷ b ∷ w) v e = go (parent (b ∷ w)) e
-  where
-    go : (o : Option Word) → elim o as (λ _. Option Word) [ none ↦ some (a ∷ []) | some u ↦ some (a ∷ u) ] ≡ some v
-        → (b : ℕ) × (u : Word) × (v ≡ b ∷ u)
-    go none k = (a, [], sym (Option·some-injective _ _ k))
-    go (some u) k = (a, u, sym (Option·some-injective _ _ k))
-
--- the parts of a block join
-joint-of-parts : (n b : ℕ) (v : Word) → 1 ≤ n → joint n (parts n (b ∷ v)) ≡ some (b ∷ v)
-joint-of-parts zero b v h = absurd (omega arith)
-joint-of-parts (suc m) b v h = rw (parent-of-child b v 1, joint) (rw (so (sameTable t t) (same-table-refl t)) refl)
-  where
-    t : Table
-    t = parts (suc m) (b ∷ v)
-
--- and what joins are the parts of a block
-joint-parts : (n : ℕ) (t : Table) (v : Word) → joint n t ≡ some v → (t ≡ parts n v) × (b : ℕ) × (u : Word) × (v ≡ b ∷ u)
-joint-parts n [] v e = absurd (Option·none-ne-some v e)
-joint-parts n (p ∷ t) v e = go (parent (p .to)) refl e
-  where
-    test : (x : Word) (c : Bool) → sameTable (p ∷ t) (parts n x) ≡ c
-        → elim c as (λ _. Option Word) [ true ↦ some x | false ↦ none ] ≡ some v
-        → (x ≡ v) × (p ∷ t ≡ parts n x)
-    test x true h k = (Option·some-injective _ _ k, same-table (p ∷ t) (parts n x) (T-of h))
-    test x false h k = absurd (Option·none-ne-some v k)
-
-    go : (o : Option Word) → parent (p .to) ≡ o
-        → elim o as (λ _. Option Word) [ none ↦ none | some x ↦ elim (sameTable (p ∷ t) (parts n x)) as (λ _. Option Word) [ true ↦ some x | false ↦ none ] ] ≡ some v
-        → (p ∷ t ≡ parts n v) × (b : ℕ) × (u : Word) × (v ≡ b ∷ u)
-    go none h k = absurd (Option·none-ne-some v k)
-    go (some x) h k =
-        let r = test x (sameTable (p ∷ t) (parts n x)) refl k in
-        let q = parent-not-empty (p .to) v (h ∙ ap some (r .0)) in
-        (r .1 ∙ ap (parts n) (r .0), q .0, q .1, q .2)
+use Rattle.higman.proofs.Ordered.{Before, BeforeAll, Sorted, sorted-of-test, before-froms, sorted-same, sorted-gather}
 
 -- no join is possible below the block, nor of the block itself
 abbrev NoJoin : ℕ → Table → Type 0
@@ -76,13 +33,9 @@ WholeAlone t = (v : Word) → List·Memᴰ (record { from = []; to = v }) t → 
 first-digit-listed : (n : ℕ) → 1 ≤ n → List·Memᴰ 1 (digits n)
 first-digit-listed n h = mem-of-digit n 1 (le-refl 1, h)
 
-child-not-empty : (w : Word) (i : ℕ) → [] ≡ child w i → ⊥
-child-not-empty [] i e = nil≢cons e
-child-not-empty (a ∷ w) i e = nil≢cons e
-
 module _ (n : ℕ) (h : 1 ≤ n) where
   whole-no-join : (v : Word) → NoJoin n (whole v)
-  whole-no-join v w b u j = child-not-empty w 1 (sym (ap (λ p. p .from) (List·Memᴰ·eq-of-singleton (j 1 (first-digit-listed n h)))))
+  whole-no-join v w b u j = concat-ne-nil 1 w (ap (λ p. p .from) (List·Memᴰ·eq-of-singleton (j 1 (first-digit-listed n h))))
 
   whole-alone : (v : Word) → WholeAlone (whole v)
   whole-alone v u m = ap whole (sym (ap (λ p. p .to) (List·Memᴰ·eq-of-singleton m)))
@@ -96,24 +49,15 @@ module _ (n : ℕ) (h : 1 ≤ n) where
   gather-no-join g k e [] b v j = Option·none-ne-some (b ∷ v) (sym e ∙ ap (joint n) all-parts ∙ joint-of-parts n b v h)
     where
       all-parts : gather (digits n) g ≡ parts n (b ∷ v)
-      all-parts = gather-same (digits n) g (λ i. whole (child (b ∷ v) i)) (λ i m. k i .1 (child (b ∷ v) i) (part-of-gather (digits n) g i _ (j i m)))
+      all-parts = gather-path (digits n) g (λ i. whole (child (b ∷ v) i)) (λ i m. k i .1 (child (b ∷ v) i) (part-of-gather (digits n) g i _ (j i m)))
   gather-no-join g k e (a ∷ w) b v j = k a .0 w b v (λ i m. part-of-gather (digits n) g a _ (j i m))
 
   normal-no-join : (d : ℕ) (f : BlockMap) → NoJoin n (normal n d f) × WholeAlone (normal n d f)
   normal-no-join =
-      normal-holds
-      n
-      Q
-      (λ w b v j. List·Memᴰ·not-nil (j 1 (first-digit-listed n h)), λ v m. absurd (List·Memᴰ·not-nil m))
-      (λ v. (whole-no-join v, whole-alone v))
-      (λ g k. go g k (joined-cases n (gather (digits n) g)))
-    where
-      Q : Table → Type 0
-      Q t = NoJoin n t × WholeAlone t
-
-      go : (g : ℕ → Table) → ((i : ℕ) → Q (g i)) → JoinCases n (gather (digits n) g) → Q (joined n (gather (digits n) g))
-      go g k (inl (e, q)) = subst Q (sym q) (gather-no-join g k e, gather-alone g)
-      go g k (inr (v, e, q)) = subst Q (sym q) (whole-no-join v, whole-alone v)
+      normal-holds n (λ f t. NoJoin n t × WholeAlone t)
+      (λ f. (λ w b v j. List·Memᴰ·not-nil (j 1 (first-digit-listed n h)), λ v m. absurd (List·Memᴰ·not-nil m)))
+      (λ f v e. (whole-no-join v, whole-alone v))
+      (λ f g k e. (gather-no-join g k e, gather-alone g))
 
 -- no join is possible in a normal form
 pub normal-form-reduced : (s : Shape) (d : ℕ) (f : BlockMap) → 1 ≤ s .arity → Reduced (s .arity) (normalForm s d f)
@@ -176,7 +120,7 @@ sorted-in-part i (p ∷ t) h = go (after (i ∷ []) (p .from)) refl (sorted-in-p
           u
           (inPart i t)
           (λ q m.
-          let b = h .0 (i ∷ q .from) (mem-froms (mem-of-in-part i t q m)) in
+          let b = h .0 (i ∷ q .from) (Memᴰ·map (λ r. r .from) (mem-of-in-part i t q m)) in
           tails-before u (q .from) (subst (λ x. Before x (i ∷ q .from)) (after-some (i ∷ []) (p .from) u e) b)),
       k,
     )
@@ -245,34 +189,21 @@ image-of-block : (n : ℕ) (t : Table) → Headed n t → image t [] ≡ none
 image-of-block n [] h = refl
 image-of-block n (p ∷ t) h = let r = h p (List·Memᴰ·head refl) in rw (r .3, image, after) (image-of-block n t (headed-tail h))
 
-normal-of-whole : (n d : ℕ) (v : Word) → normal n d (image (whole v)) ≡ whole v
-unfolding normal
-normal-of-whole n zero v = ap whole (append-nil v)
-normal-of-whole n (suc d) v = ap whole (append-nil v)
-
 joined-no-join : (n : ℕ) (t : Table) → NoJoin n t → joined n t ≡ t
 joined-no-join n t h = go (joined-cases n t)
   where
+    rows : (v : Word) → Joinable n (parts n v) [] v
+    rows v i m = mem-gather (digits n) (λ c. whole (child v c)) i (record { from = []; to = child v i }) m (List·Memᴰ·head refl)
+
     go : JoinCases n t → joined n t ≡ t
     go (inl (e, k)) = k
-    go (inr (v, e, k)) =
-        absurd (h [] (r .1) (r .2) (λ i m. subst (λ u. List·Memᴰ (record { from = i ∷ []; to = child u i }) t) (r .3) (here i m)))
-      where
-        r : (t ≡ parts n v) × (b : ℕ) × (u : Word) × (v ≡ b ∷ u)
-        r = joint-parts n t v e
-
-        here : (i : ℕ) → List·Memᴰ i (digits n) → List·Memᴰ (record { from = i ∷ []; to = child v i }) t
-        here i m =
-            subst
-            (λ u. List·Memᴰ (record { from = i ∷ []; to = child v i }) u)
-            (sym (r .0))
-            (mem-gather (digits n) (λ c. whole (child v c)) i (record { from = []; to = child v i }) m (List·Memᴰ·head refl))
+    go (inr (v, (b, u, q), e, k)) = absurd (h [] b u (subst₂ (λ x y. Joinable n x [] y) (sym e) q (rows v)))
 
 -- if each part of a table is its own normal form, so is what they are gathered to
 parts-own : (n m d : ℕ) (t : Table) → Headed m t → Sorted (froms t) → ((i : ℕ) → Digit m i → normal n d (image (inPart i t)) ≡ inPart i t)
     → gather (digits m) (λ i. normal n d (below (image t) i)) ≡ t
 parts-own n m d t h k own =
-    gather-same
+    gather-path
     (digits m)
     (λ i. normal n d (below (image t) i))
     (λ i. inPart i t)
@@ -308,7 +239,7 @@ block-or-parts n (p ∷ t) h k = go (p .from) refl
 
     not-empty : (a : ℕ) (u : Word) → p .from ≡ a ∷ u → (q : Pair) → (q ≡ p) ⊎ List·Memᴰ q t → q .from ≡ [] → ⊥
     not-empty a u e q (inl f) z = nil≢cons (sym z ∙ ap (λ r. r .from) f ∙ e)
-    not-empty a u e q (inr m) z = subst (λ w. Before (a ∷ u) w) z (subst (λ w. Before w (q .from)) e (h .0 (q .from) (mem-froms m)))
+    not-empty a u e q (inr m) z = subst (λ w. Before (a ∷ u) w) z (subst (λ w. Before w (q .from)) e (h .0 (q .from) (Memᴰ·map (λ r. r .from) m)))
 
     go : (w : Word) → p .from ≡ w → ((v : Word) × (p ∷ t ≡ whole v)) ⊎ Headed n (p ∷ t)
     go [] e = inl (p .to, ap₂ _∷_ (pair-path e refl) (alone t (subst (λ w. BeforeAll w (froms t)) e (h .0))))
@@ -330,23 +261,22 @@ settled-in-part n d t c h i l =
       no-join = λ w b v j. c .no-join (i ∷ w) b v (λ e m. mem-of-in-part i t _ (j e m));
     }
 
+normal-of-whole : (n d : ℕ) (t : Table) (v : Word) → t ≡ whole v → normal n d (image t) ≡ t
+normal-of-whole n d t v e = normal-whole n d (image t) v (ap (λ u. image u []) e ∙ ap some (append-nil v)) ∙ sym e
+
 normal-own : (n d : ℕ) (t : Table) → Settled n d t → normal n d (image t) ≡ t
-unfolding normal
 normal-own n zero t c = go (block-or-parts n t (c .sorted) (c .ways))
   where
     go : ((v : Word) × (t ≡ whole v)) ⊎ Headed n t → normal n zero (image t) ≡ t
-    go (inl (v, e)) = subst (λ u. normal n zero (image u) ≡ u) (sym e) (normal-of-whole n zero v)
+    go (inl (v, e)) = normal-of-whole n zero t v e
     go (inr h) = let r = c .covers [] tt refl in absurd (nil≢cons (r .3 ∙ ap (λ w. w ++ r .1) (h (r .0) (r .2) .3)))
 normal-own n (suc d) t c = go (block-or-parts n t (c .sorted) (c .ways)) (λ i k. normal-own n d (inPart i t) k)
   where
-    block : Option Word → Table
-    block o = elim o [ none ↦ joined n (gather (digits n) (λ i. normal n d (below (image t) i))) | some v ↦ whole v ]
-
     go : ((v : Word) × (t ≡ whole v)) ⊎ Headed n t → ((i : ℕ) → Settled n d (inPart i t) → normal n d (image (inPart i t)) ≡ inPart i t)
         → normal n (suc d) (image t) ≡ t
-    go (inl (v, e)) rest = subst (λ u. normal n (suc d) (image u) ≡ u) (sym e) (normal-of-whole n (suc d) v)
+    go (inl (v, e)) rest = normal-of-whole n (suc d) t v e
     go (inr h) rest =
-        ap block (image-of-block n t h)
+        normal-parts n d (image t) (image-of-block n t h)
         ∙ ap (joined n) (parts-own n n d t h (c .sorted) (λ i l. rest i (settled-in-part n d t c h i l)))
         ∙ joined-no-join n t (c .no-join)
 
@@ -365,7 +295,7 @@ keep-of-reduced s t h p c r o =
     starts (i ∷ u) k = (i, u, k .0, refl)
 
     heads : Headed (s .roots) t
-    heads q m = starts (q .from) (p .words (q .from) (mem-froms m))
+    heads q m = starts (q .from) (p .words (q .from) (Memᴰ·map (λ r. r .from) m))
 
     covers : (a : ℕ) → Digit (s .roots) a → Covers (s .arity) (longest (froms t)) (inPart a t)
     covers a l x k e =
@@ -377,7 +307,7 @@ keep-of-reduced s t h p c r o =
     settled a l =
         record {
           sorted = sorted-in-part a t sorted;
-          ways = λ q m. p .words (a ∷ q .from) (mem-froms (mem-of-in-part a t q m)) .1;
+          ways = λ q m. p .words (a ∷ q .from) (Memᴰ·map (λ r. r .from) (mem-of-in-part a t q m)) .1;
           covers = covers a l;
           no-join = λ w b v j. r a b w v (λ i m. mem-of-in-part a t _ (j i m));
         }

@@ -1,23 +1,22 @@
 -- No table with the same action is smaller than the normal form: each of its pairs is extended by a pair of the table, and different
 -- ones by different ones. So what keeps the limits still does when it is reduced.
-use Prim.Native.Nat.{ℕ, zero, suc, _+_, _≤_, _<_, zero-le, suc-le-suc}
-use mathlib.Core.Path.{_≡_, refl, sym, _∙_, ap, ap₂, subst}
+use Prim.Native.Nat.{ℕ, suc, _≤_, _<_, zero-le, suc-le-suc}
+use mathlib.Core.Path.{_≡_, refl, sym, _∙_, ap, subst}
 use mathlib.Core.Logic.{_⊎_, inl, inr}
-use mathlib.Core.Bool.{Bool, true, false, _&&_}
-use mathlib.Core.List.{List, [], _∷_, _++_, map, append-nil, append-assoc, append-cancel-right, List·Memᴰ, List·Memᴰ·head, List·Memᴰ·tail, List·Memᴰ·cases-cons, Memᴰ·map, Memᴰ·of-map, List·Permᴰ}
-use mathlib.Core.Option.{Option, none, some, Option·some-injective}
+use mathlib.Core.List.{List, [], _∷_, _++_, append-nil, append-assoc, append-cancel-right, List·Memᴰ, List·Memᴰ·head, List·Memᴰ·tail, List·Memᴰ·cases-cons, Memᴰ·map, Memᴰ·of-map, List·Permᴰ}
+use mathlib.Core.Option.{some, Option·some-injective}
 use native.Mathlib.Nat.{le-trans}
 use native.Mathlib.Omega.{arith}
 use lib.Dec.{T, leb, leb→le, le→leb}
 use lib.ListN.{length, length-append, length-map}
 use Rattle.higman.specs.Words.{Shape, Word}
 use Rattle.higman.specs.Bases.{all, longest}
-use Rattle.higman.specs.Tables.{Pair, Table, froms, tos, image}
+use Rattle.higman.specs.Tables.{Pair, Table, froms, image}
 use Rattle.higman.specs.Normal.{keep}
 use Rattle.higman.specs.Limits.{maxPairs, maxDigits, fits, pairFits, granted}
 use Rattle.higman.proofs.Tests.{IsWord, and-left, and-right, and-intro, all-at, all-of}
 use Rattle.higman.proofs.Prefixes.{comparable, word-append, ones, ones-ways, ones-length}
-use Rattle.higman.proofs.Proper.{Apart, Proper}
+use Rattle.higman.proofs.Proper.{Apart}
 use Rattle.higman.proofs.Images.{row-of-image, image-of-row}
 use Rattle.higman.proofs.Expansions.{mem-of-perm, length-of-perm, perm-of-mem, same-of-apart}
 use Rattle.higman.proofs.Actions.{Action}

@@ -1,8 +1,8 @@
 -- The statements of specs/Theorems.antt on the normal form, the group's actions and the answers, each as one term.
-use Prim.Native.Nat.{ℕ, zero, suc, _+_, _≤_, _<_}
+use Prim.Native.Nat.{ℕ, _≤_}
 use mathlib.Core.Path.{_≡_, refl, sym, _∙_, ap, subst}
-use mathlib.Core.Logic.{_⊎_, inl, inr, _↔_}
-use mathlib.Core.Bool.{Bool, true, false, _&&_}
+use mathlib.Core.Logic.{inl, inr, _↔_}
+use mathlib.Core.Bool.{Bool, true, false}
 use mathlib.Core.List.{List, [], _∷_, _++_, append-nil, append-assoc, List·Memᴰ, Memᴰ·map, Memᴰ·of-map}
 use mathlib.Core.Option.{Option, none, some, Option·none-ne-some}
 use native.Mathlib.Omega.{arith}
@@ -13,15 +13,14 @@ use Rattle.higman.specs.Bases.{Basis, Column, all, overlap, gap}
 use Rattle.higman.specs.Tables.{Pair, Table, froms, tos, image, sameTable}
 use Rattle.higman.specs.Normal.{keep, compose, inverse, Reduced, ordered}
 use Rattle.higman.specs.Limits.{Plan, Bases, Kept, shapeInRange, granted, isCode, maxCode}
-use Rattle.higman.specs.Answers.{Reason, Overlap, Gap, Verdict, Accepted, InFrom, InTo, fault, verdict, same, Alike, NotCompared, Comparison, ShapesDiffer, sameShape, Route, Image, TooShort, NotRouted, BadCode, routed}
+use Rattle.higman.specs.Answers.{Reason, Overlap, Gap, Verdict, Accepted, InFrom, InTo, fault, verdict, same, Alike, NotCompared, Comparison, sameShape, Route, Image, TooShort, NotRouted, routed}
 use Rattle.higman.specs.Theorems.{NormalForm, GroupActs, AnswersExact, ActAlike}
-use Rattle.higman.proofs.Tests.{so, T-of, clash, and-left, IsWord, word-of-test, same-table, same-table-refl}
+use Rattle.higman.proofs.Tests.{so, T-of, and-left, IsWord, word-of-test, same-table, same-table-refl}
 use Rattle.higman.proofs.Proper.{Proper}
 use Rattle.higman.proofs.Images.{row-of-image, image-of-row}
 use Rattle.higman.proofs.Expansions.{same-of-apart}
 use Rattle.higman.proofs.Columns.{Comparable, comparable-of-proper, column-is-basis}
-use Rattle.higman.proofs.Elements.{Element}
-use Rattle.higman.proofs.Group.{Member, keep-acts, keep-member, compose-acts, compose-member, inverse-acts, inverse-member}
+use Rattle.higman.proofs.Group.{keep-acts, keep-member, compose-acts, compose-member, inverse-acts, inverse-member}
 use Rattle.higman.proofs.Smallest.{keep-granted}
 use Rattle.higman.proofs.KeptPlans.{element-of-bases, bases-of-element, keep-reduced, keep-ordered, own-of-reduced, arity-of-range, member-of-kept, kept-of-member}
 use Rattle.higman.proofs.Joins.{any-joins}

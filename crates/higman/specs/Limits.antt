@@ -3,10 +3,10 @@
 use Prim.Native.Nat.{ℕ}
 use mathlib.Core.Path.{_≡_, refl}
 use mathlib.Core.Bool.{Bool, true, false, _&&_}
-use mathlib.Core.List.{List, [], _∷_, map}
+use mathlib.Core.List.{[], _∷_, map}
 use lib.Dec.{T, leb}
 use lib.ListN.{length}
-use Rattle.higman.specs.Words.{Shape, Word, isWord, spell}
+use Rattle.higman.specs.Words.{Shape, Word, isWord}
 use Rattle.higman.specs.Bases.{Basis, all}
 use Rattle.higman.specs.Tables.{Pair, Table, froms, tos, ψ}
 use Rattle.higman.specs.Normal.{Reduced, ordered}

@@ -2,14 +2,14 @@
 -- section 4 to Lemma 4.3). No limit appears here: the numbers of pairs and digits are free. Read Limits.antt next.
 use Prim.Native.Nat.{ℕ, zero, suc, _+_}
 use mathlib.Core.Path.{_≡_, refl}
-use mathlib.Core.Bool.{Bool, true, false, _&&_, _||_, not}
+use mathlib.Core.Bool.{Bool, true, false, _&&_, _||_}
 use mathlib.Core.List.{List, [], _∷_, _++_, map, List·Permᴰ, List·Memᴰ}
 use mathlib.Core.Option.{Option, none, some}
-use lib.Dec.{T, eqb, ltb}
+use lib.Dec.{eqb, ltb}
 use lib.IntN.{ℤ, pos, negsuc}
 use Rattle.higman.specs.Words.{Shape, Word, digits, child, spell}
 use Rattle.higman.specs.Bases.{all, longest}
-use Rattle.higman.specs.Tables.{Pair, Table, BlockMap, image, froms, swapped, sameTable, row, φ, ψ}
+use Rattle.higman.specs.Tables.{Table, BlockMap, image, froms, swapped, sameTable, row, φ, ψ}
 
 -- the map as it is seen from the i-th part of the block
 abbrev pub below : BlockMap → ℕ → BlockMap
