@@ -64,7 +64,7 @@ gather-path (i ∷ is) g h e =
 abbrev pub Belted : Word → Type 0
 Belted v = (b : ℕ) × (u : Word) × (v ≡ b ∷ u)
 
-parent-child : (b : ℕ) (v : Word) (i : ℕ) → parent (child (b ∷ v) i) ≡ some (b ∷ v)
+pub parent-child : (b : ℕ) (v : Word) (i : ℕ) → parent (child (b ∷ v) i) ≡ some (b ∷ v)
 parent-child b [] i = refl
 parent-child b (c ∷ v) i = rw (parent-child c v i, parent)
 

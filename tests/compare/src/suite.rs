@@ -1,0 +1,324 @@
+//! The whole comparison: every case and every session is run on the desk
+//! program, whole and in odd pieces, and judged. Faults are told with the
+//! record that caused them and made small; at the end stand the tally of the
+//! replies and the numbers of what passed and what failed.
+
+use crate::arguments::Arguments;
+use crate::judge::{expected, judge, lines, Step};
+use crate::program::{Feeding, Program, Trouble};
+use crate::report::{block, manner, Fault};
+use crate::shrink::{shortest_prefix, shrink, Effort};
+use sessions::{tally, Tally};
+use std::collections::BTreeMap;
+use std::fs;
+use std::io::{self, Write};
+use std::path::{Path, PathBuf};
+use std::time::Duration;
+
+/// Inputs up to this length are also fed byte by byte.
+const SHORT: usize = 400;
+/// From so many seeds on, a reply that never came up is a failure.
+const FULL_RANGE: u64 = 200;
+/// The runs that may hang before the rest is left out.
+const PATIENCE: usize = 5;
+/// The most runs and the most time that making one fault small may take.
+const TRIALS: usize = 400;
+const TRIAL_TIME: Duration = Duration::from_secs(30);
+
+/// A comparison in progress.
+pub struct Suite<'a> {
+    arguments: &'a Arguments,
+    program: Program,
+    out: &'a mut dyn Write,
+    passed: usize,
+    failed: usize,
+    hung: usize,
+    /// The replies to the records of each letter, over all sessions.
+    replies: BTreeMap<char, Tally>,
+}
+
+/// Runs everything and writes the report; true if nothing failed.
+pub fn run(arguments: &Arguments, out: &mut dyn Write) -> io::Result<bool> {
+    let program = Program {
+        command: arguments.command.clone(),
+        timeout: arguments.timeout,
+    };
+    let mut suite = Suite {
+        arguments,
+        program,
+        out,
+        passed: 0,
+        failed: 0,
+        hung: 0,
+        replies: BTreeMap::new(),
+    };
+    suite.everything()?;
+    suite.statistics()?;
+    let (passed, failed) = (suite.passed, suite.failed);
+    writeln!(suite.out, "{passed} passed, {failed} failed")?;
+    Ok(failed == 0)
+}
+
+/// The inputs of a directory of cases, in the order of their names.
+fn case_inputs(directory: &Path) -> io::Result<Vec<PathBuf>> {
+    let mut inputs = Vec::new();
+    for entry in fs::read_dir(directory)? {
+        let path = entry?.path();
+        if path.extension().is_some_and(|extension| extension == "in") {
+            inputs.push(path);
+        }
+    }
+    inputs.sort();
+    Ok(inputs)
+}
+
+/// What is wrong with a run of the program on an input, if anything.
+fn find_fault(program: &Program, steps: &[Step], feeding: Feeding) -> Option<Fault> {
+    let input: Vec<u8> = steps
+        .iter()
+        .flat_map(|step| step.record.iter().copied())
+        .collect();
+    let run = program.run(&input, feeding);
+    let difference = judge(steps, &run.output);
+    if run.trouble.is_none() && difference.is_none() {
+        return None;
+    }
+    Some(Fault {
+        trouble: run.trouble,
+        difference,
+    })
+}
+
+/// What the tally of a range of seeds comes to: the replies that never came
+/// up, if any, and whether that is a failure.
+fn verdict(all: &Tally, seeds: u64) -> Option<(bool, String)> {
+    let missing = all.missing();
+    if missing.is_empty() {
+        return None;
+    }
+    Some((seeds >= FULL_RANGE, missing.join(", ")))
+}
+
+impl Suite<'_> {
+    /// All cases and all sessions, unless the program hangs too often.
+    fn everything(&mut self) -> io::Result<()> {
+        if let Some(directory) = &self.arguments.cases {
+            self.cases(directory)?;
+        }
+        for seed in self.arguments.seeds.clone() {
+            if self.hung < PATIENCE {
+                self.seed(seed)?;
+            }
+        }
+        if self.hung >= PATIENCE {
+            self.failed += 1;
+            writeln!(
+                self.out,
+                "FAILED: the program hung {PATIENCE} times, the rest is left out"
+            )?;
+        }
+        Ok(())
+    }
+
+    fn cases(&mut self, directory: &Path) -> io::Result<()> {
+        let inputs = case_inputs(directory)?;
+        if inputs.is_empty() {
+            self.failed += 1;
+            writeln!(self.out, "FAILED: no cases in {}", directory.display())?;
+        }
+        for path in inputs {
+            if self.hung >= PATIENCE {
+                break;
+            }
+            let name = path.file_stem().unwrap_or_default().to_string_lossy();
+            let input = fs::read(&path)?;
+            let output = fs::read(path.with_extension("out"))?;
+            self.case(&format!("case {name}"), &input, &output)?;
+        }
+        Ok(())
+    }
+
+    /// One case: the reference has to give the output on file, and then the
+    /// program has to give what the reference gives.
+    fn case(&mut self, name: &str, input: &[u8], output: &[u8]) -> io::Result<()> {
+        let steps = expected(input);
+        if let Some(difference) = judge(&steps, output) {
+            self.failed += 1;
+            let fault = Fault {
+                trouble: None,
+                difference: Some(difference),
+            };
+            writeln!(
+                self.out,
+                "FAILED {name}: the reference is not what the file expects"
+            )?;
+            writeln!(self.out, "    (expected: the reference, got: the file)")?;
+            return write!(self.out, "{}", fault.details());
+        }
+        let pieces = if input.len() <= SHORT {
+            Feeding::Bytes
+        } else {
+            Feeding::Cuts(input.len() as u64)
+        };
+        self.check(name, steps, &[Feeding::Whole, pieces])
+    }
+
+    fn seed(&mut self, seed: u64) -> io::Result<()> {
+        let steps = expected(&sessions::session(seed));
+        for step in &steps {
+            let letter = operation(&step.record);
+            let replies = self.replies.entry(letter).or_default();
+            replies.add(&tally(&step.reply));
+        }
+        let feedings = [Feeding::Whole, Feeding::Cuts(seed)];
+        self.check(&format!("seed {seed}"), steps, &feedings)
+    }
+
+    /// Judges the program on one input, in every manner of feeding.
+    fn check(&mut self, name: &str, steps: Vec<Step>, feedings: &[Feeding]) -> io::Result<()> {
+        for &feeding in feedings {
+            if let Some(fault) = find_fault(&self.program, &steps, feeding) {
+                self.failed += 1;
+                return self.tell(name, &steps, feeding, &fault);
+            }
+        }
+        self.passed += 1;
+        Ok(())
+    }
+
+    fn tell(
+        &mut self,
+        name: &str,
+        steps: &[Step],
+        feeding: Feeding,
+        fault: &Fault,
+    ) -> io::Result<()> {
+        let manner = manner(feeding);
+        writeln!(
+            self.out,
+            "FAILED {name}, fed {manner}: {}",
+            fault.headline()
+        )?;
+        self.hung += usize::from(fault.trouble == Some(Trouble::Hung));
+        let started = !matches!(fault.trouble, Some(Trouble::NotStarted(_)));
+        if self.failed <= self.arguments.details && started {
+            self.tell_details(name, steps, feeding)?;
+        }
+        Ok(())
+    }
+
+    /// The shortest prefix that shows a fault, the fault on it, and what is
+    /// left of it after shrinking.
+    fn tell_details(&mut self, name: &str, steps: &[Step], feeding: Feeding) -> io::Result<()> {
+        let records: Vec<&[u8]> = steps.iter().map(|step| step.record.as_slice()).collect();
+        let program = &self.program;
+        let mut fails = |some: &[&[u8]]| {
+            let steps = expected(&some.concat());
+            find_fault(program, &steps, feeding).is_some()
+        };
+        let mut effort = Effort::new(TRIALS, TRIAL_TIME);
+        let length = shortest_prefix(&records, &mut effort, &mut fails);
+        let prefix = &records[..length];
+        let small = shrink(prefix, &mut effort, &mut fails).concat();
+        let prefix = prefix.concat();
+        self.tell_input(name, "prefix", &prefix, feeding)?;
+        self.tell_input(name, "shrunk", &small, feeding)
+    }
+
+    /// An input that shows a fault, and the fault that it shows.
+    fn tell_input(
+        &mut self,
+        name: &str,
+        kind: &str,
+        input: &[u8],
+        feeding: Feeding,
+    ) -> io::Result<()> {
+        let count = lines(input).len();
+        let title = match kind {
+            "prefix" => format!("records in the shortest prefix that shows it: {count}"),
+            _ => format!("records left after shrinking: {count}"),
+        };
+        writeln!(self.out, "  {title}")?;
+        write!(self.out, "{}", block(input))?;
+        match find_fault(&self.program, &expected(input), feeding) {
+            Some(fault) => {
+                writeln!(self.out, "  on it, {}:", fault.headline())?;
+                write!(self.out, "{}", fault.details())?;
+            }
+            None => writeln!(self.out, "  on it, the fault does not show every time")?,
+        }
+        if let Some(directory) = &self.arguments.save {
+            fs::create_dir_all(directory)?;
+            let file = directory.join(format!("{}.{kind}.in", name.replace(' ', "-")));
+            fs::write(&file, input)?;
+            writeln!(self.out, "  written to {}", file.display())?;
+        }
+        Ok(())
+    }
+
+    /// The tally of the sessions' replies; on a full range of seeds every
+    /// reply that a session can meet has to be in it.
+    fn statistics(&mut self) -> io::Result<()> {
+        if self.replies.is_empty() {
+            return Ok(());
+        }
+        let mut all = Tally::default();
+        for (letter, replies) in &self.replies {
+            writeln!(self.out, "replies to {letter}: {}", replies.line())?;
+            all.add(replies);
+        }
+        write!(self.out, "all replies:\n{all}")?;
+        let seeds = self.arguments.seeds.end - self.arguments.seeds.start;
+        match verdict(&all, seeds) {
+            None => Ok(()),
+            Some((true, missing)) => {
+                self.failed += 1;
+                writeln!(self.out, "FAILED statistics: never came up: {missing}")
+            }
+            Some((false, missing)) => {
+                writeln!(self.out, "never came up in these few sessions: {missing}")
+            }
+        }
+    }
+}
+
+/// The letter of a record, or a question mark where it has no known one.
+fn operation(record: &[u8]) -> char {
+    let body = record.strip_suffix(b"\n").unwrap_or(record);
+    let letter = body.split(|&byte| byte == b'\t').next();
+    match letter {
+        Some([letter]) if b"PMEFIKSWLCTU".contains(letter) => *letter as char,
+        _ => '?',
+    }
+}
+
+#[cfg(test)]
+mod tests {
+    use super::*;
+
+    #[test]
+    fn a_reply_that_never_came_up_fails_a_full_range_only() {
+        let few = tally(b"ok\nno\t1\n");
+        let (fails, missing) = verdict(&few, FULL_RANGE).unwrap();
+        assert!(fails && missing.contains("no 13") && !missing.contains("no 1,"));
+        assert!(!verdict(&few, FULL_RANGE - 1).unwrap().0);
+    }
+
+    #[test]
+    fn a_full_range_of_sessions_meets_every_reply() {
+        let mut all = Tally::default();
+        for seed in 0..FULL_RANGE {
+            all.add(&tally(&reference::session(&sessions::session(seed))));
+        }
+        assert_eq!(verdict(&all, FULL_RANGE), None);
+    }
+
+    #[test]
+    fn a_record_is_counted_under_its_letter() {
+        assert_eq!(operation(b"P\tA\t2\t1\n"), 'P');
+        assert_eq!(operation(b"T"), 'T');
+        assert_eq!(operation(b"T\r\n"), '?');
+        assert_eq!(operation(b"\n"), '?');
+        assert_eq!(operation(b"X\t1\n"), '?');
+    }
+}

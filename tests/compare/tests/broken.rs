@@ -1,0 +1,251 @@
+//! The comparison tried out: on the reference program as it is, where nothing
+//! may fail, and on copies of it with one place spoiled, each of which has to
+//! be found. The edits are in `broken/`: what is spoiled, the file, the old
+//! text, which has to be there exactly once, and the new text.
+
+use std::fs;
+use std::path::{Path, PathBuf};
+use std::process::{Command, Output};
+
+fn here() -> PathBuf {
+    PathBuf::from(env!("CARGO_MANIFEST_DIR"))
+}
+
+/// The part of an edit from one heading to the next.
+fn part<'a>(edit: &'a str, heading: &str) -> &'a str {
+    let heading = format!("--- {heading}\n");
+    let start = edit.find(&heading).expect("the heading is there") + heading.len();
+    let rest = &edit[start..];
+    let end = rest.find("--- ").unwrap_or(rest.len());
+    rest[..end].trim_end_matches('\n')
+}
+
+/// Copies the sources of the reference, as a workspace of their own.
+fn copy_reference(target: &Path) {
+    let source = here().join("../reference");
+    let _ = fs::remove_dir_all(target.join("src"));
+    fs::create_dir_all(target.join("src")).unwrap();
+    let manifest = fs::read_to_string(source.join("Cargo.toml")).unwrap();
+    fs::write(target.join("Cargo.toml"), manifest + "\n[workspace]\n").unwrap();
+    for entry in fs::read_dir(source.join("src")).unwrap() {
+        let path = entry.unwrap().path();
+        fs::copy(&path, target.join("src").join(path.file_name().unwrap())).unwrap();
+    }
+}
+
+fn apply(edit: &str, target: &Path) {
+    let file = target.join(part(edit, "file"));
+    let text = fs::read_to_string(&file).unwrap();
+    let (old, new) = (part(edit, "old"), part(edit, "new"));
+    let times = text.matches(old).count();
+    assert_eq!(times, 1, "the old text is there {times} times: {old}");
+    fs::write(&file, text.replacen(old, new, 1)).unwrap();
+}
+
+/// Builds a copy of the reference, spoiled by the edit of this name if it is
+/// to be, and gives the path of its program. Here a fast build is worth more
+/// than a fast program, so it is not optimised.
+fn build(name: &str, edited: bool) -> PathBuf {
+    let target = PathBuf::from(env!("CARGO_TARGET_TMPDIR")).join(name);
+    copy_reference(&target);
+    if edited {
+        let edit = here().join("broken").join(format!("{name}.edit"));
+        apply(&fs::read_to_string(edit).unwrap(), &target);
+    }
+    let built = Command::new(env!("CARGO"))
+        .args(["build", "--offline", "--quiet"])
+        .arg("--target-dir")
+        .arg(target.join("target"))
+        .current_dir(&target)
+        .output()
+        .unwrap();
+    let said = String::from_utf8_lossy(&built.stderr);
+    assert!(built.status.success(), "{said}");
+    target.join("target/debug/reference")
+}
+
+/// Runs the program `compare` on a desk program.
+fn compare(arguments: &[&str], desk: &[&str]) -> Output {
+    Command::new(env!("CARGO_BIN_EXE_compare"))
+        .args(arguments)
+        .arg("--")
+        .args(desk)
+        .output()
+        .unwrap()
+}
+
+fn cases() -> String {
+    here().join("../cases").to_str().unwrap().to_string()
+}
+
+/// The numbers of the last line, after a look at the exit status.
+fn counts(output: &Output) -> (usize, usize) {
+    let text = String::from_utf8_lossy(&output.stdout).to_string();
+    let last = text.lines().last().expect("a last line");
+    let numbers = last.strip_suffix(" failed").expect("the last line");
+    let (passed, failed) = numbers.split_once(" passed, ").expect("the last line");
+    let counts = (passed.parse().unwrap(), failed.parse().unwrap());
+    assert_eq!(output.status.success(), counts.1 == 0, "{text}");
+    counts
+}
+
+/// The failures on the cases, and those on a few sessions.
+fn failures(desk: &Path) -> (usize, usize) {
+    let desk = [desk.to_str().unwrap()];
+    // Making the faults small takes its time, and their number is enough.
+    let on_cases = compare(&["--details", "0", "--cases", &cases()], &desk);
+    let on_seeds = compare(&["--details", "0", "--seeds", "0..16"], &desk);
+    let (on_cases, on_seeds) = (counts(&on_cases), counts(&on_seeds));
+    (on_cases.1, on_seeds.1)
+}
+
+fn is_found(name: &str) {
+    let (on_cases, on_seeds) = failures(&build(name, true));
+    assert!(on_cases > 0, "{name} is not found by the cases");
+    assert!(on_seeds > 0, "{name} is not found by the sessions");
+}
+
+#[test]
+fn the_reference_itself_passes() {
+    let desk = build("reference", false);
+    let inputs = fs::read_dir(cases()).unwrap().filter(|entry| {
+        let path = entry.as_ref().unwrap().path();
+        path.extension().is_some_and(|extension| extension == "in")
+    });
+    let arguments = ["--cases", &cases(), "--seeds", "0..30"];
+    let output = compare(&arguments, &[desk.to_str().unwrap()]);
+    assert_eq!(counts(&output), (inputs.count() + 30, 0));
+}
+
+#[test]
+fn another_order_of_u_passes() {
+    assert_eq!(failures(&build("other-u-order", true)), (0, 0));
+}
+
+#[test]
+fn a_wrong_join_is_found() {
+    is_found("wrong-join");
+}
+
+#[test]
+fn a_limit_before_reduction_is_found() {
+    is_found("early-limit");
+}
+
+#[test]
+fn following_the_wrong_way_round_is_found() {
+    is_found("wrong-way-round");
+}
+
+#[test]
+fn a_gap_found_by_counting_is_found() {
+    is_found("counted-gap");
+}
+
+#[test]
+fn a_limit_on_the_last_power_alone_is_found() {
+    is_found("last-power-only");
+}
+
+#[test]
+fn a_missing_line_of_u_is_found() {
+    is_found("u-line-missing");
+}
+
+#[test]
+fn a_lost_last_line_is_found() {
+    is_found("lost-last-line");
+}
+
+/// A directory with this one case in it, and nothing else.
+fn one_case(directory: &str, name: &str) -> PathBuf {
+    let target = PathBuf::from(env!("CARGO_TARGET_TMPDIR")).join(directory);
+    let _ = fs::remove_dir_all(&target);
+    fs::create_dir_all(&target).unwrap();
+    for end in ["in", "out"] {
+        let file = format!("{name}.{end}");
+        fs::copy(Path::new(&cases()).join(&file), target.join(&file)).unwrap();
+    }
+    target
+}
+
+/// K on an empty slot with k out of range is record 14 of the case, and needs
+/// no record before it.
+#[test]
+fn a_wrong_order_of_refusals_is_found_and_made_small() {
+    let desk = build("wrong-refusal-order", true);
+    let (on_cases, on_seeds) = failures(&desk);
+    assert!(on_cases > 0 && on_seeds > 0);
+    let directory = one_case("refusal-order-case", "k-refusals");
+    let saved = directory.join("saved");
+    let arguments = ["--cases", directory.to_str().unwrap()];
+    let arguments = [&arguments[..], &["--save", saved.to_str().unwrap()]].concat();
+    let output = compare(&arguments, &[desk.to_str().unwrap()]);
+    let text = String::from_utf8_lossy(&output.stdout);
+    for line in [
+        "FAILED case k-refusals, fed in one piece: a reply differs at record 14",
+        "records in the shortest prefix that shows it: 14",
+        "records left after shrinking: 1",
+        "record 1: K⇥B⇥1001⇥A",
+        "no⇥12",
+        "no⇥9",
+        "0 passed, 1 failed",
+    ] {
+        assert!(text.contains(line), "{line} is not in\n{text}");
+    }
+    let small = fs::read(saved.join("case-k-refusals.shrunk.in")).unwrap();
+    assert_eq!(small, b"K\tB\t1001\tA\n");
+    let prefix = fs::read(saved.join("case-k-refusals.prefix.in")).unwrap();
+    assert!(prefix.ends_with(b"\nK\tB\t1001\tA\n"));
+}
+
+#[test]
+fn a_desk_that_hangs_is_reported() {
+    let directory = one_case("hanging-case", "end-empty-line");
+    let arguments = ["--cases", directory.to_str().unwrap(), "--timeout", "1"];
+    let output = compare(&arguments, &["sh", "-c", "exec sleep 60"]);
+    let text = String::from_utf8_lossy(&output.stdout);
+    assert!(text.contains("did not end in its time"), "{text}");
+    assert_eq!(counts(&output), (0, 1));
+}
+
+#[test]
+fn a_desk_that_dies_is_reported() {
+    let directory = one_case("dying-case", "session-full");
+    let arguments = ["--cases", directory.to_str().unwrap()];
+    let dying = compare(
+        &arguments,
+        &["sh", "-c", "head -c 30 >/dev/null; kill -9 $$"],
+    );
+    let text = String::from_utf8_lossy(&dying.stdout);
+    assert!(text.contains("the program died"), "{text}");
+    assert_eq!(counts(&dying), (0, 1));
+    assert_eq!(counts(&compare(&arguments, &["true"])), (0, 1));
+    assert_eq!(counts(&compare(&arguments, &["cat"])), (0, 1));
+    assert_eq!(counts(&compare(&arguments, &["./no-such-desk"])), (0, 1));
+}
+
+/// A wrong file is the file's failure, whatever the desk program does.
+#[test]
+fn a_case_that_the_reference_does_not_give_is_reported() {
+    let directory = one_case("wrong-case", "session-full");
+    let file = directory.join("session-full.out");
+    let text = fs::read_to_string(&file).unwrap();
+    fs::write(&file, text.replacen("ok\t1212", "ok\t1221", 1)).unwrap();
+    let output = compare(&["--cases", directory.to_str().unwrap()], &["cat"]);
+    let text = String::from_utf8_lossy(&output.stdout);
+    assert!(
+        text.contains("the reference is not what the file expects"),
+        "{text}"
+    );
+    assert!(text.contains("record 6: W⇥A⇥1122"), "{text}");
+    assert_eq!(counts(&output), (0, 1));
+}
+
+#[test]
+fn a_directory_without_cases_fails() {
+    let directory = one_case("no-case", "session-full");
+    fs::remove_file(directory.join("session-full.in")).unwrap();
+    let output = compare(&["--cases", directory.to_str().unwrap()], &["cat"]);
+    assert_eq!(counts(&output), (0, 1));
+}

@@ -1,0 +1,282 @@
+//! The desk: eight slots, at most one open plan and the count of changes. It
+//! takes the bytes of standard input in any pieces and gives the bytes of the
+//! replies. Every refusal drops an open plan and changes nothing else.
+
+use std::collections::BTreeMap;
+
+use crate::plan::{self, Plan};
+use crate::records::Record;
+use crate::refusal::Refusal;
+use crate::words::{Shape, Word};
+
+/// "A count of changes from 0 to 4,000,000,000."
+pub const COUNT_LIMIT: u64 = 4_000_000_000;
+
+/// "Lines hold at most 1,100 bytes, byte 10 not counted".
+pub const LINE_BYTES: usize = 1100;
+
+/// The reply to a record, or the refusal of it.
+type Reply = Result<Vec<u8>, Refusal>;
+
+/// The desk with the line that is being read.
+#[derive(Clone, Debug, Default)]
+pub struct Desk {
+    slots: BTreeMap<u8, Plan>,
+    count: u64,
+    open: Option<OpenPlan>,
+    line: Line,
+}
+
+/// A plan between its P and its E. The pairs stay as typed, since a word may
+/// be there twice until E looks.
+#[derive(Clone, Debug)]
+struct OpenPlan {
+    slot: u8,
+    shape: Shape,
+    typed: Vec<(Word, Word)>,
+}
+
+/// The bytes of a line so far. Of a line that is too long only the fact is
+/// kept besides its beginning.
+#[derive(Clone, Debug, Default)]
+struct Line {
+    bytes: Vec<u8>,
+    too_long: bool,
+}
+
+impl Line {
+    fn push(&mut self, byte: u8) {
+        if self.bytes.len() < LINE_BYTES {
+            self.bytes.push(byte);
+        } else {
+            self.too_long = true;
+        }
+    }
+
+    fn record(&self) -> Result<Record<'_>, Refusal> {
+        if self.too_long {
+            Err(Refusal::Form)
+        } else {
+            Record::read(&self.bytes)
+        }
+    }
+}
+
+/// A whole session from a fresh desk: all replies to this input.
+pub fn session(input: &[u8]) -> Vec<u8> {
+    let mut desk = Desk::new();
+    let mut out = Vec::new();
+    desk.feed(input, &mut out);
+    desk.finish(&mut out);
+    out
+}
+
+impl Desk {
+    /// "A fresh desk has empty slots and count 0."
+    pub fn new() -> Desk {
+        Desk::default()
+    }
+
+    /// A desk with empty slots and this count. It is there for tests alone, so
+    /// that refusal 16 can be reached.
+    pub fn with_count(count: u64) -> Desk {
+        assert!(count <= COUNT_LIMIT, "the count has a limit");
+        Desk {
+            count,
+            ..Desk::default()
+        }
+    }
+
+    pub fn count(&self) -> u64 {
+        self.count
+    }
+
+    /// The plan in this slot, if it holds one.
+    pub fn plan(&self, slot: u8) -> Option<&Plan> {
+        self.slots.get(&slot)
+    }
+
+    /// Takes the next bytes of input and adds the replies to all lines they
+    /// complete.
+    pub fn feed(&mut self, bytes: &[u8], out: &mut Vec<u8>) {
+        for byte in bytes {
+            if *byte == b'\n' {
+                self.end_line(out);
+            } else {
+                self.line.push(*byte);
+            }
+        }
+    }
+
+    /// End of input: "a last line without that byte counts if it isn't empty"
+    /// and "an open plan is dropped".
+    pub fn finish(&mut self, out: &mut Vec<u8>) {
+        if !self.line.bytes.is_empty() {
+            self.end_line(out);
+        }
+        self.open = None;
+    }
+
+    fn end_line(&mut self, out: &mut Vec<u8>) {
+        let line = std::mem::take(&mut self.line);
+        let reply = line.record().and_then(|record| self.answer(record));
+        match reply {
+            Ok(lines) => out.extend(lines),
+            Err(refusal) => {
+                self.open = None;
+                out.extend(refusal.line().bytes());
+            }
+        }
+    }
+
+    fn answer(&mut self, record: Record) -> Reply {
+        self.in_turn(&record)?;
+        match record {
+            Record::Open { slot, arity, roots } => self.open(slot, Shape { arity, roots }),
+            Record::Pair { from, to } => self.add_pair(from, to),
+            Record::Close => self.close(),
+            Record::Then {
+                first,
+                second,
+                target,
+            } => self.then(first, second, target),
+            Record::Inverse { operand, target } => self.inverse(operand, target),
+            Record::Power { operand, k, target } => self.power(operand, k, target),
+            Record::Same { first, second } => self.same(first, second),
+            Record::Route { operand, code } => self.route(operand, code),
+            Record::List { operand } => self.list(operand),
+            Record::Clear { operand } => self.clear(operand),
+            Record::Count => Ok(ok_line(self.count)),
+            Record::Held => Ok(self.held_slots()),
+        }
+    }
+
+    /// "2, an M or E with no plan open, or any other record while one is open."
+    fn in_turn(&self, record: &Record) -> Result<(), Refusal> {
+        let needs_open = matches!(record, Record::Pair { .. } | Record::Close);
+        if needs_open == self.open.is_some() {
+            Ok(())
+        } else {
+            Err(Refusal::Turn)
+        }
+    }
+
+    fn open(&mut self, slot: u8, shape: Shape) -> Reply {
+        slots_in_range(&[slot])?;
+        if !shape.in_range() {
+            return Err(Refusal::ShapeRange);
+        }
+        self.open = Some(OpenPlan {
+            slot,
+            shape,
+            typed: Vec::new(),
+        });
+        Ok(Vec::new())
+    }
+
+    fn add_pair(&mut self, from: &[u8], to: &[u8]) -> Reply {
+        let open = self.open.as_mut().ok_or(Refusal::Turn)?;
+        plan::may_add_pair(open.shape, open.typed.len(), from, to)?;
+        open.typed.push((from.to_vec(), to.to_vec()));
+        Ok(Vec::new())
+    }
+
+    fn close(&mut self) -> Reply {
+        let open = self.open.take().ok_or(Refusal::Turn)?;
+        let plan = Plan::keep(open.shape, &open.typed)?;
+        self.keep(open.slot, plan)
+    }
+
+    fn then(&mut self, first: u8, second: u8, target: u8) -> Reply {
+        slots_in_range(&[first, second, target])?;
+        let (first, second) = (self.held(first)?, self.held(second)?);
+        let plan = first.then(second)?;
+        self.keep(target, plan)
+    }
+
+    fn inverse(&mut self, operand: u8, target: u8) -> Reply {
+        slots_in_range(&[operand, target])?;
+        let plan = self.held(operand)?.inverse();
+        self.keep(target, plan)
+    }
+
+    /// "K: then 8; 12; 9; 11; 16": the exponent is looked at before the slot.
+    fn power(&mut self, operand: u8, k: i64, target: u8) -> Reply {
+        slots_in_range(&[operand, target])?;
+        plan::exponent_in_range(k)?;
+        let plan = self.held(operand)?.power(k)?;
+        self.keep(target, plan)
+    }
+
+    fn same(&self, first: u8, second: u8) -> Reply {
+        slots_in_range(&[first, second])?;
+        let (first, second) = (self.held(first)?, self.held(second)?);
+        let alike = first.same(second)?;
+        Ok(ok_line(u64::from(alike)))
+    }
+
+    fn route(&self, operand: u8, code: &[u8]) -> Reply {
+        slots_in_range(&[operand])?;
+        let image = self.held(operand)?.route(code)?;
+        Ok([b"ok\t", image.as_slice(), b"\n"].concat())
+    }
+
+    fn list(&self, operand: u8) -> Reply {
+        slots_in_range(&[operand])?;
+        Ok(self.held(operand)?.list(operand))
+    }
+
+    fn clear(&mut self, operand: u8) -> Reply {
+        slots_in_range(&[operand])?;
+        self.held(operand)?;
+        self.raise_count()?;
+        self.slots.remove(&operand);
+        Ok(b"ok\n".to_vec())
+    }
+
+    /// U leaves the order of its lines open; here it is that of the letters.
+    fn held_slots(&self) -> Vec<u8> {
+        let mut lines = Vec::new();
+        for (slot, plan) in &self.slots {
+            let Shape { arity, roots } = plan.shape();
+            lines.push(*slot);
+            lines.extend(format!("\t{arity}\t{roots}\t{}\n", plan.size()).bytes());
+        }
+        lines.extend(ok_line(self.slots.len() as u64));
+        lines
+    }
+
+    /// Writes a plan into its slot: refusal 16, else "`ok⇥` and the number of
+    /// pairs kept".
+    fn keep(&mut self, target: u8, plan: Plan) -> Reply {
+        self.raise_count()?;
+        let reply = ok_line(plan.size() as u64);
+        self.slots.insert(target, plan);
+        Ok(reply)
+    }
+
+    fn held(&self, slot: u8) -> Result<&Plan, Refusal> {
+        self.slots.get(&slot).ok_or(Refusal::EmptySlot)
+    }
+
+    fn raise_count(&mut self) -> Result<(), Refusal> {
+        if self.count >= COUNT_LIMIT {
+            return Err(Refusal::CountLimit);
+        }
+        self.count += 1;
+        Ok(())
+    }
+}
+
+/// "8, a slot byte outside A to H", of all slot fields before anything else.
+fn slots_in_range(slots: &[u8]) -> Result<(), Refusal> {
+    if slots.iter().all(|slot| (b'A'..=b'H').contains(slot)) {
+        Ok(())
+    } else {
+        Err(Refusal::SlotRange)
+    }
+}
+
+fn ok_line(number: u64) -> Vec<u8> {
+    format!("ok\t{number}\n").into_bytes()
+}

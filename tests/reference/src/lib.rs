@@ -1,0 +1,19 @@
+//! A second implementation of the sort plan desk, written from the papers.
+//! It keeps words as strings of digits and plans as ordered maps, and follows
+//! the definitions word by word: it is made to be read and compared with, not
+//! to be fast. Document 01 decides on records and numbers, document 004 on
+//! words, bases and maps.
+
+pub mod basis;
+pub mod desk;
+pub mod maps;
+pub mod plan;
+pub mod records;
+pub mod refusal;
+pub mod words;
+
+pub use basis::{Fault, Flaw, Side};
+pub use desk::{session, Desk, COUNT_LIMIT};
+pub use plan::Plan;
+pub use refusal::Refusal;
+pub use words::{Shape, Word, CODE_DIGITS, PAIRS, WORD_DIGITS};

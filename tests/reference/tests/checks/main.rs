@@ -1,0 +1,10 @@
+//! The checks of the second implementation: the paper's own cases, every
+//! refusal in its order, the mathematics on random plans of all shapes, and
+//! the reading of input in pieces.
+
+mod bases;
+mod group;
+mod paper;
+mod random;
+mod refusals;
+mod stream;

@@ -1,0 +1,140 @@
+//! Which replies an output holds and how often: a tally by kind, and the
+//! kinds that a long run of sessions has to have met. Refusals 14 and 15 are
+//! given by library calls alone, and 16 needs four thousand million changes,
+//! so no session meets them.
+
+use std::collections::BTreeMap;
+use std::fmt;
+
+/// The refusals that sessions can meet, in the form of the tally.
+const REFUSALS: &[&str] = &[
+    "no 1", "no 2", "no 3", "no 4", "no 5", "no 6 F", "no 6 T", "no 7 F", "no 7 T", "no 8", "no 9",
+    "no 10", "no 11", "no 12", "no 13",
+];
+
+/// The other replies that sessions can meet.
+const GRANTED: &[&str] = &["ok", "ok value", "P line", "M line", "E line", "U line"];
+
+/// How often each kind of reply came up.
+#[derive(Default, Clone, PartialEq, Eq, Debug)]
+pub struct Tally {
+    counts: BTreeMap<String, u64>,
+}
+
+/// Counts the reply lines of an output by their kind.
+pub fn tally(output: &[u8]) -> Tally {
+    let mut tally = Tally::default();
+    for line in output.split_inclusive(|&byte| byte == b'\n') {
+        let line = line.strip_suffix(b"\n").unwrap_or(line);
+        *tally.counts.entry(kind(line)).or_default() += 1;
+    }
+    tally
+}
+
+fn kind(line: &[u8]) -> String {
+    let fields: Vec<&[u8]> = line.split(|&byte| byte == b'\t').collect();
+    match fields.as_slice() {
+        [b"ok"] => "ok".to_string(),
+        [b"ok", _] => "ok value".to_string(),
+        [b"no", ..] => String::from_utf8_lossy(line).replace('\t', " "),
+        [b"P", _, _, _] => "P line".to_string(),
+        [b"M", _, _] => "M line".to_string(),
+        [b"E"] => "E line".to_string(),
+        [slot, _, _, _] if slot.len() == 1 => "U line".to_string(),
+        _ => "other".to_string(),
+    }
+}
+
+impl Tally {
+    /// Adds the counts of another tally to this one.
+    pub fn add(&mut self, other: &Tally) {
+        for (kind, count) in &other.counts {
+            *self.counts.entry(kind.clone()).or_default() += count;
+        }
+    }
+
+    pub fn count(&self, kind: &str) -> u64 {
+        self.counts.get(kind).copied().unwrap_or(0)
+    }
+
+    /// The kinds that came up with their counts, in one line.
+    pub fn line(&self) -> String {
+        let parts = self.counts.iter();
+        let parts: Vec<String> = parts
+            .map(|(kind, count)| format!("{kind}: {count}"))
+            .collect();
+        parts.join(", ")
+    }
+
+    /// The kinds that a full range of sessions has to meet and that this
+    /// tally has not; each refusal for a column counts on its own.
+    pub fn missing(&self) -> Vec<&'static str> {
+        REFUSALS
+            .iter()
+            .chain(GRANTED)
+            .copied()
+            .filter(|kind| self.count(kind) == 0)
+            .collect()
+    }
+}
+
+impl fmt::Display for Tally {
+    fn fmt(&self, out: &mut fmt::Formatter<'_>) -> fmt::Result {
+        let known = GRANTED.iter().chain(REFUSALS).copied();
+        for kind in known.clone() {
+            writeln!(out, "  {kind:<9} {:>9}", self.count(kind))?;
+        }
+        for (kind, count) in &self.counts {
+            if !known.clone().any(|name| name == kind) {
+                writeln!(out, "  {kind:<9} {count:>9}")?;
+            }
+        }
+        Ok(())
+    }
+}
+
+#[cfg(test)]
+mod tests {
+    use super::*;
+
+    #[test]
+    fn each_line_is_counted_under_its_kind() {
+        let output = b"ok\t3\nok\nno\t13\nno\t7\tT\nP\tA\t2\t1\nM\t1\t1\nE\nA\t2\t1\t1\nok\t1\n";
+        let tally = tally(output);
+        assert_eq!(tally.count("ok value"), 2);
+        let once = [
+            "ok", "no 13", "no 7 T", "P line", "M line", "E line", "U line",
+        ];
+        assert!(once.iter().all(|kind| tally.count(kind) == 1));
+        assert_eq!(tally.count("no 7 F"), 0);
+        assert_eq!(tally.count("other"), 0);
+    }
+
+    #[test]
+    fn a_kind_that_never_came_up_is_missing() {
+        let all: String = REFUSALS
+            .iter()
+            .map(|kind| kind.replace(' ', "\t") + "\n")
+            .collect();
+        let granted = "ok\nok\t1\nP\tA\t2\t1\nM\t1\t1\nE\nH\t2\t1\t1\n";
+        let mut tally = tally((all.clone() + granted).as_bytes());
+        assert!(tally.missing().is_empty());
+        tally.counts.remove("no 11");
+        tally.counts.remove("no 6 T");
+        assert_eq!(tally.missing(), ["no 6 T", "no 11"]);
+    }
+
+    #[test]
+    fn tallies_add_up() {
+        let mut sum = tally(b"ok\nno\t1\n");
+        sum.add(&tally(b"no\t1\nno\t2\n"));
+        assert_eq!((sum.count("no 1"), sum.count("no 2")), (2, 1));
+    }
+
+    #[test]
+    fn an_empty_output_and_an_empty_line_are_told_apart() {
+        assert_eq!(tally(b""), Tally::default());
+        assert_eq!(tally(b"\n").count("other"), 1);
+        assert_eq!(tally(b"o").count("other"), 1);
+    }
+}
