@@ -11,9 +11,9 @@ use borrow.Author.Tests.{leb-true, leb-false}
 use lib.IntN.{ℤ, pos, negsuc, natAbs}
 use Rattle.higman.specs.Words.{Shape}
 use Rattle.higman.specs.Tables.{Table}
-use Rattle.higman.specs.Normal.{compose, identity, repeated, power}
+use Rattle.higman.specs.Normal.{compose, inverse, identity, repeated, power}
 use Rattle.higman.specs.Limits.{Plan, granted, maxPower}
-use Rattle.higman.specs.Answers.{Answer, Granted, Refused, Refusal, ShapesDiffer, LimitBroken, PowerOutside, refusalNumber, sameShape, grant, followed, raised, repeatable, powered}
+use Rattle.higman.specs.Answers.{Answer, Granted, Refused, Refusal, ShapesDiffer, LimitBroken, PowerOutside, refusalNumber, sameShape, grant, followed, inverted, raised, repeatable, powered}
 use Rattle.higman.proofs.Tests.{passes, so, T-of, clash, and-left, and-right, and-intro}
 
 abbrev IsGranted : Answer → Type 0
@@ -67,6 +67,11 @@ followed-cases a b c e = go (sameShape (a .shape) (b .shape)) refl e
     go : (x : Bool) → sameShape (a .shape) (b .shape) ≡ x → elim x as (λ _. Answer) [ true ↦ grant (a .shape) t | false ↦ Refused ShapesDiffer ] ≡ Granted c → (a .shape ≡ b .shape) × T (granted t) × (c ≡ record { shape = a .shape; rows = t })
     go true h k = let (g, p) = grant-cases (a .shape) t c k in (shape-path (a .shape) (b .shape) (T-of h), g, p)
     go false h k = absurd (not-granted ShapesDiffer c k)
+
+-- what I gives
+pub inverted-cases : (a b : Plan) → inverted a ≡ Granted b → b ≡ record { shape = a .shape; rows = inverse (a .shape) (a .rows) }
+unfolding inverted
+inverted-cases a b e = sym (granted-path (record { shape = a .shape; rows = inverse (a .shape) (a .rows) }) b e)
 
 -- What `raised` says: a power that breaks a limit on the way, or the repetition itself with every power on the way within the limits.
 abbrev pub Raised : Shape → Table → ℕ → Option Table → Type 0

@@ -25,7 +25,7 @@ use Rattle.higman.proofs.Group.{Member, member-path, compose-member, in
 use Rattle.higman.proofs.Smallest.{keep-granted}
 use Rattle.higman.proofs.KeptPlans.{in-range, arity-of-range, member-of-kept, kept-of-member}
 use Rattle.higman.proofs.Powers.{GroupLaws, pow-in, pow-sum, pow-product, power-is-pow}
-use Rattle.higman.proofs.Answers.{followed-is, followed-cases, grant-of, granted-path, powered-cases, powered-zero}
+use Rattle.higman.proofs.Answers.{followed-is, followed-cases, grant-of, inverted-cases, powered-cases, powered-zero}
 use Rattle.higman.proofs.Listing.{listing-faithful}
 
 -- the group of one shape, for the laws of powers
@@ -105,8 +105,8 @@ kept-followed a b c A B e =
     subst Kept (sym p) (kept-of-member (record { shape = a .shape; rows = compose (a .shape) (a .rows) (b .rows) }) (A .in-range) g (compose-member (a .shape) n (a .rows) (b .rows) (member-of-kept a A .element) (at-shape a b q B .element)))
 
 inverted-path : (a b : Plan) → inverted a ≡ Granted b → b ≡ plan (a .shape) (inverse (a .shape) (a .rows))
-unfolding inverted plan
-inverted-path a b e = sym (granted-path (plan (a .shape) (inverse (a .shape) (a .rows))) b e)
+unfolding plan
+inverted-path a b e = inverted-cases a b e
 
 kept-inverted : (a b : Plan) → Kept a → inverted a ≡ Granted b → Kept b
 unfolding plan

@@ -1,0 +1,300 @@
+-- Demand 2: what E, F, I, K, W and S do when they are not refused, by higman's theorems, and a listing read back. From what an
+-- operation passed it is read off which steps it took.
+use Prim.Native.Nat.{ℕ, _<_}
+use mathlib.Core.Path.{_≡_, refl, sym, _∙_, ap, subst}
+use mathlib.Core.Logic.{_⊎_, inl, inr, _↔_}
+use mathlib.Core.Bool.{Bool, true, false}
+use mathlib.Core.Option.{Option, none, some, Option·some-injective, Option·none-ne-some}
+use native.Mathlib.Omega.{arith}
+use lib.Dec.{T}
+use lib.IntN.{ℤ}
+use borrow.Author.Tests.{leb-false, lt-leb}
+use Rattle.higman.specs.Words.{Word, isWord}
+use Rattle.higman.specs.Tables.{image, sameTable}
+use Rattle.higman.specs.Normal.{andThen, power}
+use Rattle.higman.specs.Limits.{Plan, Bases, Kept, isCode}
+use Rattle.higman.specs.Answers.{Verdict, Accepted, InFrom, InTo, verdict, Answer, Granted, Refused, followed, inverted, powered, Comparison, Alike, NotCompared, same, sameShape, Route, Image, TooShort, NotRouted, BadCode, ShapesDiffer, routed}
+use Rattle.higman.specs.Theorems.{ActAlike}
+use Rattle.higman.proofs.Tests.{T-of}
+use Rattle.higman.proofs.KeptPlans.{arity-of-range}
+use Rattle.higman.proofs.Answers.{followed-cases, inverted-cases, shape-path}
+use Rattle.higman.proofs.Demand3.{demand3}
+use Rattle.higman.proofs.Statements.{normal-form, group-acts, answers-exact}
+use Rattle.desk.specs.Text.{Bytes}
+use Rattle.desk.specs.Limits.{maxChanges}
+use Rattle.desk.specs.Desk.{Draft, Desk, held, IsDraft, IsDesk}
+use Rattle.desk.specs.Records.{E, F, I, K, S, W}
+use Rattle.desk.specs.Replies.{Outcome, refuse, pass, _>>=_, _when_, Effect, Reply, silent, ok, okNumber, okWord, lists, surveys, refuses, slotNumber, wordOf, bit, openPlan, planIn, ofVerdict, ofAnswer, ofComparison, ofRoute, atLimit, keepIn, closed, operation}
+use Rattle.desk.specs.Demands.{Kept-as-typed, Kept-in, Demand2}
+use Rattle.desk.proofs.ReadBack.{listing-read-back}
+use Rattle.desk.proofs.Outcomes.{Passes, stops, passes, passes-then, any-then}
+
+abbrev IsPass : {A : Type 0} → Outcome A → Type 0
+IsPass (refuse n c) = ⊥
+IsPass (pass a) = Unit {0}
+
+abbrev valueOr : {A : Type 0} → A → Outcome A → A
+valueOr other (refuse n c) = other
+valueOr other (pass a) = a
+
+-- what is known of all that an operation passes is known of what it passed
+passed : {A : Type 0} {Q : A → Type 0} {o : Outcome A} → Passes Q o → (a : A) → o ≡ pass a → Q a
+passed stops a e = absurd (subst IsPass (sym e) tt)
+passed {Q = Q} (passes {a = b} h) a e = subst Q (ap (valueOr b) e) h
+
+bind-pass : {A B : Type 0} (o : Outcome A) (a : A) (f : A → Outcome B) → o ≡ pass a → (o >>= f) ≡ f a
+unfolding _>>=_
+bind-pass o a f e = ap (λ x. x >>= f) e
+
+-- what the steps pass on
+test-failed : (n : ℕ) (t : Bool) → Passes (λ _. t ≡ false) (n when t)
+test-failed n true = stops
+test-failed n false = passes refl
+
+plan-held : (d : Desk) (a : ℕ) → Passes (λ p. held d (slotNumber a) ≡ some p) (planIn d a)
+plan-held d a = go (held d (slotNumber a)) refl
+  where
+    go : (x : Option Plan) → held d (slotNumber a) ≡ x → Passes (λ p. held d (slotNumber a) ≡ some p) (elim x [ none ↦ refuse 9 none | some p ↦ pass p ])
+    go none e = stops
+    go (some p) e = passes e
+
+plan-open : (d : Desk) → Passes (λ o. d .draft ≡ some o) (openPlan d)
+plan-open d = go (d .draft) refl
+  where
+    go : (x : Option Draft) → d .draft ≡ x → Passes (λ o. d .draft ≡ some o) (elim x [ none ↦ refuse 2 none | some o ↦ pass o ])
+    go none e = stops
+    go (some o) e = passes e
+
+answer-granted : (a : Answer) → Passes (λ p. a ≡ Granted p) (ofAnswer a)
+answer-granted (Granted p) = passes refl
+answer-granted (Refused r) = stops
+
+verdict-accepted : (v : Verdict) → Passes (λ _. v ≡ Accepted) (ofVerdict v)
+verdict-accepted Accepted = passes refl
+verdict-accepted (InFrom r) = stops
+verdict-accepted (InTo r) = stops
+
+comparison-made : (c : Comparison) → Passes (λ b. c ≡ Alike b) (ofComparison c)
+comparison-made (Alike b) = passes refl
+comparison-made (NotCompared r) = stops
+
+route-made : (r : Route) → Passes (λ w. r ≡ Image w) (ofRoute r)
+route-made (Image w) = passes refl
+route-made TooShort = stops
+route-made (NotRouted r) = stops
+
+-- E
+abbrev Closes : Desk → Effect → Type 0
+Closes d e = (o : Draft) × (d .draft ≡ some o) × (verdict (o .shape) (o .rows) ≡ Accepted) × (atLimit d ≡ false) × (e ≡ keepIn d (o .slot) (closed o))
+
+closes : (d : Desk) → Passes (Closes d) (operation d E)
+unfolding operation
+closes d =
+    passes-then (plan-open d) (λ o x. passes-then (verdict-accepted (verdict (o .shape) (o .rows))) (λ _ v. passes-then (test-failed 16 (atLimit d)) (λ _ l. passes (o, x, v, l, refl))))
+
+below-limit : (d : Desk) → atLimit d ≡ false → d .changes < maxChanges
+below-limit d e = leb-false maxChanges (d .changes) e
+
+closing : (d : Desk) (o : Draft) → d .draft ≡ some o → verdict (o .shape) (o .rows) ≡ Accepted → atLimit d ≡ false → operation d E ≡ pass (keepIn d (o .slot) (closed o))
+unfolding operation
+closing d o x v l =
+    bind-pass (openPlan d) o _ (ap (λ y. elim y as (λ _. Outcome Draft) [ none ↦ refuse 2 none | some o ↦ pass o ]) x)
+    ∙ bind-pass (ofVerdict (verdict (o .shape) (o .rows))) tt _ (ap ofVerdict v)
+    ∙ bind-pass (16 when atLimit d) tt _ (ap (λ b. 16 when b) l)
+
+draft-verdict : (o : Draft) → IsDraft o → (verdict (o .shape) (o .rows) ≡ Accepted) ↔ Bases (o .shape) (o .rows)
+draft-verdict o h = answers-exact .accepted (o .shape) (arity-of-range (o .shape) (h .in-range)) (o .rows) (h .from-words) (h .to-words)
+
+one-draft : (d : Desk) (o o′ : Draft) → d .draft ≡ some o → d .draft ≡ some o′ → o′ ≡ o
+one-draft d o o′ x y = Option·some-injective o′ o (sym y ∙ x)
+
+accepted : (d : Desk) (o : Draft) → IsDesk d → d .draft ≡ some o → ((e : Effect) × (operation d E ≡ pass e)) ↔ (Bases (o .shape) (o .rows) × (d .changes < maxChanges))
+accepted d o h x = (to, from)
+  where
+    to : (e : Effect) × (operation d E ≡ pass e) → Bases (o .shape) (o .rows) × (d .changes < maxChanges)
+    to (e, p) =
+        let (o′, y, v, l, q) = passed (closes d) e p in
+        (draft-verdict o (h .drafted o x) .0 (subst (λ z. verdict (z .shape) (z .rows) ≡ Accepted) (one-draft d o o′ x y) v), below-limit d l)
+
+    from : Bases (o .shape) (o .rows) × (d .changes < maxChanges) → (e : Effect) × (operation d E ≡ pass e)
+    from (b, l) = (keepIn d (o .slot) (closed o), closing d o x (draft-verdict o (h .drafted o x) .1 b) (lt-leb maxChanges (d .changes) l))
+
+typed : (d : Desk) (o : Draft) (e : Effect) → IsDesk d → d .draft ≡ some o → operation d E ≡ pass e → Kept-as-typed d o e
+typed d o e h x p =
+    let (o′, y, v, l, q) = passed (closes d) e p in
+    let k = h .drafted o x in
+    let b = accepted d o h x .0 (e, p) .0 in
+    record {
+      effect = q ∙ ap (λ z. keepIn d (z .slot) (closed z)) (one-draft d o o′ x y);
+      kept = answers-exact .keeps (o .shape) (k .in-range) (o .rows) b (k .within);
+      acts = normal-form .acts (o .shape) (arity-of-range (o .shape) (k .in-range)) (o .rows) b;
+    }
+
+-- F
+abbrev Follows : Desk → ℕ → ℕ → ℕ → Effect → Type 0
+Follows d a b c e = (p : Plan) × (q : Plan) × (r : Plan) × (held d (slotNumber a) ≡ some p) × (held d (slotNumber b) ≡ some q) × (followed p q ≡ Granted r) × (e ≡ keepIn d (slotNumber c) r)
+
+follow-steps : (d : Desk) (a b c : ℕ) → Passes (Follows d a b c) (operation d (F a b c))
+unfolding operation
+follow-steps d a b c =
+    any-then _ (λ _. any-then _ (λ _. passes-then (plan-held d a) (λ p x. passes-then (plan-held d b) (λ q y. passes-then (answer-granted (followed p q)) (λ r g. any-then _ (λ _. passes (p, q, r, x, y, g, refl)))))))
+
+follows : (d : Desk) (a b c : ℕ) (e : Effect) → IsDesk d → operation d (F a b c) ≡ pass e
+    → (p : Plan) × (q : Plan) × (r : Plan) × (held d (slotNumber a) ≡ some p) × (held d (slotNumber b) ≡ some q) × Kept-in d c e r
+    × ((w v : Word) → T (isWord (p .shape) w) → andThen (image (p .rows)) (image (q .rows)) w ≡ some v → image (r .rows) w ≡ some v)
+follows d a b c e h o =
+    let (p, q, r, x, y, g, f) = passed (follow-steps d a b c) e o in
+    let P = h .kept (slotNumber a) p x in
+    let Q = h .kept (slotNumber b) q y in
+    let (s, l, u) = followed-cases p q r g in (
+      p,
+      q,
+      r,
+      x,
+      y,
+      record { effect = f; kept = demand3 .followed-kept p q r P Q g },
+      λ w v i j.
+          subst (λ z. image (z .rows) w ≡ some v) (sym u)
+          (group-acts .compose-acts (p .shape) (arity-of-range (p .shape) (P .in-range)) (p .rows) (q .rows) (P .bases) (subst (λ z. Bases z (q .rows)) (sym s) (Q .bases)) w v i j),
+    )
+
+-- I
+abbrev Inverts : Desk → ℕ → ℕ → Effect → Type 0
+Inverts d a c e = (p : Plan) × (r : Plan) × (held d (slotNumber a) ≡ some p) × (inverted p ≡ Granted r) × (e ≡ keepIn d (slotNumber c) r)
+
+invert-steps : (d : Desk) (a c : ℕ) → Passes (Inverts d a c) (operation d (I a c))
+unfolding operation
+invert-steps d a c =
+    any-then _ (λ _. any-then _ (λ _. passes-then (plan-held d a) (λ p x. passes-then (answer-granted (inverted p)) (λ r g. any-then _ (λ _. passes (p, r, x, g, refl))))))
+
+inverts : (d : Desk) (a c : ℕ) (e : Effect) → IsDesk d → operation d (I a c) ≡ pass e
+    → (p : Plan) × (r : Plan) × (held d (slotNumber a) ≡ some p) × Kept-in d c e r
+    × ((w v : Word) → T (isWord (p .shape) w) → image (p .rows) w ≡ some v → image (r .rows) v ≡ some w)
+inverts d a c e h o =
+    let (p, r, x, g, f) = passed (invert-steps d a c) e o in
+    let P = h .kept (slotNumber a) p x in (
+      p,
+      r,
+      x,
+      record { effect = f; kept = demand3 .inverted-kept p r P g },
+      λ w v i j.
+          subst (λ z. image (z .rows) v ≡ some w) (sym (inverted-cases p r g))
+          (group-acts .inverse-acts (p .shape) (arity-of-range (p .shape) (P .in-range)) (p .rows) (P .bases) w v i j),
+    )
+
+-- K
+abbrev Repeats : Desk → ℕ → ℤ → ℕ → Effect → Type 0
+Repeats d a k c e = (p : Plan) × (r : Plan) × (held d (slotNumber a) ≡ some p) × (powered p k ≡ Granted r) × (e ≡ keepIn d (slotNumber c) r)
+
+repeat-steps : (d : Desk) (a c : ℕ) (k : ℤ) → Passes (Repeats d a k c) (operation d (K a k c))
+unfolding operation
+repeat-steps d a c k =
+    any-then _ (λ _. any-then _ (λ _. any-then _ (λ _. passes-then (plan-held d a) (λ p x. passes-then (answer-granted (powered p k)) (λ r g. any-then _ (λ _. passes (p, r, x, g, refl)))))))
+
+repeats : (d : Desk) (a c : ℕ) (k : ℤ) (e : Effect) → IsDesk d → operation d (K a k c) ≡ pass e
+    → (p : Plan) × (held d (slotNumber a) ≡ some p) × Kept-in d c e (record { shape = p .shape; rows = power (p .shape) (p .rows) k })
+repeats d a c k e h o =
+    let (p, r, x, g, f) = passed (repeat-steps d a c k) e o in
+    let u = answers-exact .power-granted p r k g in
+    (p, x, record { effect = f ∙ ap (keepIn d (slotNumber c)) u; kept = subst Kept u (demand3 .powered-kept p r k (h .kept (slotNumber a) p x) g) })
+
+-- W
+abbrev Routes : Desk → ℕ → Bytes → Effect → Type 0
+Routes d a code e = (p : Plan) × (v : Word) × (held d (slotNumber a) ≡ some p) × (routed p (wordOf code) ≡ Image v) × (e ≡ (d, okWord v))
+
+route-steps : (d : Desk) (a : ℕ) (code : Bytes) → Passes (Routes d a code) (operation d (W a code))
+unfolding operation
+route-steps d a code =
+    any-then _ (λ _. any-then _ (λ _. passes-then (plan-held d a) (λ p x. passes-then (route-made (routed p (wordOf code))) (λ v r. passes (p, v, x, r, refl)))))
+
+abbrev isImage : Route → Option Word
+isImage (Image v) = some v
+isImage TooShort = none
+isImage (NotRouted r) = none
+
+-- a route that gives an image gives the plan's
+image-of-route : (p : Plan) (c v : Word) → routed p c ≡ Image v → image (p .rows) c ≡ some v
+unfolding routed
+image-of-route p c v e = go (isCode (p .shape) c) (image (p .rows) c) (ap isImage e)
+  where
+    go : (b : Bool) (o : Option Word) → isImage (elim b as (λ _. Route) [ true ↦ elim o [ some v ↦ Image v | none ↦ TooShort ] | false ↦ NotRouted BadCode ]) ≡ some v → o ≡ some v
+    go false o h = absurd (Option·none-ne-some v h)
+    go true none h = absurd (Option·none-ne-some v h)
+    go true (some u) h = h
+
+routes : (d : Desk) (a : ℕ) (code : Bytes) (e : Effect) → operation d (W a code) ≡ pass e
+    → (p : Plan) × (v : Word) × (held d (slotNumber a) ≡ some p) × (image (p .rows) (wordOf code) ≡ some v) × (e ≡ (d, okWord v))
+routes d a code e o =
+    let (p, v, x, r, f) = passed (route-steps d a code) e o in
+    (p, v, x, image-of-route p (wordOf code) v r, f)
+
+-- S
+abbrev Compares : Desk → ℕ → ℕ → Effect → Type 0
+Compares d a b e = (p : Plan) × (q : Plan) × (x : Bool) × (held d (slotNumber a) ≡ some p) × (held d (slotNumber b) ≡ some q) × (same p q ≡ Alike x) × (e ≡ (d, okNumber (bit x)))
+
+compare-steps : (d : Desk) (a b : ℕ) → Passes (Compares d a b) (operation d (S a b))
+unfolding operation
+compare-steps d a b =
+    any-then _ (λ _. any-then _ (λ _. passes-then (plan-held d a) (λ p x. passes-then (plan-held d b) (λ q y. passes-then (comparison-made (same p q)) (λ z c. passes (p, q, z, x, y, c, refl))))))
+
+abbrev isAlike : Comparison → Type 0
+isAlike (Alike b) = Unit {0}
+isAlike (NotCompared r) = ⊥
+
+abbrev testOf : Comparison → Bool
+testOf (Alike b) = b
+testOf (NotCompared r) = false
+
+-- shapes are one where two plans are compared
+shapes-of-alike : (p q : Plan) (x : Bool) → same p q ≡ Alike x → p .shape ≡ q .shape
+unfolding same
+shapes-of-alike p q x e = go (sameShape (p .shape) (q .shape)) refl e
+  where
+    go : (b : Bool) → sameShape (p .shape) (q .shape) ≡ b → elim b as (λ _. Comparison) [ true ↦ Alike (sameTable (p .rows) (q .rows)) | false ↦ NotCompared ShapesDiffer ] ≡ Alike x → p .shape ≡ q .shape
+    go true h k = shape-path (p .shape) (q .shape) (T-of h)
+    go false h k = absurd (subst isAlike (sym k) tt)
+
+abbrev numberOf : Reply → ℕ
+numberOf silent = 0
+numberOf ok = 0
+numberOf (okNumber n) = n
+numberOf (okWord w) = 0
+numberOf (lists b p) = 0
+numberOf (surveys hs) = 0
+numberOf (refuses n c) = 0
+
+one-or-zero : (d : Desk) (x : Bool) (e : Effect) → e ≡ (d, okNumber (bit x)) → (e ≡ (d, okNumber 1)) ⊎ (e ≡ (d, okNumber 0))
+one-or-zero d true e f = inl f
+one-or-zero d false e f = inr f
+
+bit-one : (x : Bool) → bit x ≡ 1 → x ≡ true
+bit-one true e = refl
+bit-one false e = absurd (omega arith)
+
+compared : (d : Desk) (p q : Plan) (x : Bool) (e : Effect) → Kept p → Kept q → same p q ≡ Alike x → e ≡ (d, okNumber (bit x)) → (e ≡ (d, okNumber 1)) ↔ ActAlike p q
+compared d p q x e P Q c f =
+    let i = answers-exact .alike p q P Q (shapes-of-alike p q x c) in (
+      λ g. i .0 (c ∙ ap Alike (bit-one x (ap (λ y. numberOf (y .1)) (sym f ∙ g)))),
+      λ g. f ∙ ap (λ y. (d, okNumber (bit y))) (ap testOf (sym c ∙ i .1 g)),
+    )
+
+compares : (d : Desk) (a b : ℕ) (e : Effect) → IsDesk d → operation d (S a b) ≡ pass e
+    → (p : Plan) × (q : Plan) × (held d (slotNumber a) ≡ some p) × (held d (slotNumber b) ≡ some q)
+    × ((e ≡ (d, okNumber 1)) ⊎ (e ≡ (d, okNumber 0))) × ((e ≡ (d, okNumber 1)) ↔ ActAlike p q)
+compares d a b e h o =
+    let (p, q, x, y, z, c, f) = passed (compare-steps d a b) e o in
+    (p, q, y, z, one-or-zero d x e f, compared d p q x e (h .kept (slotNumber a) p y) (h .kept (slotNumber b) q z) c f)
+
+-- Demand 2.
+pub demand2 : Demand2
+demand2 =
+    record {
+      accepted = accepted;
+      typed = typed;
+      follows = follows;
+      inverts = inverts;
+      repeats = repeats;
+      routes = routes;
+      compares = compares;
+      read-back = listing-read-back;
+    }

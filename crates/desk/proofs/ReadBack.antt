@@ -1,0 +1,238 @@
+-- A listing read back is the same plan: its lines are the P, M and E records of the plan, each is accepted, and what E keeps of a
+-- kept plan is that plan. That comes from higman's theorems.
+use Prim.Native.Nat.{ℕ, suc, _+_, _≤_, _<_}
+use native.Mathlib.Omega.{arith}
+use mathlib.Core.Path.{_≡_, refl, _∙_, ap, ap₂}
+use mathlib.Core.Bool.{Bool, true, false, _&&_, not}
+use mathlib.Core.List.{List, [], _∷_, _++_, append-assoc, append-nil}
+use mathlib.Core.Option.{none, some}
+use borrow.Author.Tests.{ne-eqb, lt-leb}
+use lib.Dec.{T, leb, ltb, eqb, leb→le, le→leb, lt→ltb, lit<, lit≤}
+use lib.ListN.{length, length-append, length-map}
+use Rattle.higman.specs.Words.{Shape, Word, isWord}
+use Rattle.higman.specs.Bases.{all}
+use Rattle.higman.specs.Tables.{Pair, Table, froms, tos}
+use Rattle.higman.specs.Limits.{shapeInRange, granted, fits, pairFits, maxPairs, maxDigits}
+use Rattle.higman.specs.Normal.{keep}
+use Rattle.higman.specs.Answers.{Accepted, verdict}
+use Rattle.higman.specs.Listing.{tab, lineEnd, digitByte, wordBytes, pairRecord, pairRecords, joinLines, closeRecord}
+use Rattle.higman.proofs.Tests.{so, and-left, and-right, and-intro, all-cons}
+use Rattle.higman.proofs.Statements.{normal-form, answers-exact}
+use Rattle.higman.proofs.Columns.{column-is-basis}
+use Rattle.higman.proofs.KeptPlans.{in-range, arity-of-range}
+use Rattle.desk.specs.Text.{Bytes}
+use Rattle.desk.specs.Limits.{slotCount, maxChanges, maxLine}
+use Rattle.desk.specs.Desk.{Draft, Desk, isPlanWord, withDraft, withPair, changed, dropped}
+use Rattle.desk.specs.Records.{Record, P, M, E, fields, digitField, isNumeral, numeralValue, grammar, parse, applied, readFields}
+use Rattle.desk.specs.Replies.{lists, pass, _>>=_, _when_, Effect, silent, okNumber, slotNumber, slotByte, isSlot, wordOf, newDraft, operation, recordOf, lineOperation, settle, respondLine}
+use Rattle.desk.specs.Bytes.{Order, replyBytes}
+use Rattle.desk.specs.Session.{State, idle, grown, feedByte, feed}
+use Rattle.desk.specs.Theorems.{ListingReadBack}
+
+-- bytes without a certain one
+abbrev Without : ℕ → Bytes → Type 0
+Without c [] = Unit {0}
+Without c (b ∷ l) = (eqb b c ≡ false) × Without c l
+
+word-without : (c : ℕ) → c < 48 → (w : Word) → Without c (wordBytes w)
+word-without c h [] = tt
+word-without c h (a ∷ w) = (ne-eqb (48 + a) c (λ e. omega arith), word-without c h w)
+
+without-append : (c : ℕ) (x y : Bytes) → Without c x → Without c y → Without c (x ++ y)
+without-append c [] y h k = k
+without-append c (b ∷ x) y h k = (h .0, without-append c x y (h .1) k)
+
+-- fields of a line
+fields-last : (f : Bytes) → Without tab f → fields f ≡ f ∷ []
+fields-last [] h = refl
+fields-last (b ∷ f) h = rw (h .0, fields, fields-last f (h .1))
+
+fields-first : (f rest : Bytes) → Without tab f → fields (f ++ tab ∷ rest) ≡ f ∷ fields rest
+fields-first [] rest h = refl
+fields-first (b ∷ f) rest h = rw (h .0, fields, fields-first f rest (h .1))
+
+value-of-digit : (a : ℕ) → numeralValue (digitByte a) ≡ a
+value-of-digit a = omega arith
+
+word-of-bytes : (w : Word) → wordOf (wordBytes w) ≡ w
+word-of-bytes [] = refl
+word-of-bytes (a ∷ w) = rw (value-of-digit a, word-of-bytes w)
+
+digit-field : (a : ℕ) → a ≤ 9 → digitField (digitByte a ∷ []) ≡ some a
+digit-field a h = rw (numeral, digitField) (ap some (value-of-digit a))
+  where
+    numeral : isNumeral (digitByte a) ≡ true
+    numeral = rw (so (leb 48 (48 + a)) (le→leb 48 (48 + a) (omega arith)), so (leb (48 + a) 57) (le→leb (48 + a) 57 (omega arith)))
+
+-- the three kinds of lines
+abbrev openLine : ℕ → Shape → Bytes
+openLine b s = 80 ∷ tab ∷ b ∷ tab ∷ digitByte (s .arity) ∷ tab ∷ digitByte (s .roots) ∷ []
+
+abbrev pairLine : Pair → Bytes
+pairLine p = 77 ∷ tab ∷ (wordBytes (p .from) ++ tab ∷ wordBytes (p .to))
+
+parse-pair : (p : Pair) → parse (pairLine p) ≡ some (M (wordBytes (p .from)) (wordBytes (p .to)))
+unfolding parse grammar
+parse-pair p = ap readFields fs
+  where
+    fs : fields (pairLine p) ≡ (77 ∷ []) ∷ wordBytes (p .from) ∷ wordBytes (p .to) ∷ []
+    fs = rw (fields-first (wordBytes (p .from)) (wordBytes (p .to)) (word-without tab (omega arith) (p .from)), fields-last (wordBytes (p .to)) (word-without tab (omega arith) (p .to)))
+
+parse-open : (b : ℕ) (s : Shape) → eqb b tab ≡ false → s .arity ≤ 9 → s .roots ≤ 9 → parse (openLine b s) ≡ some (P b (s .arity) (s .roots))
+unfolding parse grammar
+parse-open b s h n r = ap readFields fs ∙ ap₂ (λ x y. applied (applied (some (λ n r. P b n r)) x) y) (digit-field (s .arity) n) (digit-field (s .roots) r)
+  where
+    plain : (a : ℕ) → Without tab (digitByte a ∷ [])
+    plain a = word-without tab (omega arith) (a ∷ [])
+
+    fs : fields (openLine b s) ≡ (80 ∷ []) ∷ (b ∷ []) ∷ (digitByte (s .arity) ∷ []) ∷ (digitByte (s .roots) ∷ []) ∷ []
+    fs = rw (fields-first (b ∷ []) (digitByte (s .arity) ∷ tab ∷ digitByte (s .roots) ∷ []) (h, tt), fields-first (digitByte (s .arity) ∷ []) (digitByte (s .roots) ∷ []) (plain (s .arity)), fields-last (digitByte (s .roots) ∷ []) (plain (s .roots)))
+
+-- a line of a record does what the record does
+respond-record : (d : Desk) (line : Bytes) (r : Record) → length line ≤ maxLine → parse line ≡ some r → respondLine d line ≡ settle d (operation d r)
+unfolding _>>=_ respondLine lineOperation
+respond-record d line r h e = ap (λ o. settle d (o >>= operation d)) whole
+  where
+    whole : recordOf line ≡ pass r
+    whole = rw (so (leb (length line) maxLine) (le→leb (length line) maxLine h), recordOf, e)
+
+when-held : (n : ℕ) (t : Bool) → T t → (n when not t) ≡ pass tt
+when-held n true h = refl
+when-held n false h = absurd h
+
+operation-open : (d : Desk) (b : ℕ) (s : Shape) → T (isSlot b) → T (shapeInRange s) → operation (dropped d) (P b (s .arity) (s .roots)) ≡ pass (withDraft d (newDraft b s), silent)
+unfolding _>>=_ operation dropped withDraft
+operation-open d b s h k = rw (when-held 8 (all isSlot (b ∷ [])) (all-cons isSlot b [] h tt), when-held 3 (shapeInRange s) k)
+
+operation-pair : (d : Desk) (o : Draft) (p : Pair) → T (isPlanWord (o .shape) (p .from) && isPlanWord (o .shape) (p .to)) → length (o .rows) < maxPairs
+    → operation (withDraft d o) (M (wordBytes (p .from)) (wordBytes (p .to))) ≡ pass (withDraft d (withPair o p), silent)
+unfolding _>>=_ operation withDraft
+operation-pair d o p h k = rw (word-of-bytes (p .from), word-of-bytes (p .to), when-held 4 (isPlanWord (o .shape) (p .from) && isPlanWord (o .shape) (p .to)) h, lt-leb maxPairs (length (o .rows)) k)
+
+operation-close : (d : Desk) (o : Draft) → verdict (o .shape) (o .rows) ≡ Accepted → keep (o .shape) (o .rows) ≡ o .rows → d .changes < maxChanges
+    → operation (withDraft d o) E ≡ pass (changed d (o .slot) (some (record { shape = o .shape; rows = o .rows })), okNumber (length (o .rows)))
+unfolding _>>=_ operation withDraft changed
+operation-close d o v k h = rw (v, lt-leb maxChanges (d .changes) h, k)
+
+-- the words of a table are words in a plan
+abbrev Spelt : Shape → Table → Type 0
+Spelt s [] = Unit {0}
+Spelt s (p ∷ t) = T (isPlanWord s (p .from) && isPlanWord s (p .to)) × Spelt s t
+
+all-first : {A : Type 0} (f : A → Bool) (x : A) (l : List A) → T (all f (x ∷ l)) → T (f x) × T (all f l)
+all-first f x l h = by (f x) h
+  where
+    by : (b : Bool) → T (elim b [ true ↦ all f l | false ↦ false ]) → T b × T (all f l)
+    by true t = (tt, t)
+    by false t = absurd t
+
+spelt : (s : Shape) (t : Table) → T (all (isWord s) (froms t)) → T (all (isWord s) (tos t)) → T (all pairFits t) → Spelt s t
+spelt s [] f g h = tt
+spelt s (p ∷ t) f g h =
+    let f′ = all-first (isWord s) (p .from) (froms t) f in
+    let g′ = all-first (isWord s) (p .to) (tos t) g in
+    let h′ = all-first pairFits p t h in (
+      and-intro (isPlanWord s (p .from)) (isPlanWord s (p .to))
+          (and-intro (isWord s (p .from)) (fits (p .from)) (f′ .0) (and-left (fits (p .from)) (fits (p .to)) (h′ .0)))
+          (and-intro (isWord s (p .to)) (fits (p .to)) (g′ .0) (and-right (fits (p .from)) (fits (p .to)) (h′ .0))),
+      spelt s t (f′ .1) (g′ .1) (h′ .1),
+    )
+
+word-fits : (s : Shape) (w : Word) → T (isPlanWord s w) → length w ≤ maxDigits
+word-fits s w h = leb→le (length w) maxDigits (and-right (isWord s w) (fits w) h)
+
+pair-line-fits : (p : Pair) → length (p .from) ≤ maxDigits → length (p .to) ≤ maxDigits → length (pairLine p) ≤ maxLine
+unfolding maxDigits maxLine
+pair-line-fits p h k = simp (length-append, length-map) (omega arith)
+
+pair-line-inside : (p : Pair) → Without lineEnd (pairLine p)
+pair-line-inside p = (refl, (refl, without-append lineEnd (wordBytes (p .from)) (tab ∷ wordBytes (p .to)) (word-without lineEnd (lit< tt) (p .from)) (refl, word-without lineEnd (lit< tt) (p .to))))
+
+pair-record : (p : Pair) (y : Bytes) → pairRecord p ++ y ≡ pairLine p ++ lineEnd ∷ y
+pair-record p y = simp append-assoc
+
+abbrev draftOf : ℕ → Shape → Table → Draft
+draftOf i s t = record { slot = i; shape = s; rows = t }
+
+module _ (order : Order) where
+  -- the rest of the input, after a line
+  abbrev after : Effect → Bytes → State × Bytes
+  after e rest = let q = feed order (idle (e .0)) rest in (q .0, replyBytes order (e .1) ++ q .1)
+
+  line-ends : (d : Desk) (l rest : Bytes) → feed order (record { desk = d; line = l; overlong = false }) (lineEnd ∷ rest) ≡ after (respondLine d l) rest
+  unfolding feed feedByte
+  line-ends d l rest = refl
+
+  byte-kept : (d : Desk) (l : Bytes) (b : ℕ) → eqb b lineEnd ≡ false → length l < maxLine → feedByte order (record { desk = d; line = l; overlong = false }) b ≡ (record { desk = d; line = l ++ (b ∷ []); overlong = false }, [])
+  unfolding feedByte
+  byte-kept d l b e h = rw (e, feedByte, so (ltb (length l) maxLine) (lt→ltb (length l) maxLine h), grown)
+
+  feed-line : (d : Desk) (l x rest : Bytes) → Without lineEnd x → length (l ++ x) ≤ maxLine → feed order (record { desk = d; line = l; overlong = false }) (x ++ lineEnd ∷ rest) ≡ after (respondLine d (l ++ x)) rest
+  unfolding feed
+  feed-line d l [] rest w h = line-ends d l rest ∙ rw append-nil
+  feed-line d l (b ∷ x) rest w h =
+      let k : length l < maxLine = omega (arith, simp length-append at h) in
+      rw (byte-kept d l b (w .0)) (feed-line d (l ++ (b ∷ [])) x rest (w .1) (rw append-assoc h) ∙ rw append-assoc)
+
+  -- a line of a record that passes
+  feed-record : (d : Desk) (line : Bytes) (r : Record) (e : Effect) (rest : Bytes) → Without lineEnd line → length line ≤ maxLine → parse line ≡ some r → operation d r ≡ pass e → feed order (idle d) (line ++ lineEnd ∷ rest) ≡ after e rest
+  feed-record d line r e rest w h q o = feed-line d [] line rest w h ∙ ap (λ x. after x rest) (respond-record d line r h q ∙ ap (settle d) o)
+
+  feed-pairs : (d : Desk) (i : ℕ) (s : Shape) (todo past : Table) (rest : Bytes) → Spelt s todo → length (past ++ todo) ≤ maxPairs → feed order (idle (withDraft d (draftOf i s past))) (joinLines (pairRecords todo) ++ rest) ≡ feed order (idle (withDraft d (draftOf i s (past ++ todo)))) rest
+  unfolding replyBytes
+  feed-pairs d i s [] past rest w h = rw append-nil
+  feed-pairs d i s (p ∷ todo) past rest w h =
+      let room : length past < maxPairs = omega (arith, simp length-append at h) in
+      let more : Bytes = joinLines (pairRecords todo) ++ rest in
+      ap (feed order (idle (withDraft d (draftOf i s past)))) (append-assoc (pairRecord p) (joinLines (pairRecords todo)) rest ∙ pair-record p more)
+      ∙ feed-record (withDraft d (draftOf i s past)) (pairLine p) (M (wordBytes (p .from)) (wordBytes (p .to))) (withDraft d (draftOf i s (past ++ (p ∷ []))), silent) more (pair-line-inside p) (pair-line-fits p (word-fits s (p .from) (and-left (isPlanWord s (p .from)) (isPlanWord s (p .to)) (w .0))) (word-fits s (p .to) (and-right (isPlanWord s (p .from)) (isPlanWord s (p .to)) (w .0)))) (parse-pair p) (operation-pair d (draftOf i s past) p (w .0) room)
+      ∙ feed-pairs d i s todo (past ++ (p ∷ [])) rest (w .1) (rw append-assoc h)
+      ∙ ap (λ t. feed order (idle (withDraft d (draftOf i s t))) rest) (append-assoc past (p ∷ []) todo)
+
+  -- nothing is left of the input
+  after-all : (e : Effect) → after e [] ≡ (idle (e .0), replyBytes order (e .1))
+  unfolding feed
+  after-all e = λ i. (idle (e .0), append-nil (replyBytes order (e .1)) i)
+
+parse-close : parse (69 ∷ []) ≡ some E
+unfolding parse grammar
+parse-close = refl
+
+open-line-inside : (b : ℕ) (s : Shape) → eqb b lineEnd ≡ false → Without lineEnd (openLine b s)
+open-line-inside b s h = (refl, (refl, (h, (refl, (digit (s .arity), (refl, (digit (s .roots), tt)))))))
+  where
+    digit : (a : ℕ) → eqb (digitByte a) lineEnd ≡ false
+    digit a = word-without lineEnd (lit< tt) (a ∷ []) .0
+
+open-line-fits : (b : ℕ) (s : Shape) → length (openLine b s) ≤ maxLine
+unfolding maxLine
+open-line-fits b s = lit≤ tt
+
+close-line-fits : length {A = ℕ} (69 ∷ []) ≤ maxLine
+unfolding maxLine
+close-line-fits = lit≤ tt
+
+slot-plain : (b c : ℕ) → T (isSlot b) → c < 65 → eqb b c ≡ false
+slot-plain b c h k = ne-eqb b c (λ e. let low : 65 ≤ b = leb→le 65 b (and-left (leb 65 b) (leb (suc b) (slotByte slotCount)) h) in omega arith)
+
+without-draft : (d : Desk) → d .draft ≡ none → d ≡ dropped d
+unfolding dropped
+without-draft d e = λ i. record { slots = d .slots; draft = e i; changes = d .changes }
+
+pub listing-read-back : ListingReadBack
+unfolding replyBytes granted
+listing-read-back order d e room b h p k =
+    let s : Shape = p .shape in
+    let t : Table = p .rows in
+    let range = in-range s (k .in-range) in
+    let n = arity-of-range s (k .in-range) in
+    let from-words = column-is-basis s n (froms t) .0 (k .bases .from-basis) .words in
+    let to-words = column-is-basis s n (tos t) .0 (k .bases .to-basis) .words in
+    let accepted = answers-exact .accepted s n t from-words to-words .1 (k .bases) in
+    let own = normal-form .own s n t (k .bases) .0 (k .reduced, k .in-order) in
+    let i : ℕ = slotNumber b in
+    ap (λ x. feed order (idle x) (replyBytes order (lists b p))) (without-draft d e)
+    ∙ feed-record order (dropped d) (openLine b s) (P b (s .arity) (s .roots)) (withDraft d (newDraft b s), silent) (joinLines (pairRecords t) ++ closeRecord) (open-line-inside b s (slot-plain b lineEnd h (lit< tt))) (open-line-fits b s) (parse-open b s (slot-plain b tab h (lit< tt)) (range .arity-high) (range .roots-high)) (operation-open d b s h (k .in-range))
+    ∙ feed-pairs order d i s t [] closeRecord (spelt s t from-words to-words (and-right (leb (length t) maxPairs) (all pairFits t) (k .within))) (leb→le (length t) maxPairs (and-left (leb (length t) maxPairs) (all pairFits t) (k .within)))
+    ∙ feed-record order (withDraft d (draftOf i s t)) (69 ∷ []) E (changed d i (some p), okNumber (length t)) [] (refl, tt) close-line-fits parse-close (operation-close d (draftOf i s t) accepted own room)
+    ∙ after-all order (changed d i (some p), okNumber (length t))

@@ -1,0 +1,189 @@
+-- A desk stays one, whatever line it is given. What is kept is a kept plan by higman's theorems; the rest is that one slot is
+-- written and the others are not.
+use Prim.Native.Nat.{ℕ, zero, suc, _≤_, _<_, zero-le}
+use native.Mathlib.Omega.{arith}
+use mathlib.Core.Path.{_≡_, refl, sym, _∙_, subst}
+use mathlib.Core.Logic.{_⊎_, inl, inr}
+use mathlib.Core.Bool.{Bool, true, false, _&&_, not}
+use mathlib.Core.List.{List, [], _∷_, _++_, map-append, List·Memᴰ·head}
+use mathlib.Core.Option.{Option, none, some, Option·some-injective, Option·none-ne-some}
+use lib.Dec.{T, leb, leb→le, le→leb, nleb→lt, not-T}
+use lib.ListN.{length, getD, set, replicate, length-set, length-append, length-replicate}
+use Rattle.higman.specs.Words.{Shape, Word, isWord}
+use Rattle.higman.specs.Bases.{all}
+use Rattle.higman.specs.Tables.{Pair, Table, froms, tos}
+use Rattle.higman.specs.Limits.{Plan, Kept, shapeInRange, granted, fits, pairFits, maxPairs}
+use Rattle.higman.specs.Answers.{Verdict, Accepted, InFrom, InTo, verdict, Answer, Granted, Refused, followed, inverted, powered}
+use Rattle.higman.proofs.Demand3.{demand3}
+use Rattle.higman.proofs.Statements.{answers-exact}
+use Rattle.higman.proofs.Tests.{so, clash, and-left, and-right, and-intro, all-cons, all-at}
+use Rattle.higman.proofs.KeptPlans.{arity-of-range}
+use Rattle.desk.specs.Text.{Bytes, byte}
+use Rattle.desk.specs.Limits.{slotCount, maxChanges}
+use Rattle.desk.specs.Desk.{Draft, Desk, freshDesk, held, isPlanWord, IsDraft, IsDesk, changed, withDraft, dropped, withPair}
+use Rattle.desk.specs.Records.{Record, P, M, E, F, I, K, S, W, L, C, T as Tᴿ, U}
+use Rattle.desk.specs.Replies.{Outcome, refuse, pass, _when_, openPlan, slotNumber, slotByte, isSlot, planIn, atLimit, wordOf, ofVerdict, ofAnswer, Effect, newDraft, closed, operation, recordOf, lineOperation, settle, respondLine}
+use Rattle.desk.specs.Theorems.{DeskStays}
+use Rattle.desk.proofs.Outcomes.{Passes, stops, passes, passes-then, any-then}
+
+-- what a slot holds after one was written: what was written, or what it held
+held-set : (l : List (Option Plan)) (i j : ℕ) (x : Option Plan) (p : Plan) → getD (set l i x) j none ≡ some p → (x ≡ some p) ⊎ (getD l j none ≡ some p)
+held-set [] i j x p e = inr e
+held-set (y ∷ l) zero zero x p e = inl e
+held-set (y ∷ l) zero (suc j) x p e = inr e
+held-set (y ∷ l) (suc i) zero x p e = inr e
+held-set (y ∷ l) (suc i) (suc j) x p e = held-set l i j x p e
+
+all-snoc : {A : Type 0} (f : A → Bool) (l : List A) (x : A) → T (all f l) → T (f x) → T (all f (l ++ (x ∷ [])))
+all-snoc f [] x h k = all-cons f x [] k tt
+all-snoc f (y ∷ l) x h k = by-first (f y) h (λ t. all-snoc f l x t k)
+  where
+    by-first : (b : Bool) → T (elim b [ true ↦ all f l | false ↦ false ]) → (T (all f l) → T (all f (l ++ (x ∷ [])))) → T (elim b [ true ↦ all f (l ++ (x ∷ [])) | false ↦ false ])
+    by-first true t next = next t
+    by-first false t next = t
+
+below-limit : (d : Desk) → atLimit d ≡ false → d .changes < maxChanges
+below-limit d e = nleb→lt maxChanges (d .changes) (not-T (leb maxChanges (d .changes)) (λ t. clash (so (leb maxChanges (d .changes)) t) e))
+
+no-draft : {A : Type 0} {o : Draft} → none ≡ some o → A
+no-draft q = absurd (Option·none-ne-some _ q)
+
+changed-desk : (d : Desk) → IsDesk d → atLimit d ≡ false → (i : ℕ) (x : Option Plan) → ((p : Plan) → x ≡ some p → Kept p) → IsDesk (changed d i x)
+unfolding changed
+changed-desk d h e i x k = record { eight = length-set (d .slots) i x ∙ h .eight; kept = λ j p q. by j p (held-set (d .slots) i j x p q); drafted = λ o q. no-draft q; counted = let b : d .changes < maxChanges = below-limit d e in omega arith }
+  where
+    by : (j : ℕ) (p : Plan) → (x ≡ some p) ⊎ (held d j ≡ some p) → Kept p
+    by j p (inl q) = k p q
+    by j p (inr q) = h .kept j p q
+
+dropped-desk : (d : Desk) → IsDesk d → IsDesk (dropped d)
+unfolding dropped
+dropped-desk d h = record { eight = h .eight; kept = h .kept; drafted = λ o q. no-draft q; counted = h .counted }
+
+drafted-desk : (d : Desk) → IsDesk d → (o : Draft) → IsDraft o → IsDesk (withDraft d o)
+unfolding withDraft
+drafted-desk d h o k = record { eight = h .eight; kept = h .kept; drafted = λ o′ q. subst IsDraft (Option·some-injective o o′ q) k; counted = h .counted }
+
+fresh-desk : IsDesk freshDesk
+unfolding freshDesk
+fresh-desk = record { eight = length-replicate slotCount none; kept = λ i p q. absurd (Option·none-ne-some p (sym (held-none slotCount i) ∙ q)); drafted = λ o q. no-draft q; counted = zero-le }
+  where
+    held-none : (n i : ℕ) → _≡_ {A = Option Plan} (getD (replicate n none) i none) none
+    held-none zero i = refl
+    held-none (suc n) zero = refl
+    held-none (suc n) (suc i) = held-none n i
+
+-- what each step passes on
+test-failed : (n : ℕ) (t : Bool) → Passes (λ _. t ≡ false) (n when t)
+test-failed n true = stops
+test-failed n false = passes refl
+
+test-held : (n : ℕ) (t : Bool) → Passes (λ _. T t) (n when not t)
+test-held n true = passes tt
+test-held n false = stops
+
+plan-kept : (d : Desk) → IsDesk d → (b : ℕ) → Passes Kept (planIn d b)
+plan-kept d h b = by (held d (slotNumber b)) refl
+  where
+    by : (x : Option Plan) → held d (slotNumber b) ≡ x → Passes Kept (elim x [ none ↦ refuse 9 none | some p ↦ pass p ])
+    by none q = stops
+    by (some p) q = passes (h .kept (slotNumber b) p q)
+
+draft-open : (d : Desk) → IsDesk d → Passes IsDraft (openPlan d)
+draft-open d h = by (d .draft) refl
+  where
+    by : (x : Option Draft) → d .draft ≡ x → Passes IsDraft (elim x [ none ↦ refuse 2 none | some o ↦ pass o ])
+    by none q = stops
+    by (some o) q = passes (h .drafted o q)
+
+granted-kept : (a : Answer) → ((p : Plan) → a ≡ Granted p → Kept p) → Passes Kept (ofAnswer a)
+granted-kept (Granted p) k = passes (k p refl)
+granted-kept (Refused r) k = stops
+
+accepted : (v : Verdict) → Passes (λ _. v ≡ Accepted) (ofVerdict v)
+accepted Accepted = passes refl
+accepted (InFrom r) = stops
+accepted (InTo r) = stops
+
+slot-below : (a : ℕ) → T (isSlot a) → slotNumber a < slotCount
+slot-below a h =
+    let low : byte "A" ≤ a = leb→le (byte "A") a (and-left (leb (byte "A") a) (leb (suc a) (slotByte slotCount)) h) in
+    let high : suc a ≤ slotByte slotCount = leb→le (suc a) (slotByte slotCount) (and-right (leb (byte "A") a) (leb (suc a) (slotByte slotCount)) h) in
+    omega arith
+
+new-draft : (a : ℕ) (s : Shape) → T (all isSlot (a ∷ [])) → T (shapeInRange s) → IsDraft (newDraft a s)
+unfolding granted maxPairs
+new-draft a s h k = record { slot-named = slot-below a (all-at isSlot (a ∷ []) h a (List·Memᴰ·head refl)); in-range = k; within = tt; from-words = tt; to-words = tt }
+
+-- a word in a plan, as M tests it
+module _ (s : Shape) (w : Word) (h : T (isPlanWord s w)) where
+  plan-word : T (isWord s w)
+  plan-word = and-left (isWord s w) (fits w) h
+
+  plan-fits : T (fits w)
+  plan-fits = and-right (isWord s w) (fits w) h
+
+granted-snoc : (t : Table) (p : Pair) → T (granted t) → T (pairFits p) → leb maxPairs (length t) ≡ false → T (granted (t ++ (p ∷ [])))
+unfolding granted
+granted-snoc t p h k e =
+    let room : length t < maxPairs = nleb→lt maxPairs (length t) (not-T (leb maxPairs (length t)) (λ b. clash (so (leb maxPairs (length t)) b) e)) in
+    and-intro (leb (length (t ++ (p ∷ []))) maxPairs) (all pairFits (t ++ (p ∷ [])))
+    (le→leb (length (t ++ (p ∷ []))) maxPairs (simp length-append (omega arith)))
+    (all-snoc pairFits t p (and-right (leb (length t) maxPairs) (all pairFits t) h) k)
+
+longer-draft : (o : Draft) → IsDraft o → (p : Pair) → T (isPlanWord (o .shape) (p .from) && isPlanWord (o .shape) (p .to)) → leb maxPairs (length (o .rows)) ≡ false → IsDraft (withPair o p)
+longer-draft o h p k e =
+    record {
+      slot-named = h .slot-named;
+      in-range = h .in-range;
+      within = granted-snoc (o .rows) p (h .within) (and-intro (fits (p .from)) (fits (p .to)) (plan-fits s (p .from) from) (plan-fits s (p .to) to)) e;
+      from-words = rw map-append (all-snoc (isWord s) (froms (o .rows)) (p .from) (h .from-words) (plan-word s (p .from) from));
+      to-words = rw map-append (all-snoc (isWord s) (tos (o .rows)) (p .to) (h .to-words) (plan-word s (p .to) to));
+    }
+  where
+    s : Shape
+    s = o .shape
+
+    from : T (isPlanWord s (p .from))
+    from = and-left (isPlanWord s (p .from)) (isPlanWord s (p .to)) k
+
+    to : T (isPlanWord s (p .to))
+    to = and-right (isPlanWord s (p .from)) (isPlanWord s (p .to)) k
+
+abbrev Stays : Effect → Type 0
+Stays e = IsDesk (e .0)
+
+none-kept : (p : Plan) → none ≡ some p → Kept p
+none-kept p q = absurd (Option·none-ne-some p q)
+
+some-kept : (r : Plan) → Kept r → (p : Plan) → some r ≡ some p → Kept p
+some-kept r k p q = subst Kept (Option·some-injective r p q) k
+
+closed-kept : (o : Draft) → IsDraft o → verdict (o .shape) (o .rows) ≡ Accepted → Kept (closed o)
+closed-kept o h e = answers-exact .keeps (o .shape) (h .in-range) (o .rows) (answers-exact .accepted (o .shape) (arity-of-range (o .shape) (h .in-range)) (o .rows) (h .from-words) (h .to-words) .0 e) (h .within)
+
+operation-stays : (d : Desk) → IsDesk d → (r : Record) → Passes Stays (operation d r)
+unfolding operation
+operation-stays d h (P a n r) = any-then _ (λ _. passes-then (test-held 8 (all isSlot (a ∷ []))) (λ _ x. passes-then (test-held 3 (shapeInRange (record { arity = n; roots = r }))) (λ _ y. passes (drafted-desk d h _ (new-draft a _ x y)))))
+operation-stays d h (M from to) = passes-then (draft-open d h) (λ o k. passes-then (test-held 4 (isPlanWord (o .shape) (wordOf from) && isPlanWord (o .shape) (wordOf to))) (λ _ x. passes-then (test-failed 5 _) (λ _ y. passes (drafted-desk d h _ (longer-draft o k _ x y)))))
+operation-stays d h E = passes-then (draft-open d h) (λ o k. passes-then (accepted (verdict (o .shape) (o .rows))) (λ _ v. passes-then (test-failed 16 (atLimit d)) (λ _ l. passes (changed-desk d h l (o .slot) _ (some-kept _ (closed-kept o k v))))))
+operation-stays d h (F a b c) = any-then _ (λ _. any-then _ (λ _. passes-then (plan-kept d h a) (λ p x. passes-then (plan-kept d h b) (λ q y. passes-then (granted-kept (followed p q) (λ r e. demand3 .followed-kept p q r x y e)) (λ r k. passes-then (test-failed 16 (atLimit d)) (λ _ l. passes (changed-desk d h l _ _ (some-kept r k))))))))
+operation-stays d h (I a c) = any-then _ (λ _. any-then _ (λ _. passes-then (plan-kept d h a) (λ p x. passes-then (granted-kept (inverted p) (λ r e. demand3 .inverted-kept p r x e)) (λ r k. passes-then (test-failed 16 (atLimit d)) (λ _ l. passes (changed-desk d h l _ _ (some-kept r k)))))))
+operation-stays d h (K a k c) = any-then _ (λ _. any-then _ (λ _. any-then _ (λ _. passes-then (plan-kept d h a) (λ p x. passes-then (granted-kept (powered p k) (λ r e. demand3 .powered-kept p r k x e)) (λ r y. passes-then (test-failed 16 (atLimit d)) (λ _ l. passes (changed-desk d h l _ _ (some-kept r y))))))))
+operation-stays d h (S a b) = any-then _ (λ _. any-then _ (λ _. any-then _ (λ _. any-then _ (λ _. any-then _ (λ _. passes h)))))
+operation-stays d h (W a code) = any-then _ (λ _. any-then _ (λ _. any-then _ (λ _. any-then _ (λ _. passes h))))
+operation-stays d h (L a) = any-then _ (λ _. any-then _ (λ _. any-then _ (λ _. passes h)))
+operation-stays d h (C a) = any-then _ (λ _. any-then _ (λ _. any-then _ (λ _. passes-then (test-failed 16 (atLimit d)) (λ _ l. passes (changed-desk d h l _ none none-kept)))))
+operation-stays d h Tᴿ = any-then _ (λ _. passes h)
+operation-stays d h U = any-then _ (λ _. passes h)
+
+settled : (d : Desk) → IsDesk d → (o : Outcome Effect) → Passes Stays o → IsDesk (settle d o .0)
+settled d h (refuse n c) k = dropped-desk d h
+settled d h (pass e) (passes k) = k
+
+line-stays : (d : Desk) (l : Bytes) → IsDesk d → IsDesk (respondLine d l .0)
+unfolding respondLine lineOperation
+line-stays d l h = settled d h (lineOperation d l) (any-then (recordOf l) (operation-stays d h))
+
+pub desk-stays : DeskStays
+desk-stays = record { fresh = fresh-desk; line = line-stays }

@@ -1,0 +1,77 @@
+-- The library's side (document 01, the end of "When each operation says no"): what a call answers, what a lent buffer holds after it
+-- and what became of the desk. 15 comes before every other number and 14 after them. Read Theorems.antt next.
+use Prim.Native.Nat.{ℕ}
+use mathlib.Core.Path.{_≡_, refl}
+use mathlib.Core.Bool.{true, false}
+use mathlib.Core.List.{[], _++_}
+use mathlib.Core.Option.{none}
+use lib.Dec.{leb}
+use lib.ListN.{length, drop}
+use Rattle.desk.specs.Text.{Bytes, bytes}
+use Rattle.desk.specs.Limits.{slotCount, maxChanges}
+use Rattle.desk.specs.Desk.{Desk, freshDesk, dropped, isDesk}
+use Rattle.desk.specs.Records.{T}
+use Rattle.desk.specs.Replies.{Reply, Outcome, refuse, pass, _>>=_, Effect, settle, operation}
+use Rattle.desk.specs.Bytes.{Order, replyBytes}
+
+-- a lent buffer after a call, and the call's answer: how many bytes it wrote, or a refusal
+pub record Lent : Type 0 where
+  pub buffer : Bytes
+  pub answer : Outcome ℕ
+
+-- "On success only the bytes of the output change": those at the start of the buffer
+abbrev pub overwritten : Bytes → Bytes → Bytes
+overwritten buffer output = output ++ drop (length output) buffer
+
+-- "14 last: the lent buffer is shorter than the output"; at any refusal it "then holds what it held before"
+unfoldable pub lent : Bytes → Outcome Bytes → Lent
+lent buffer (refuse n c) = record { buffer = buffer; answer = refuse n c }
+lent buffer (pass output) =
+    elim
+    (leb (length output) (length buffer)) [
+      | true ↦ record { buffer = overwritten buffer output; answer = pass (length output) }
+      | false ↦ record { buffer = buffer; answer = refuse 14 none }
+    ]
+
+-- the bytes of a reply
+abbrev pub outputOf : Order → Outcome Effect → Outcome Bytes
+outputOf order o = o >>= λ e. pass (replyBytes order (e .1))
+
+-- A refusal with 14 leaves the desk as any other does: the open plan is dropped, and the operation is not done.
+abbrev pub deskAfter : Desk → Outcome Effect → Outcome ℕ → Desk
+deskAfter d o (refuse n c) = dropped d
+deskAfter d o (pass n) = settle d o .0
+
+-- A call that does an operation on a desk and writes the reply into a lent buffer. "15 before all these: a plan or desk handed in
+-- isn't one as described above; such a desk has no open plan to drop and is left as it came."
+unfoldable pub lentCall : Order → Desk → Outcome Effect → Bytes → Desk × Lent
+lentCall order d o buffer =
+    elim
+    (isDesk d) [
+      | true ↦ let l = lent buffer (outputOf order o) in (deskAfter d o (l .answer), l)
+      | false ↦ (d, lent buffer (refuse 15 none))
+    ]
+
+-- A call that does an operation on a desk and is lent nothing: the reply is its value.
+abbrev pub replyOf : Outcome Effect → Outcome Reply
+replyOf o = o >>= λ e. pass (e .1)
+
+unfoldable pub plainCall : Desk → Outcome Effect → Desk × Outcome Reply
+plainCall d o = elim (isDesk d) [ true ↦ (settle d o .0, replyOf o) | false ↦ (d, refuse 15 none) ]
+
+-- T on a fresh desk, with room for its reply and one byte short of it
+lentCall-example : (order : Order) →
+    lentCall order freshDesk (operation freshDesk T) (bytes ".......") ≡ (freshDesk, record { buffer = bytes "ok\t0\n.."; answer = pass 5 })
+unfolding _>>=_ lentCall lent isDesk operation replyBytes freshDesk slotCount maxChanges
+lentCall-example order = refl
+
+too-short-example : (order : Order) →
+    lentCall order freshDesk (operation freshDesk T) (bytes "....") ≡ (freshDesk, record { buffer = bytes "...."; answer = refuse 14 none })
+unfolding _>>=_ lentCall lent isDesk operation replyBytes freshDesk dropped slotCount maxChanges
+too-short-example order = refl
+
+-- no desk: it has no slots
+no-desk-example : (order : Order) →
+    lentCall order (record { slots = []; draft = none; changes = 0 }) (refuse 1 none) (bytes ".") ≡ (record { slots = []; draft = none; changes = 0 }, record { buffer = bytes "."; answer = refuse 15 none })
+unfolding lentCall lent isDesk slotCount
+no-desk-example order = refl

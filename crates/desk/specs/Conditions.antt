@@ -1,0 +1,143 @@
+-- "When each operation says no", as a table: for each record the numbers in the paper's order, each with its condition. Demand 1 says
+-- that the first whose condition holds is given, and that the operation is done where none holds. Read Demands.antt next.
+use Prim.Native.Nat.{ℕ}
+use mathlib.Core.Path.{_≡_, refl}
+use mathlib.Core.Bool.{Bool, true, false, _&&_, _||_, not}
+use mathlib.Core.List.{List, [], _∷_}
+use mathlib.Core.Option.{Option, none, some}
+use lib.Dec.{leb}
+use lib.IntN.{pos, natAbs}
+use lib.ListN.{length}
+use Rattle.higman.specs.Words.{given}
+use Rattle.higman.specs.Bases.{overlap, gap}
+use Rattle.higman.specs.Tables.{froms, tos, image}
+use Rattle.higman.specs.Normal.{compose}
+use Rattle.higman.specs.Limits.{Plan, shapeInRange, granted, isCode, maxPairs, maxPower}
+use Rattle.higman.specs.Answers.{sameShape, raised, repeatable}
+use Rattle.higman.specs.Cases.{Letter}
+use Rattle.desk.specs.Limits.{slotCount}
+use Rattle.desk.specs.Desk.{Draft, Desk, freshDesk, held, isPlanWord}
+use Rattle.desk.specs.Records.{Record, P, M, E, F, I, K, S, W, L, C, T, U}
+use Rattle.desk.specs.Replies.{Outcome, refuse, pass, isOpen, outside, slotNumber, atLimit, wordOf}
+
+-- a refusal's number, the column it adds, and the condition it is given under
+pub record Condition : Type 0 where
+  pub number : ℕ
+  pub column : Option Letter
+  pub holds : Bool
+
+infix 4 _if_
+abbrev pub _if_ : ℕ → Bool → Condition
+n if b = record { number = n; column = none; holds = b }
+
+-- a condition that names a column
+abbrev pub inColumn : ℕ → Letter → Bool → Condition
+inColumn n c b = record { number = n; column = some c; holds = b }
+
+-- no plan in the slot
+abbrev pub isEmpty : Desk → ℕ → Bool
+isEmpty d a = not (given (held d (slotNumber a)))
+
+-- a test of what a slot, or the open plan, holds; it is asked only behind the test that something is there
+abbrev pub ofPlan : Desk → ℕ → (Plan → Bool) → Bool
+ofPlan d a test = elim (held d (slotNumber a)) [ none ↦ false | some p ↦ test p ]
+
+abbrev pub ofOpen : Desk → (Draft → Bool) → Bool
+ofOpen d test = elim (d .draft) [ none ↦ false | some o ↦ test o ]
+
+abbrev pub ofBoth : Desk → ℕ → ℕ → (Plan → Plan → Bool) → Bool
+ofBoth d a b test = ofPlan d a (λ p. ofPlan d b (λ q. test p q))
+
+unfoldable pub conditions : Desk → Record → List Condition
+-- "P: then 8, a slot byte outside A to H; 3, n or r outside its range."
+conditions d (P a n r) =
+    (2 if isOpen d) ∷
+    (8 if outside (a ∷ [])) ∷
+    (3 if not (shapeInRange (record { arity = n; roots = r }))) ∷
+    []
+-- "M: then 4, a word that is empty, too long or has a wrong digit; 5, a 129th pair."
+conditions d (M from to) =
+    (2 if not (isOpen d)) ∷
+    (4 if ofOpen d (λ o. not (isPlanWord (o .shape) (wordOf from) && isPlanWord (o .shape) (wordOf to)))) ∷
+    (5 if ofOpen d (λ o. leb maxPairs (length (o .rows)))) ∷
+    []
+-- "E: then two checks, both made of the from column and after that both of the to column .. Then 16, the count is at its limit."
+conditions d E =
+    (2 if not (isOpen d)) ∷
+    inColumn 6 Letter.F (ofOpen d (λ o. overlap (froms (o .rows)))) ∷
+    inColumn 7 Letter.F (ofOpen d (λ o. gap (o .shape) (froms (o .rows)))) ∷
+    inColumn 6 Letter.T (ofOpen d (λ o. overlap (tos (o .rows)))) ∷
+    inColumn 7 Letter.T (ofOpen d (λ o. gap (o .shape) (tos (o .rows)))) ∷
+    (16 if atLimit d) ∷
+    []
+-- "F: then 8; 9, a or b empty; 10, shapes differ; 11, the reduced result breaks a limit; 16."
+conditions d (F a b c) =
+    (2 if isOpen d) ∷
+    (8 if outside (a ∷ b ∷ c ∷ [])) ∷
+    (9 if isEmpty d a || isEmpty d b) ∷
+    (10 if ofBoth d a b (λ p q. not (sameShape (p .shape) (q .shape)))) ∷
+    (11 if ofBoth d a b (λ p q. not (granted (compose (p .shape) (p .rows) (q .rows))))) ∷
+    (16 if atLimit d) ∷
+    []
+-- "I: then 8; 9; 16."
+conditions d (I a c) =
+    (2 if isOpen d) ∷
+    (8 if outside (a ∷ c ∷ [])) ∷
+    (9 if isEmpty d a) ∷
+    (16 if atLimit d) ∷
+    []
+-- "K: then 8; 12, k outside −1,000 to 1,000; 9; 11, some reduced power from 1 up to the size of k breaks a limit; 16."
+conditions d (K a k c) =
+    (2 if isOpen d) ∷
+    (8 if outside (a ∷ c ∷ [])) ∷
+    (12 if not (leb (natAbs k) maxPower)) ∷
+    (9 if isEmpty d a) ∷
+    (11 if ofPlan d a (λ p. not (given (raised (p .shape) (repeatable p k) (natAbs k))))) ∷
+    (16 if atLimit d) ∷
+    []
+-- "S: then 8; 9; 10."
+conditions d (S a b) =
+    (2 if isOpen d) ∷
+    (8 if outside (a ∷ b ∷ [])) ∷
+    (9 if isEmpty d a || isEmpty d b) ∷
+    (10 if ofBoth d a b (λ p q. not (sameShape (p .shape) (q .shape)))) ∷
+    []
+-- "W: then 8; 9; 4; 13, the code is a proper beginning of a from-word."
+conditions d (W a code) =
+    (2 if isOpen d) ∷
+    (8 if outside (a ∷ [])) ∷
+    (9 if isEmpty d a) ∷
+    (4 if ofPlan d a (λ p. not (isCode (p .shape) (wordOf code)))) ∷
+    (13 if ofPlan d a (λ p. not (given (image (p .rows) (wordOf code))))) ∷
+    []
+-- "L: 8; 9."
+conditions d (L a) =
+    (2 if isOpen d) ∷
+    (8 if outside (a ∷ [])) ∷
+    (9 if isEmpty d a) ∷
+    []
+-- "C: the same" as I
+conditions d (C a) =
+    (2 if isOpen d) ∷
+    (8 if outside (a ∷ [])) ∷
+    (9 if isEmpty d a) ∷
+    (16 if atLimit d) ∷
+    []
+-- "U and T: no more."
+conditions d T = (2 if isOpen d) ∷ []
+conditions d U = (2 if isOpen d) ∷ []
+
+-- the first condition that holds: its number and column
+abbrev pub firstOf : List Condition → Option (ℕ × Option Letter)
+firstOf [] = none
+firstOf (c ∷ cs) = elim (c .holds) [ true ↦ some (c .number, c .column) | false ↦ firstOf cs ]
+
+-- what an operation was refused with, if it was
+abbrev pub refusalOf : {A : Type 0} → Outcome A → Option (ℕ × Option Letter)
+refusalOf (refuse n c) = some (n, c)
+refusalOf (pass a) = none
+
+-- a slot outside comes before an empty one, and a power outside too
+conditions-example : firstOf (conditions freshDesk (K 65 (pos 1001) 65)) ≡ some (12, none)
+unfolding conditions freshDesk slotCount maxPower
+conditions-example = refl

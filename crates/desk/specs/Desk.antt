@@ -1,0 +1,105 @@
+-- The desk (document 01, "Records"): eight slots, at most one open plan, and the count of changes. What it is to be a desk, and the
+-- ways in which a record changes one: a slot is filled or emptied, a plan is opened, gets a pair or is dropped. Read Records.antt next.
+use Prim.Native.Nat.{ℕ, _+_, _≤_, _<_}
+use mathlib.Core.Path.{_≡_, refl}
+use mathlib.Core.Bool.{Bool, true, false, _&&_}
+use mathlib.Core.List.{List, [], _∷_, _++_, map}
+use mathlib.Core.Option.{Option, none, some}
+use lib.Dec.{T, leb, eqb}
+use lib.ListN.{length, getD, set, replicate}
+use Rattle.higman.specs.Words.{Shape, Word, isWord}
+use Rattle.higman.specs.Bases.{all}
+use Rattle.higman.specs.Tables.{Pair, Table, froms, tos, row, sameTable, ψ}
+use Rattle.higman.specs.Normal.{joined, normal, normalForm, keep}
+use Rattle.higman.specs.Limits.{Plan, Kept, shapeInRange, granted, fits, maxPairs, maxDigits}
+use Rattle.higman.specs.Answers.{Verdict, Accepted, InFrom, InTo, verdict}
+use Rattle.desk.specs.Limits.{slotCount, maxChanges}
+
+-- An open plan: the slot it is meant for, from 0 for A, its shape, and its pairs in the order in which M added them.
+pub record Draft : Type 0 where
+  pub slot : ℕ
+  pub shape : Shape
+  pub rows : Table
+
+-- "The desk has slots A to H, at most one open plan, and a count of changes"
+pub record Desk : Type 0 where
+  pub slots : List (Option Plan)
+  pub draft : Option Draft
+  pub changes : ℕ
+
+-- "A fresh desk has empty slots and count 0."
+unfoldable pub freshDesk : Desk
+freshDesk = record { slots = replicate slotCount none; draft = none; changes = 0 }
+
+-- the plan in a slot, if it holds one
+abbrev pub held : Desk → ℕ → Option Plan
+held d i = getD (d .slots) i none
+
+-- "a word that is empty, too long or has a wrong digit" is not a word in a plan
+abbrev pub isPlanWord : Shape → Word → Bool
+isPlanWord s w = isWord s w && fits w
+
+-- An open plan as P and M make one: nothing is known of its columns but that they hold words.
+pub record IsDraft (o : Draft) : Type 0 where
+  pub slot-named : o .slot < slotCount
+  pub in-range : T (shapeInRange (o .shape))
+  pub within : T (granted (o .rows))
+  pub from-words : T (all (isWord (o .shape)) (froms (o .rows)))
+  pub to-words : T (all (isWord (o .shape)) (tos (o .rows)))
+
+pub record IsDesk (d : Desk) : Type 0 where
+  pub eight : length (d .slots) ≡ slotCount
+  pub kept : (i : ℕ) (p : Plan) → held d i ≡ some p → Kept p
+  pub drafted : (o : Draft) → d .draft ≡ some o → IsDraft o
+  pub counted : d .changes ≤ maxChanges
+
+-- A change: what one slot holds from now on. No plan is open afterwards, and "E, F, I, K and C raise the count by one".
+unfoldable pub changed : Desk → ℕ → Option Plan → Desk
+changed d i content = record { slots = set (d .slots) i content; draft = none; changes = d .changes + 1 }
+
+unfoldable pub withDraft : Desk → Draft → Desk
+withDraft d o = record { slots = d .slots; draft = some o; changes = d .changes }
+
+-- "Any refusal drops an open plan and changes nothing else."
+unfoldable pub dropped : Desk → Desk
+dropped d = record { slots = d .slots; draft = none; changes = d .changes }
+
+-- "M⇥from⇥to adds a pair", behind those that are there
+abbrev pub withPair : Draft → Pair → Draft
+withPair o p = record { slot = o .slot; shape = o .shape; rows = o .rows ++ (p ∷ []) }
+
+-- The same as `Kept`, `IsDraft` and `IsDesk`, as tests that compute: a kept plan is one that E would keep just as it is.
+abbrev pub accepts : Verdict → Bool
+accepts Accepted = true
+accepts (InFrom r) = false
+accepts (InTo r) = false
+
+abbrev pub isTableOf : Shape → Table → Bool
+isTableOf s t = shapeInRange s && granted t && all (isWord s) (froms t) && all (isWord s) (tos t)
+
+unfoldable pub isKept : Plan → Bool
+isKept p = isTableOf (p .shape) (p .rows) && accepts (verdict (p .shape) (p .rows)) && sameTable (keep (p .shape) (p .rows)) (p .rows)
+
+abbrev pub allHeld : List (Option Plan) → Bool
+allHeld [] = true
+allHeld (none ∷ l) = allHeld l
+allHeld (some p ∷ l) = isKept p && allHeld l
+
+abbrev pub isDraft : Option Draft → Bool
+isDraft none = true
+isDraft (some o) = leb (o .slot + 1) slotCount && isTableOf (o .shape) (o .rows)
+
+unfoldable pub isDesk : Desk → Bool
+isDesk d = eqb (length (d .slots)) slotCount && allHeld (d .slots) && isDraft (d .draft) && leb (d .changes) maxChanges
+
+-- a fresh desk; one that holds ψ in slot B; one that holds a plan that is not reduced
+isDesk-example : isDesk freshDesk ≡ true
+unfolding isDesk freshDesk slotCount maxChanges
+isDesk-example = refl
+
+abbrev withPlan : Table → Desk
+withPlan t = changed freshDesk 1 (some (record { shape = record { arity = 2; roots = 1 }; rows = t }))
+
+isDesk-held-example : map isDesk (withPlan ψ ∷ withPlan (row 11 11 ∷ row 12 12 ∷ []) ∷ []) ≡ true ∷ false ∷ []
+unfolding isDesk freshDesk changed slotCount maxChanges isKept shapeInRange granted maxPairs maxDigits verdict keep normalForm normal joined
+isDesk-held-example = refl

@@ -1,0 +1,13 @@
+-- The definitions, in reading order: text as bytes; the limits; the desk; records; replies; reply bytes; a session; the library's
+-- calls with a lent buffer; then the statements of the theorems. proofs/ has a term of each statement.
+pub mod Text
+pub mod Limits
+pub mod Desk
+pub mod Records
+pub mod Replies
+pub mod Bytes
+pub mod Session
+pub mod Buffers
+pub mod Theorems
+pub mod Conditions
+pub mod Demands

@@ -1,0 +1,19 @@
+-- The limits of the desk, named in this one place; those of plans are in higman's Limits.antt. Everything else speaks of the names.
+-- Read Desk.antt next.
+use Prim.Native.Nat.{ℕ}
+
+-- "The desk has slots A to H"
+unfoldable pub slotCount : ℕ
+slotCount = 8
+
+-- "a count of changes from 0 to 4,000,000,000"
+unfoldable pub maxChanges : ℕ
+maxChanges = 4_000_000_000
+
+-- "Lines hold at most 1,100 bytes, byte 10 not counted"
+unfoldable pub maxLine : ℕ
+maxLine = 1_100
+
+-- "k an optional minus and one to four digits"
+unfoldable pub maxNumeral : ℕ
+maxNumeral = 4

@@ -1,0 +1,268 @@
+-- The reply to each record, and the desk after it (document 01, "Records" and "When each operation says no"). Each operation is a
+-- list of steps: `n when t` refuses with n where t holds, and the first step that refuses ends it. The answers about plans are those
+-- of higman, with their numbers. Read Bytes.antt next.
+use Prim.Native.Nat.{ℕ, suc, _+_, _-_}
+use mathlib.Core.Path.{_≡_, refl}
+use mathlib.Core.Bool.{Bool, true, false, _&&_, not}
+use mathlib.Core.List.{List, [], _∷_, map}
+use mathlib.Core.Option.{Option, none, some}
+use lib.Dec.{leb}
+use lib.IntN.{pos, natAbs}
+use lib.ListN.{length, set, replicate}
+use Rattle.higman.specs.Words.{Shape, Word, given, spell}
+use Rattle.higman.specs.Bases.{all}
+use Rattle.higman.specs.Tables.{ψ}
+use Rattle.higman.specs.Normal.{joined, normal, normalForm, keep, inverse}
+use Rattle.higman.specs.Limits.{Plan, shapeInRange, isCode, maxPairs, maxCode, maxPower}
+use Rattle.higman.specs.Answers.{Verdict, Accepted, InFrom, InTo, verdict, reasonNumber, Answer, Granted, Refused, PowerOutside, refusalNumber, followed, inverted, powered, Comparison, Alike, NotCompared, same, Route, Image, TooShort, NotRouted, routeNumber, routed}
+use Rattle.higman.specs.Cases.{Letter}
+use Rattle.desk.specs.Text.{Bytes, byte, bytes}
+use Rattle.desk.specs.Limits.{slotCount, maxChanges, maxLine}
+use Rattle.desk.specs.Desk.{Draft, Desk, freshDesk, held, isPlanWord, changed, withDraft, withPair, dropped}
+use Rattle.desk.specs.Records.{Record, P, M, E, F, I, K, S, W, L, C, T, U, numeralValue, grammar, parse}
+
+-- a slot that holds a plan
+pub record Held : Type 0 where
+  pub slot : ℕ
+  pub plan : Plan
+
+pub data Reply : Type 0 where
+  -- "Neither replies when accepted": P and M
+  silent : Reply
+  -- `ok`; `ok⇥` and a number; `ok⇥` and an image
+  ok : Reply
+  okNumber : ℕ → Reply
+  okWord : Word → Reply
+  -- the plan as P, M and E records that name the slot
+  lists : ℕ → Plan → Reply
+  -- a line for each of these, "in an order left open", and `ok⇥` and how many: U, the only reply that this file does not decide
+  surveys : List Held → Reply
+  -- `no⇥` and a number; "those of E for a column add ⇥F or ⇥T (from, to)"
+  refuses : ℕ → Option Letter → Reply
+
+-- The steps of an operation: a refusal ends it, otherwise the next step has the value of this one.
+pub data Outcome (A : Type 0) : Type 0 where
+  refuse : ℕ → Option Letter → Outcome A
+  pass : A → Outcome A
+
+infixl 10 _>>=_
+unfoldable pub _>>=_ : {A B : Type 0} → Outcome A → (A → Outcome B) → Outcome B
+refuse n c >>= f = refuse n c
+pass a >>= f = f a
+
+infix 4 _when_
+abbrev pub _when_ : ℕ → Bool → Outcome (Unit {0})
+n when true = refuse n none
+n when false = pass tt
+
+-- 2, "any other record while one is open"
+abbrev pub isOpen : Desk → Bool
+isOpen d = given (d .draft)
+
+-- the open plan; 2, "an M or E with no plan open"
+abbrev pub openPlan : Desk → Outcome Draft
+openPlan d = elim (d .draft) [ none ↦ refuse 2 none | some o ↦ pass o ]
+
+-- slots A to H
+abbrev pub slotNumber : ℕ → ℕ
+slotNumber b = b - byte "A"
+
+abbrev pub slotByte : ℕ → ℕ
+slotByte i = byte "A" + i
+
+abbrev pub isSlot : ℕ → Bool
+isSlot b = leb (byte "A") b && leb (suc b) (slotByte slotCount)
+
+-- 8, "a slot byte outside A to H"
+abbrev pub outside : List ℕ → Bool
+outside bs = not (all isSlot bs)
+
+-- the plan in a slot; 9, "a or b empty"
+abbrev pub planIn : Desk → ℕ → Outcome Plan
+planIn d b = elim (held d (slotNumber b)) [ none ↦ refuse 9 none | some p ↦ pass p ]
+
+-- 16, "the count is at its limit"
+abbrev pub atLimit : Desk → Bool
+atLimit d = leb maxChanges (d .changes)
+
+-- The word that bytes spell. A byte that is no digit from 1 to 9 gives 0 or a number above 9, which is a digit of no word.
+abbrev pub wordOf : Bytes → Word
+wordOf w = map numeralValue w
+
+-- E: "both made of the from column and after that both of the to column", with the column's letter
+abbrev pub ofVerdict : Verdict → Outcome (Unit {0})
+ofVerdict Accepted = pass tt
+ofVerdict (InFrom r) = refuse (reasonNumber r) (some Letter.F)
+ofVerdict (InTo r) = refuse (reasonNumber r) (some Letter.T)
+
+-- F, I, K: the granted plan
+abbrev pub ofAnswer : Answer → Outcome Plan
+ofAnswer (Granted p) = pass p
+ofAnswer (Refused r) = refuse (refusalNumber r) none
+
+abbrev pub ofComparison : Comparison → Outcome Bool
+ofComparison (Alike b) = pass b
+ofComparison (NotCompared r) = refuse (refusalNumber r) none
+
+abbrev pub imageOf : Route → Word
+imageOf (Image w) = w
+imageOf TooShort = []
+imageOf (NotRouted r) = []
+
+abbrev pub ofRoute : Route → Outcome Word
+ofRoute r = elim (routeNumber r) [ none ↦ pass (imageOf r) | some n ↦ refuse n none ]
+
+-- `ok⇥1` or `ok⇥0`
+abbrev pub bit : Bool → ℕ
+bit true = 1
+bit false = 0
+
+-- the slots that hold a plan, numbered from i on
+abbrev pub heldFrom : ℕ → List (Option Plan) → List Held
+heldFrom i [] = []
+heldFrom i (none ∷ l) = heldFrom (suc i) l
+heldFrom i (some p ∷ l) = record { slot = i; plan = p } ∷ heldFrom (suc i) l
+
+-- the desk after an operation, and its reply
+abbrev pub Effect : Type 0
+Effect = Desk × Reply
+
+-- keep a plan in a slot: "`ok⇥` and the number of pairs kept"
+abbrev pub keepIn : Desk → ℕ → Plan → Effect
+keepIn d i p = (changed d i (some p), okNumber (length (p .rows)))
+
+-- what P opens
+abbrev pub newDraft : ℕ → Shape → Draft
+newDraft b s = record { slot = slotNumber b; shape = s; rows = [] }
+
+-- what E keeps: "reduce and keep"
+abbrev pub closed : Draft → Plan
+closed o = record { shape = o .shape; rows = keep (o .shape) (o .rows) }
+
+-- "When each operation says no", and what it does when it does not
+unfoldable pub operation : Desk → Record → Outcome Effect
+operation d (P a n r) = do
+  _ ← 2 when isOpen d
+  _ ← 8 when outside (a ∷ [])
+  _ ← 3 when not (shapeInRange (record { arity = n; roots = r }))
+  pass (withDraft d (newDraft a (record { arity = n; roots = r })), silent)
+operation d (M from to) = do
+  -- 2
+  o ← openPlan d
+  _ ← 4 when not (isPlanWord (o .shape) (wordOf from) && isPlanWord (o .shape) (wordOf to))
+  _ ← 5 when leb maxPairs (length (o .rows))
+  pass (withDraft d (withPair o (record { from = wordOf from; to = wordOf to })), silent)
+operation d E = do
+  -- 2
+  o ← openPlan d
+  -- 6 and 7
+  _ ← ofVerdict (verdict (o .shape) (o .rows))
+  _ ← 16 when atLimit d
+  pass (keepIn d (o .slot) (closed o))
+operation d (F a b c) = do
+  _ ← 2 when isOpen d
+  _ ← 8 when outside (a ∷ b ∷ c ∷ [])
+  -- 9
+  p ← planIn d a
+  q ← planIn d b
+  -- 10 and 11
+  r ← ofAnswer (followed p q)
+  _ ← 16 when atLimit d
+  pass (keepIn d (slotNumber c) r)
+operation d (I a c) = do
+  _ ← 2 when isOpen d
+  _ ← 8 when outside (a ∷ c ∷ [])
+  -- 9
+  p ← planIn d a
+  r ← ofAnswer (inverted p)
+  _ ← 16 when atLimit d
+  pass (keepIn d (slotNumber c) r)
+operation d (K a k c) = do
+  _ ← 2 when isOpen d
+  _ ← 8 when outside (a ∷ c ∷ [])
+  -- 12, before the slot is looked into
+  _ ← refusalNumber PowerOutside when not (leb (natAbs k) maxPower)
+  -- 9
+  p ← planIn d a
+  -- 11
+  r ← ofAnswer (powered p k)
+  _ ← 16 when atLimit d
+  pass (keepIn d (slotNumber c) r)
+operation d (S a b) = do
+  _ ← 2 when isOpen d
+  _ ← 8 when outside (a ∷ b ∷ [])
+  -- 9
+  p ← planIn d a
+  q ← planIn d b
+  -- 10
+  alike ← ofComparison (same p q)
+  pass (d, okNumber (bit alike))
+operation d (W a code) = do
+  _ ← 2 when isOpen d
+  _ ← 8 when outside (a ∷ [])
+  -- 9
+  p ← planIn d a
+  -- 4 and 13
+  image ← ofRoute (routed p (wordOf code))
+  pass (d, okWord image)
+operation d (L a) = do
+  _ ← 2 when isOpen d
+  _ ← 8 when outside (a ∷ [])
+  -- 9
+  p ← planIn d a
+  pass (d, lists a p)
+operation d (C a) = do
+  _ ← 2 when isOpen d
+  _ ← 8 when outside (a ∷ [])
+  -- 9
+  p ← planIn d a
+  _ ← 16 when atLimit d
+  pass (changed d (slotNumber a) none, ok)
+operation d T = do
+  _ ← 2 when isOpen d
+  pass (d, okNumber (d .changes))
+operation d U = do
+  _ ← 2 when isOpen d
+  pass (d, surveys (heldFrom 0 (d .slots)))
+
+-- "Every record: 1, unknown letter, wrong number of fields, a field form, or a line too long."
+abbrev pub recordOf : Bytes → Outcome Record
+recordOf line = elim (leb (length line) maxLine) [ false ↦ refuse 1 none | true ↦ elim (parse line) [ none ↦ refuse 1 none | some r ↦ pass r ] ]
+
+-- what a line does
+unfoldable pub lineOperation : Desk → Bytes → Outcome Effect
+lineOperation d line = do
+  r ← recordOf line
+  operation d r
+
+-- "Any refusal drops an open plan and changes nothing else."
+abbrev pub settle : Desk → Outcome Effect → Effect
+settle d (refuse n c) = (dropped d, refuses n c)
+settle d (pass e) = e
+
+unfoldable pub respond : Desk → Record → Effect
+respond d r = settle d (operation d r)
+
+unfoldable pub respondLine : Desk → Bytes → Effect
+respondLine d line = settle d (lineOperation d line)
+
+-- On a fresh desk: T counts no change and U finds no plan; no pair without an open plan; a slot outside comes before an empty one,
+-- and so does a power outside.
+respond-example : map (λ r. respond freshDesk r .1) (T ∷ U ∷ M [] [] ∷ P (byte "I") 2 1 ∷ P (byte "H") 1 1 ∷ L (byte "A") ∷ F (byte "A") (byte "A") (byte "a") ∷ K (byte "A") (pos 1001) (byte "A") ∷ [])
+    ≡ okNumber 0 ∷ surveys [] ∷ refuses 2 none ∷ refuses 8 none ∷ refuses 3 none ∷ refuses 9 none ∷ refuses 8 none ∷ refuses 12 none ∷ []
+unfolding _>>=_ respond operation freshDesk slotCount shapeInRange maxPower
+respond-example = refl
+
+-- a line that is no record, and a record
+respondLine-example : map (λ l. respondLine freshDesk (bytes l) .1) ("" ∷ "T " ∷ "T" ∷ []) ≡ refuses 1 none ∷ refuses 1 none ∷ okNumber 0 ∷ []
+unfolding _>>=_ respondLine lineOperation operation parse grammar freshDesk slotCount maxLine
+respondLine-example = refl
+
+-- At the limit of the count, with ψ in slot A alone: 16 is the last of the refusals, and what changes nothing is still done.
+abbrev fullCount : Desk
+fullCount = record { slots = set (replicate slotCount none) 0 (some (record { shape = record { arity = 2; roots = 1 }; rows = ψ })); draft = none; changes = maxChanges }
+
+full-count-example : map (λ r. respond fullCount r .1) (T ∷ C (byte "A") ∷ C (byte "B") ∷ I (byte "A") (byte "B") ∷ K (byte "A") (pos 1001) (byte "B") ∷ W (byte "A") (bytes "12") ∷ [])
+    ≡ okNumber 4_000_000_000 ∷ refuses 16 none ∷ refuses 9 none ∷ refuses 16 none ∷ refuses 12 none ∷ okWord (spell 122) ∷ []
+unfolding _>>=_ respond operation slotCount maxChanges maxPower inverted inverse keep normalForm normal joined routed isCode maxCode
+full-count-example = refl

@@ -1,0 +1,102 @@
+-- A session, bytes in and bytes out (document 01, "Records"), fed in pieces: between two pieces there is the desk and the beginning
+-- of a line, of which no more is held than a line may have. The example is the paper's "A session in full". Read Buffers.antt next.
+use Prim.Native.Nat.{ℕ}
+use mathlib.Core.Path.{_≡_, refl}
+use mathlib.Core.Bool.{Bool, true, false}
+use mathlib.Core.List.{[], _∷_, _++_}
+use mathlib.Core.Option.{none}
+use lib.Dec.{eqb, ltb}
+use lib.ListN.{length}
+use Rattle.higman.specs.Normal.{joined, normal, normalForm, keep, compose, inverse, identity}
+use Rattle.higman.specs.Limits.{maxPairs, maxDigits, maxCode, maxPower, shapeInRange, granted, isCode}
+use Rattle.higman.specs.Answers.{verdict, followed, inverted, raised, powered, routed}
+use Rattle.higman.specs.Listing.{lineEnd}
+use Rattle.desk.specs.Text.{Bytes, lines}
+use Rattle.desk.specs.Limits.{slotCount, maxChanges, maxLine, maxNumeral}
+use Rattle.desk.specs.Desk.{Desk, freshDesk, changed, withDraft, dropped}
+use Rattle.desk.specs.Records.{grammar, parse}
+use Rattle.desk.specs.Replies.{_>>=_, Effect, refuse, settle, operation, lineOperation, respondLine}
+use Rattle.desk.specs.Bytes.{Order, replyBytes}
+
+-- The desk, the line that has begun, and whether that line is too long already; what it holds then is let go.
+pub record State : Type 0 where
+  pub desk : Desk
+  pub line : Bytes
+  pub overlong : Bool
+
+-- at the beginning of a line
+abbrev pub idle : Desk → State
+idle d = record { desk = d; line = []; overlong = false }
+
+-- one more byte of a line
+abbrev pub grown : State → ℕ → State
+grown s b =
+    elim
+    (s .overlong) [
+      | true ↦ s
+      | false ↦ elim (ltb (length (s .line)) maxLine) [ true ↦ record { desk = s .desk; line = s .line ++ (b ∷ []); overlong = false } | false ↦ record { desk = s .desk; line = []; overlong = true } ]
+    ]
+
+-- the line is whole: "a longer one, up to its byte 10, is one refusal"
+abbrev pub effectOf : State → Effect
+effectOf s = elim (s .overlong) [ true ↦ settle (s .desk) (refuse 1 none) | false ↦ respondLine (s .desk) (s .line) ]
+
+-- no line has begun
+abbrev pub isIdle : State → Bool
+isIdle s = elim (s .overlong) [ true ↦ false | false ↦ elim (s .line) [ [] ↦ true | b ∷ l ↦ false ] ]
+
+module _ (order : Order) where
+  abbrev pub lineEnded : State → State × Bytes
+  lineEnded s = let e = effectOf s in (idle (e .0), replyBytes order (e .1))
+
+  -- "lines ended by byte 10"
+  unfoldable pub feedByte : State → ℕ → State × Bytes
+  feedByte s b = elim (eqb b lineEnd) [ true ↦ lineEnded s | false ↦ (grown s b, []) ]
+
+  unfoldable pub feed : State → Bytes → State × Bytes
+  feed s [] = (s, [])
+  feed s (b ∷ input) = let r = feedByte s b in let q = feed (r .0) input in (q .0, r .1 ++ q .1)
+
+  -- "A last line without that byte counts if it isn't empty." "An open plan is dropped at the end of input."
+  unfoldable pub finish : State → Desk × Bytes
+  finish s = elim (isIdle s) [ true ↦ (dropped (s .desk), []) | false ↦ let r = lineEnded s in (dropped (r .0 .desk), r .1) ]
+
+  -- "The desk program reads standard input, one record a line": what it writes
+  unfoldable pub session : Bytes → Bytes
+  session input = let r = feed (idle freshDesk) input in r .1 ++ finish (r .0) .1
+
+-- document 01, "A session in full"
+abbrev pub inputInFull : Bytes
+inputInFull =
+    lines (
+    "P\tA\t2\t1" ∷
+    "M\t111\t11" ∷
+    "M\t112\t121" ∷
+    "M\t12\t122" ∷
+    "E" ∷
+    "W\tA\t1122" ∷
+    "K\tA\t2\tB" ∷
+    "L\tB" ∷
+    "W\tA\t11" ∷
+    "T" ∷
+    [])
+
+abbrev pub outputInFull : Bytes
+outputInFull =
+    lines (
+    "ok\t3" ∷
+    "ok\t1212" ∷
+    "ok\t4" ∷
+    "P\tB\t2\t1" ∷
+    "M\t1111\t11" ∷
+    "M\t1112\t121" ∷
+    "M\t112\t1221" ∷
+    "M\t12\t1222" ∷
+    "E" ∷
+    "no\t13" ∷
+    "ok\t2" ∷
+    [])
+
+session-in-full : (order : Order) → session order inputInFull ≡ outputInFull
+unfolding session finish feed feedByte replyBytes _>>=_ respondLine lineOperation operation parse grammar freshDesk changed withDraft dropped slotCount maxChanges maxLine maxNumeral maxPairs maxDigits maxCode maxPower shapeInRange granted isCode verdict followed inverted raised powered routed keep compose inverse identity normalForm normal joined
+session-in-full order = refl
