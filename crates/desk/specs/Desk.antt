@@ -9,10 +9,10 @@ use lib.Dec.{T, leb, eqb}
 use lib.ListN.{length, getD, set, replicate}
 use Rattle.higman.specs.Words.{Shape, Word, isWord}
 use Rattle.higman.specs.Bases.{all}
-use Rattle.higman.specs.Tables.{Pair, Table, froms, tos, row, sameTable, ψ}
+use Rattle.higman.specs.Tables.{Pair, Table, froms, tos, row, ψ}
 use Rattle.higman.specs.Normal.{joined, normal, normalForm, keep}
 use Rattle.higman.specs.Limits.{Plan, Kept, shapeInRange, granted, fits, maxPairs, maxDigits}
-use Rattle.higman.specs.Answers.{Verdict, Accepted, InFrom, InTo, verdict}
+use Rattle.higman.specs.Answers.{verdict, isTableOf, isKept}
 use Rattle.desk.specs.Limits.{slotCount, maxChanges}
 
 -- An open plan: the slot it is meant for, from 0 for A, its shape, and its pairs in the order in which M added them.
@@ -68,18 +68,7 @@ dropped d = record { slots = d .slots; draft = none; changes = d .changes }
 abbrev pub withPair : Draft → Pair → Draft
 withPair o p = record { slot = o .slot; shape = o .shape; rows = o .rows ++ (p ∷ []) }
 
--- The same as `Kept`, `IsDraft` and `IsDesk`, as tests that compute: a kept plan is one that E would keep just as it is.
-abbrev pub accepts : Verdict → Bool
-accepts Accepted = true
-accepts (InFrom r) = false
-accepts (InTo r) = false
-
-abbrev pub isTableOf : Shape → Table → Bool
-isTableOf s t = shapeInRange s && granted t && all (isWord s) (froms t) && all (isWord s) (tos t)
-
-unfoldable pub isKept : Plan → Bool
-isKept p = isTableOf (p .shape) (p .rows) && accepts (verdict (p .shape) (p .rows)) && sameTable (keep (p .shape) (p .rows)) (p .rows)
-
+-- The same as `IsDraft` and `IsDesk`, as tests that compute.
 abbrev pub allHeld : List (Option Plan) → Bool
 allHeld [] = true
 allHeld (none ∷ l) = allHeld l

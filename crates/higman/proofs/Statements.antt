@@ -2,7 +2,7 @@
 use Prim.Native.Nat.{ℕ, _≤_}
 use mathlib.Core.Path.{_≡_, refl, sym, _∙_, ap, subst}
 use mathlib.Core.Logic.{inl, inr, _↔_}
-use mathlib.Core.Bool.{Bool, true, false}
+use mathlib.Core.Bool.{Bool, true, false, _&&_}
 use mathlib.Core.List.{List, [], _∷_, _++_, append-nil, append-assoc, List·Memᴰ, Memᴰ·map, Memᴰ·of-map}
 use mathlib.Core.Option.{Option, none, some, Option·none-ne-some}
 use native.Mathlib.Omega.{arith}
@@ -13,9 +13,9 @@ use Rattle.higman.specs.Bases.{Basis, Column, all, overlap, gap}
 use Rattle.higman.specs.Tables.{Pair, Table, froms, tos, image, sameTable}
 use Rattle.higman.specs.Normal.{keep, compose, inverse, Reduced, ordered}
 use Rattle.higman.specs.Limits.{Plan, Bases, Kept, shapeInRange, granted, isCode, maxCode}
-use Rattle.higman.specs.Answers.{Reason, Overlap, Gap, Verdict, Accepted, InFrom, InTo, fault, verdict, same, Alike, NotCompared, Comparison, sameShape, Route, Image, TooShort, NotRouted, routed}
+use Rattle.higman.specs.Answers.{Reason, Overlap, Gap, Verdict, Accepted, InFrom, InTo, fault, verdict, accepts, isTableOf, isKept, same, Alike, NotCompared, Comparison, sameShape, Route, Image, TooShort, NotRouted, routed}
 use Rattle.higman.specs.Theorems.{NormalForm, GroupActs, AnswersExact, ActAlike}
-use Rattle.higman.proofs.Tests.{so, T-of, and-left, IsWord, word-of-test, same-table, same-table-refl}
+use Rattle.higman.proofs.Tests.{so, T-of, and-left, and-right, and-intro, IsWord, word-of-test, same-table, same-table-refl}
 use Rattle.higman.proofs.Proper.{Proper}
 use Rattle.higman.proofs.Images.{row-of-image, image-of-row}
 use Rattle.higman.proofs.Expansions.{same-of-apart}
@@ -101,6 +101,68 @@ keeps s r t b g =
     let E = element-of-bases s t n b in
     kept-of-member (record { shape = s; rows = keep s t }) r (keep-granted s n t E g) (keep-member s n t E)
 
+-- a table of words of a shape in range and within the limits: what an open plan is, and what a kept one is at least
+pub record TableOf (s : Shape) (t : Table) : Type 0 where
+  pub in-range : T (shapeInRange s)
+  pub within : T (granted t)
+  pub from-words : T (all (isWord s) (froms t))
+  pub to-words : T (all (isWord s) (tos t))
+
+module _ (s : Shape) (t : Table) where
+  abbrev sized : Bool
+  sized = shapeInRange s && granted t
+
+  abbrev spelt : Bool
+  spelt = sized && all (isWord s) (froms t)
+
+  pub table-of : T (isTableOf s t) → TableOf s t
+  table-of h =
+      let front = and-left spelt (all (isWord s) (tos t)) h in
+      let size = and-left sized (all (isWord s) (froms t)) front in
+      record { in-range = and-left (shapeInRange s) (granted t) size; within = and-right (shapeInRange s) (granted t) size; from-words = and-right sized (all (isWord s) (froms t)) front; to-words = and-right spelt (all (isWord s) (tos t)) h }
+
+  pub test-table : TableOf s t → T (isTableOf s t)
+  test-table h = and-intro spelt (all (isWord s) (tos t)) (and-intro sized (all (isWord s) (froms t)) (and-intro (shapeInRange s) (granted t) (h .in-range) (h .within)) (h .from-words)) (h .to-words)
+
+accepts-of : (v : Verdict) → v ≡ Accepted → T (accepts v)
+accepts-of v e = subst (λ x. T (accepts x)) (sym e) tt
+
+accepted-of : (v : Verdict) → T (accepts v) → v ≡ Accepted
+accepted-of Accepted h = refl
+accepted-of (InFrom r) h = absurd h
+accepted-of (InTo r) h = absurd h
+
+module _ (p : Plan) where
+  abbrev s : Shape
+  s = p .shape
+
+  abbrev t : Table
+  t = p .rows
+
+  abbrev judged : Bool
+  judged = isTableOf s t && accepts (verdict s t)
+
+  kept-of-test : T (isKept p) → Kept p
+  unfolding isKept
+  kept-of-test h =
+      let front = and-left judged (sameTable (keep s t) t) h in
+      let table = table-of s t (and-left (isTableOf s t) (accepts (verdict s t)) front) in
+      let n = arity-of-range s (table .in-range) in
+      let bases = accepted s n t (table .from-words) (table .to-words) .0 (accepted-of (verdict s t) (and-right (isTableOf s t) (accepts (verdict s t)) front)) in
+      let own = normal-form .own s n t bases .1 (same-table (keep s t) t (and-right judged (sameTable (keep s t) t) h)) in
+      record { in-range = table .in-range; within = table .within; bases = bases; reduced = own .0; in-order = own .1 }
+
+  test-of-kept : Kept p → T (isKept p)
+  unfolding isKept
+  test-of-kept h =
+      let n = arity-of-range s (h .in-range) in
+      let from-words = column-is-basis s n (froms t) .0 (h .bases .from-basis) .words in
+      let to-words = column-is-basis s n (tos t) .0 (h .bases .to-basis) .words in
+      let own = normal-form .own s n t (h .bases) .0 (h .reduced, h .in-order) in
+      and-intro judged (sameTable (keep s t) t)
+      (and-intro (isTableOf s t) (accepts (verdict s t)) (test-table s t (record { in-range = h .in-range; within = h .within; from-words = from-words; to-words = to-words })) (accepts-of (verdict s t) (accepted s n t from-words to-words .1 (h .bases))))
+      (subst (λ u. T (sameTable u t)) (sym own) (same-table-refl t))
+
 -- a route of a code is its image, or says that there is none
 routed-is : (a : Plan) (w : Word) → T (isCode (a .shape) w) → (o : Option Word) → image (a .rows) w ≡ o → routed a w ≡ elim o as (λ _. Route) [ some v ↦ Image v | none ↦ TooShort ]
 unfolding routed
@@ -185,6 +247,7 @@ answers-exact =
     record {
       accepted = accepted;
       keeps = keeps;
+      kept-test = λ p. (kept-of-test p, test-of-kept p);
       power-refused = power-refused;
       power-granted = λ a b k e. powered-cases a b k e .0;
       too-short = too-short;

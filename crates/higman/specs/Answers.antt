@@ -7,11 +7,11 @@ use mathlib.Core.List.{List, [], _∷_, map}
 use mathlib.Core.Option.{Option, none, some}
 use lib.Dec.{leb, eqb}
 use lib.IntN.{ℤ, pos, negsuc, natAbs}
-use Rattle.higman.specs.Words.{Shape, Word, spell}
-use Rattle.higman.specs.Bases.{overlap, gap}
+use Rattle.higman.specs.Words.{Shape, Word, isWord, spell}
+use Rattle.higman.specs.Bases.{all, overlap, gap}
 use Rattle.higman.specs.Tables.{Table, froms, tos, image, sameTable, row, φ, ψ}
 use Rattle.higman.specs.Normal.{joined, normal, normalForm, keep, compose, inverse, identity}
-use Rattle.higman.specs.Limits.{Plan, granted, isCode, maxPairs, maxDigits, maxCode, maxPower}
+use Rattle.higman.specs.Limits.{Plan, shapeInRange, granted, isCode, maxPairs, maxDigits, maxCode, maxPower}
 
 -- "6, one word begins or equals another; 7, a belt isn't covered"
 pub data Reason : Type 0 where
@@ -36,6 +36,18 @@ fault s c = elim (overlap c) [ true ↦ some Overlap | false ↦ elim (gap s c) 
 unfoldable pub verdict : Shape → Table → Verdict
 verdict s t =
     elim (fault s (froms t)) [ some r ↦ InFrom r | none ↦ elim (fault s (tos t)) [ some r ↦ InTo r | none ↦ Accepted ] ]
+
+-- The same as `Kept`, as a test that computes: words of a shape in range, within the limits, and a plan that E would keep just as it is.
+abbrev pub accepts : Verdict → Bool
+accepts Accepted = true
+accepts (InFrom r) = false
+accepts (InTo r) = false
+
+abbrev pub isTableOf : Shape → Table → Bool
+isTableOf s t = shapeInRange s && granted t && all (isWord s) (froms t) && all (isWord s) (tos t)
+
+unfoldable pub isKept : Plan → Bool
+isKept p = isTableOf (p .shape) (p .rows) && accepts (verdict (p .shape) (p .rows)) && sameTable (keep (p .shape) (p .rows)) (p .rows)
 
 -- the refusals of the calls that take kept plans
 pub data Refusal : Type 0 where
@@ -128,6 +140,11 @@ routed a c =
 verdict-example : verdict (record { arity = 2; roots = 1 }) (row 11 11 ∷ row 121 121 ∷ row 122 1221 ∷ []) ≡ InTo Gap
 unfolding verdict
 verdict-example = refl
+
+-- ψ; and the plan that moves nothing on two pairs, which is not reduced
+isKept-example : map isKept (record { shape = record { arity = 2; roots = 1 }; rows = ψ } ∷ record { shape = record { arity = 2; roots = 1 }; rows = row 11 11 ∷ row 12 12 ∷ [] } ∷ []) ≡ true ∷ false ∷ []
+unfolding isKept shapeInRange granted maxPairs maxDigits verdict keep normalForm normal joined
+isKept-example = refl
 
 -- the from column first, and in a column the overlap
 verdict-order-example : verdict (record { arity = 2; roots = 2 }) (row 11 1 ∷ row 111 11 ∷ []) ≡ InFrom Overlap

@@ -14,7 +14,7 @@ use Rattle.higman.specs.Bases.{Basis, Column, all}
 use Rattle.higman.specs.Tables.{Pair, Table, froms, tos, image, longEnough}
 use Rattle.higman.specs.Normal.{keep, andThen, compose, inverse, repeated, power, Reduced, ordered, Joins}
 use Rattle.higman.specs.Limits.{Plan, Bases, Kept, shapeInRange, granted, isCode, maxPower}
-use Rattle.higman.specs.Answers.{verdict, Accepted, Granted, Refused, LimitBroken, followed, inverted, powered, repeatable, identityPlan, same, Alike, routed, TooShort}
+use Rattle.higman.specs.Answers.{verdict, Accepted, isKept, Granted, Refused, LimitBroken, followed, inverted, powered, repeatable, identityPlan, same, Alike, routed, TooShort}
 use Rattle.higman.specs.Listing.{pairRecords, joinLines, listing}
 
 -- A column is a basis exactly when its words are words of the shape, none begins or equals another and every belt is covered.
@@ -54,6 +54,8 @@ pub record AnswersExact : Type 0 where
   -- a draft of words is accepted exactly when both columns are bases, and what is kept of it is within the limits if the draft is
   pub accepted : (s : Shape) → 1 ≤ s .arity → (t : Table) → T (all (isWord s) (froms t)) → T (all (isWord s) (tos t)) → (verdict s t ≡ Accepted) ↔ Bases s t
   pub keeps : (s : Shape) → T (shapeInRange s) → (t : Table) → Bases s t → T (granted t) → Kept (record { shape = s; rows = keep s t })
+  -- the test that computes says whether a plan is a kept one
+  pub kept-test : (p : Plan) → T (isKept p) ↔ Kept p
   -- 11 of a power: "some reduced power from 1 up to the size of k breaks a limit"
   pub power-refused : (a : Plan) (k : ℤ) → (powered a k ≡ Refused LimitBroken) ↔ (T (leb (natAbs k) maxPower) × ((j : ℕ) × (1 ≤ j) × (j ≤ natAbs k) × (granted (repeated (a .shape) (repeatable a k) j) ≡ false)))
   -- where a power is granted, it is the power
