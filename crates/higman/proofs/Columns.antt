@@ -121,7 +121,7 @@ covered-of-deep n c (suc d) w deep uncut =
     go (inr h) parts =
         rw (h, covered) (so (all part (digits n)) (all-of part (digits n) (λ i m. T-of (parts i (digit-of-mem n i m) h))))
 
-length-of-mem : (u : Word) (c : List Word) → List·Memᴰ u c → length u ≤ longest c
+pub length-of-mem : (u : Word) (c : List Word) → List·Memᴰ u c → length u ≤ longest c
 length-of-mem u [] m = absurd (List·Memᴰ·not-nil m)
 length-of-mem u (v ∷ c) m = go (List·Memᴰ·cases-cons m) (λ k. length-of-mem u c k)
   where

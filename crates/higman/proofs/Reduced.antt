@@ -71,11 +71,11 @@ withRow none v t = t
 withRow (some u) v t = record { from = u; to = v } ∷ t
 
 -- the table as it is seen from the i-th part of the block: the rows whose from-word starts with i, without that digit
-abbrev inPart : ℕ → Table → Table
+abbrev pub inPart : ℕ → Table → Table
 inPart i [] = []
 inPart i (p ∷ t) = withRow (after (i ∷ []) (p .from)) (p .to) (inPart i t)
 
-mem-of-in-part : (i : ℕ) (t : Table) (q : Pair) → List·Memᴰ q (inPart i t) → List·Memᴰ (rowUnder i q) t
+pub mem-of-in-part : (i : ℕ) (t : Table) (q : Pair) → List·Memᴰ q (inPart i t) → List·Memᴰ (rowUnder i q) t
 mem-of-in-part i [] q m = absurd (List·Memᴰ·not-nil m)
 mem-of-in-part i (p ∷ t) q m = go (after (i ∷ []) (p .from)) refl m (λ k. mem-of-in-part i t q k)
   where
@@ -104,7 +104,7 @@ mem-in-part i (p ∷ t) q m = go (List·Memᴰ·cases-cons m) (λ k. mem-in-part
     go (inl e) rest = subst (λ x. List·Memᴰ q (inPart i (x ∷ t))) e here
     go (inr l) rest = later (after (i ∷ []) (p .from)) (rest l)
 
-sorted-in-part : (i : ℕ) (t : Table) → Sorted (froms t) → Sorted (froms (inPart i t))
+pub sorted-in-part : (i : ℕ) (t : Table) → Sorted (froms t) → Sorted (froms (inPart i t))
 sorted-in-part i [] h = tt
 sorted-in-part i (p ∷ t) h = go (after (i ∷ []) (p .from)) refl (sorted-in-part i t (h .1))
   where
@@ -126,14 +126,14 @@ sorted-in-part i (p ∷ t) h = go (after (i ∷ []) (p .from)) refl (sorted-in-p
     )
 
 -- every from-word starts with a digit from 1 to n
-abbrev Headed : ℕ → Table → Type 0
+abbrev pub Headed : ℕ → Table → Type 0
 Headed n t = (p : Pair) → List·Memᴰ p t → (i : ℕ) × (u : Word) × Digit n i × (p .from ≡ i ∷ u)
 
 headed-tail : {n : ℕ} {p : Pair} {t : Table} → Headed n (p ∷ t) → Headed n t
 headed-tail h q m = h q (List·Memᴰ·tail m)
 
 -- a table in order is what its parts are gathered to
-gather-in-parts : (n : ℕ) (t : Table) → Headed n t → Sorted (froms t) → gather (digits n) (λ i. inPart i t) ≡ t
+pub gather-in-parts : (n : ℕ) (t : Table) → Headed n t → Sorted (froms t) → gather (digits n) (λ i. inPart i t) ≡ t
 gather-in-parts n t h k = sorted-same (gather (digits n) g) t (sorted-gather 1 n g (λ i. sorted-in-part i t k)) k forth back
   where
     g : ℕ → Table
@@ -168,7 +168,7 @@ after-first i a u x = go (eqb a i) (eqb i a) refl refl
     go false false e f = refl
 
 -- from the i-th part, a table acts as its i-th part
-image-in-part : (n : ℕ) (t : Table) → Headed n t → (i : ℕ) (x : Word) → image t (i ∷ x) ≡ image (inPart i t) x
+pub image-in-part : (n : ℕ) (t : Table) → Headed n t → (i : ℕ) (x : Word) → image t (i ∷ x) ≡ image (inPart i t) x
 image-in-part n [] h i x = refl
 image-in-part n (p ∷ t) h i x =
     ap (λ o. sent o (image t (i ∷ x))) first ∙ go (after (i ∷ []) (p .from)) (image-in-part n t (headed-tail h) i x)
@@ -211,10 +211,10 @@ parts-own n m d t h k own =
     ∙ gather-in-parts m t h k
 
 -- every d ways begin with a from-word
-abbrev Covers : ℕ → ℕ → Table → Type 0
+abbrev pub Covers : ℕ → ℕ → Table → Type 0
 Covers n d t = (x : Word) → Ways n x → length x ≡ d → (p : Pair) × (y : Word) × List·Memᴰ p t × (x ≡ p .from ++ y)
 
-covers-in-part : (n : ℕ) (t : Table) → Headed n t → (i : ℕ) (x : Word) (p : Pair) (y : Word) → List·Memᴰ p t → i ∷ x ≡ p .from ++ y
+pub covers-in-part : (n : ℕ) (t : Table) → Headed n t → (i : ℕ) (x : Word) (p : Pair) (y : Word) → List·Memᴰ p t → i ∷ x ≡ p .from ++ y
     → (q : Pair) × (z : Word) × List·Memᴰ q (inPart i t) × (x ≡ q .from ++ z)
 covers-in-part n t h i x p y m e =
     let r = h p m in
@@ -224,7 +224,7 @@ covers-in-part n t h i x p y m e =
     (q, y, mem-in-part i t q (Memᴰ·cast k m), tail-eq-of-cons-eq f)
 
 -- a table in order is one row for the whole block, or each of its from-words starts with a way
-block-or-parts : (n : ℕ) (t : Table) → Sorted (froms t) → ((p : Pair) → List·Memᴰ p t → Ways n (p .from))
+pub block-or-parts : (n : ℕ) (t : Table) → Sorted (froms t) → ((p : Pair) → List·Memᴰ p t → Ways n (p .from))
     → ((v : Word) × (t ≡ whole v)) ⊎ Headed n t
 block-or-parts n [] h k = inr (λ p m. absurd (List·Memᴰ·not-nil m))
 block-or-parts n (p ∷ t) h k = go (p .from) refl

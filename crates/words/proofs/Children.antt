@@ -15,7 +15,7 @@ last-child [] i = refl
 last-child (a ∷ []) i = refl
 last-child (a ∷ b ∷ w) i = last-child (b ∷ w) i
 
-parent-of-child : (w : Word) (i : ℕ) → orEmpty (parent (child w i)) ≡ w
+pub parent-of-child : (w : Word) (i : ℕ) → orEmpty (parent (child w i)) ≡ w
 parent-of-child [] i = refl
 parent-of-child (a ∷ w) i = ap orEmpty (parent-child a w i)
 
