@@ -150,7 +150,7 @@ sorted-same (p ∷ t) (q ∷ u) h k f g = ap₂ _∷_ first (sorted-same t u (h 
         go (inl e) = absurd (behind q r u (k .0) m (e ∙ first))
         go (inr l) = l
 
-sorted-append : (t u : Table) → Sorted (froms t) → Sorted (froms u)
+pub sorted-append : (t u : Table) → Sorted (froms t) → Sorted (froms u)
     → ((p q : Pair) → List·Memᴰ p t → List·Memᴰ q u → Before (p .from) (q .from)) → Sorted (froms (t ++ u))
 sorted-append [] u h k f = k
 sorted-append (p ∷ t) u h k f =

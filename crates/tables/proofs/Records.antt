@@ -1,0 +1,47 @@
+-- The records of a listing: the bytes of a word, the lengths of records, and the M records that are left from a place of the two columns on.
+use Prim.Native.Nat.{ℕ, _+_, _^_, _≤_, _<_}
+use mathlib.Core.Path.{_≡_, sym, _∙_, ap, ap₂}
+use mathlib.Core.List.{List, [], _++_}
+use native.Mathlib.Numerals.{add-one}
+use native.Mathlib.Omega.{arith}
+use lib.ListN.{length, getD, drop, length-append, length-map, drop-of-length-le}
+use lib.Seq.{drop-cons}
+use Rattle.higman.specs.Words.{Shape, Word}
+use Rattle.higman.specs.Tables.{Pair, Table}
+use Rattle.higman.specs.Limits.{maxDigits}
+use Rattle.higman.specs.Listing.{digitByte, wordBytes, pairRecord, pairRecords, joinLines, closeRecord, listing}
+use Rattle.words.specs.Bytes.{written}
+use Rattle.words.proofs.Limit.{word-fits}
+use Rattle.tables.specs.Lines.{Wrote, pairOf, pairLines}
+
+pub word-size : (w : Word) → length (wordBytes w) ≡ length w
+word-size w = length-map w digitByte
+
+-- what `words::write` says of a word's bytes
+pub wrote-word : (w : Word) {l l′ : List ℕ} {at e : ℕ} → e ≡ at + length w → l′ ≡ written l at (wordBytes w) → Wrote (wordBytes w) l at l′ e
+wrote-word w {at = at} p q = record { place = p ∙ ap (λ n. at + n) (sym (word-size w)); contents = q }
+
+pub pair-size : (p : Pair) → length (pairRecord p) ≡ 4 + length (p .from) + length (p .to)
+pair-size p = simp (length-append, length-map) (omega arith)
+
+-- two packed words have few digits
+pub pair-small : (x y : ℕ) → x < 2 ^ 64 → y < 2 ^ 64 → length (pairRecord (pairOf x y)) ≤ 36
+unfolding maxDigits
+pair-small x y h k = omega (arith, pair-size (pairOf x y), word-fits x h, word-fits y k)
+
+pub listing-size : (slot : ℕ) (s : Shape) (t : Table) → length (listing slot (record { shape = s; rows = t })) ≡ 10 + length (joinLines (pairRecords t))
+listing-size slot s t = omega (arith, length-append (joinLines (pairRecords t)) closeRecord)
+
+module _ (from to : List ℕ) (i : ℕ) where
+  pub lines-step : i < length from → length from ≡ length to → pairLines (drop i from) (drop i to) ≡ pairRecord (pairOf (getD from i 0) (getD to i 0)) ++ pairLines (drop (i + 1) from) (drop (i + 1) to)
+  lines-step h e =
+      ap₂ pairLines (drop-cons from i 0 h) (drop-cons to i 0 (omega arith))
+      ∙ ap (λ n. pairRecord (pairOf (getD from i 0) (getD to i 0)) ++ pairLines (drop n from) (drop n to)) (sym (add-one i))
+
+  pub lines-size : i < length from → length from ≡ length to → length (pairLines (drop i from) (drop i to)) ≡ length (pairRecord (pairOf (getD from i 0) (getD to i 0))) + length (pairLines (drop (i + 1) from) (drop (i + 1) to))
+  lines-size h e =
+      ap length (lines-step h e)
+      ∙ length-append (pairRecord (pairOf (getD from i 0) (getD to i 0))) (pairLines (drop (i + 1) from) (drop (i + 1) to))
+
+  pub lines-none : length from ≤ i → pairLines (drop i from) (drop i to) ≡ []
+  lines-none h = ap (λ f. pairLines f (drop i to)) (drop-of-length-le from h)

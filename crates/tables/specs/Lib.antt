@@ -1,0 +1,8 @@
+-- The definitions that the contracts of this crate cite: packed columns and the tables that two of them hold; searches in a sorted
+-- column; sorting; reduction; the pairs of a composition before reduction; and what writing a listing does to a buffer.
+pub mod Packed
+pub mod Columns
+pub mod Sorts
+pub mod Reduction
+pub mod Spread
+pub mod Lines

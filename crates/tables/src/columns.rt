@@ -1,0 +1,135 @@
+// Columns (document 01, "Codes"): sorted lists of packed words. What is asked of a column, whether it has a word, whether its words
+// overlap, whether a block is covered, is answered by binary search or in one pass over neighbours.
+ghost use mathlib.Core.Path.{_≡_};
+ghost use mathlib.Core.Bool.{true, false};
+ghost use Prim.Native.Nat.{_+_, _-_, _≤_};
+ghost use lib.ListN.{length};
+ghost use Rattle.higman.specs.Bases.{listed, covered, gap, overlap};
+ghost use Rattle.higman.specs.Limits.{maxDigits};
+ghost use Rattle.words.specs.Packed.{unpack};
+ghost use Rattle.words.specs.Bytes.{shape};
+ghost use Rattle.tables.specs.Packed.{wordsOf, inOrder, sorted};
+ghost use Rattle.tables.specs.Columns.{PartedAt, BegunAt, coveredFrom};
+
+// The ways that a word has below its belt, at most.
+const MAX_WAYS: u8 = 15;
+
+// Whether one word stands before another, by the first digit that differs, or begins it.
+pub fn in_order(u: u64, v: u64) -> bool
+    ensures { λ r. ⌜ r ≡ inOrder (unpack u) (unpack v) ⌝ }
+{
+    if words::before(u, v) {
+        return true;
+    }
+    words::begins(u, v)
+}
+
+// The number of words at the front of a sorted column that are in order with w.
+pub fn first_after(column: &[u64], w: u64) -> usize
+    requires { ⌜ sorted (wordsOf (now column)) ≡ true ⌝ }
+    ensures { λ r. ⌜ PartedAt (now (column .entry)) w r ⌝ }
+{
+    let mut low = 0;
+    let mut high = column.len();
+    while low < high {
+        let middle = low + (high - low) / 2;
+        if in_order(column[middle], w) {
+            low = middle + 1;
+        } else {
+            high = middle;
+        }
+    }
+    low
+}
+
+// Whether a word is in the column.
+pub fn has(column: &[u64], w: u64) -> bool
+    requires { ⌜ sorted (wordsOf (now column)) ≡ true ⌝ }
+    ensures { λ r. ⌜ r ≡ listed (unpack w) (wordsOf (now (column .entry))) ⌝ }
+{
+    let end = first_after(column, w);
+    if end == 0 {
+        return false;
+    }
+    column[end - 1] == w
+}
+
+// The place of the word that begins w, or the column's length where none does: the last of the words in order with w, if any.
+pub fn begun_by(column: &[u64], w: u64) -> usize
+    requires { ⌜ sorted (wordsOf (now column)) ≡ true ⌝ }
+    requires { ⌜ overlap (wordsOf (now column)) ≡ false ⌝ }
+    ensures { λ r. ⌜ BegunAt (now (column .entry)) w r ⌝ }
+{
+    let end = first_after(column, w);
+    if end == 0 {
+        return column.len();
+    }
+    if words::begins(column[end - 1], w) {
+        return end - 1;
+    }
+    column.len()
+}
+
+// Whether one word begins or equals another. In a sorted column it then begins its right neighbour.
+pub fn overlaps(column: &[u64]) -> bool
+    requires { ⌜ sorted (wordsOf (now column)) ≡ true ⌝ }
+    ensures { λ r. ⌜ r ≡ overlap (wordsOf (now (column .entry))) ⌝ }
+{
+    let mut i = 0;
+    while i + 1 < column.len() {
+        let word = column[i];
+        let next = column[i + 1];
+        if words::begins(word, next) {
+            return true;
+        }
+        i += 1;
+    }
+    false
+}
+
+// Whether a block is covered: listed, or each of its parts is covered, looked at `left` ways below it.
+pub fn covered_block(column: &[u64], arity: u8, w: u64, left: u8) -> bool
+    requires { ⌜ sorted (wordsOf (now column)) ≡ true ⌝ }
+    requires { ⌜ (arity ≤ 9) × (length (unpack w) + left ≤ maxDigits) ⌝ }
+    ensures { λ r. ⌜ r ≡ covered arity (wordsOf (now (column .entry))) left (unpack w) ⌝ }
+{
+    if has(column, w) {
+        return true;
+    }
+    if left == 0 {
+        return false;
+    }
+    covered_ways(column, arity, w, 1, left)
+}
+
+// Whether the parts of a block from a way on are covered, up to the first that is not.
+fn covered_ways(column: &[u64], arity: u8, w: u64, way: u8, left: u8) -> bool
+    requires { ⌜ sorted (wordsOf (now column)) ≡ true ⌝ }
+    requires { ⌜ (arity ≤ 9) × (1 ≤ way) × (way ≤ arity + 1) × (1 ≤ left) × (length (unpack w) + left ≤ maxDigits) ⌝ }
+    ensures { λ r. ⌜ r ≡ coveredFrom arity (wordsOf (now (column .entry))) (left - 1) (unpack w) way ⌝ }
+{
+    if arity < way {
+        return true;
+    }
+    if !covered_block(column, arity, words::child(w, way), left - 1) {
+        return false;
+    }
+    covered_ways(column, arity, w, way + 1, left)
+}
+
+// Whether a belt isn't covered. Deeper than the longest words of a plan there is nothing to look for.
+pub fn has_gap(column: &[u64], arity: u8, roots: u8) -> bool
+    requires { ⌜ sorted (wordsOf (now column)) ≡ true ⌝ }
+    requires { ⌜ (1 ≤ arity) × (arity ≤ 9) × (roots ≤ 9) ⌝ }
+    ensures { λ r. ⌜ r ≡ gap (shape arity roots) (wordsOf (now (column .entry))) ⌝ }
+{
+    let mut belt: u8 = 1;
+    while belt <= roots {
+        let covered = covered_block(column, arity, words::child(0, belt), MAX_WAYS);
+        if !covered {
+            return true;
+        }
+        belt += 1;
+    }
+    false
+}

@@ -1,0 +1,208 @@
+// Reduction (document 01, "Plans"; document 004, Lemma 4.3): the reduced table of two packed columns whose from column is a basis in
+// order. A recursion over the blocks in digit order, with a cursor into the input: a block is listed, or its parts follow one
+// another. "The joins inside a block come before the join of the block itself"; a joined pair is written over the pairs it joins.
+ghost use mathlib.Core.Path.{_≡_};
+ghost use mathlib.Core.List.{_++_};
+ghost use Prim.Native.Nat.{_+_, _-_, _≤_, _<_};
+ghost use lib.Dec.{T};
+ghost use lib.ListN.{length, drop};
+ghost use Rattle.higman.specs.Words.{child};
+ghost use Rattle.higman.specs.Bases.{sameWord};
+ghost use Rattle.higman.specs.Tables.{Table, sameTable};
+ghost use Rattle.higman.specs.Normal.{parts, joined, keep};
+ghost use Rattle.higman.specs.Limits.{maxDigits, shapeInRange};
+ghost use Rattle.words.specs.Packed.{unpack};
+ghost use Rattle.words.specs.Bytes.{shape};
+ghost use Rattle.tables.specs.Packed.{table};
+ghost use Rattle.tables.specs.Reduction.{prefixed, rows, rowsAt, Block, Parts, state, Places, ReducesBlock, ReducesParts, Reducible};
+
+// The ways below a root that a word has room for.
+const MAX_WAYS: u8 = 15;
+
+// The places of the next pair to read and of the next pair to write.
+pub struct Cursor {
+    pub read: usize,
+    pub write: usize,
+}
+
+// Whether x is the i-th part of w.
+fn is_part(x: u64, w: u64, i: u8) -> bool
+    requires { ⌜ 1 ≤ i ⌝ }
+    ensures { λ r. ⌜ r ≡ sameWord (unpack x) (child (unpack w) i) ⌝ }
+{
+    if words::last(x) != i {
+        return false;
+    }
+    words::parent(x) == w
+}
+
+// Whether the pairs from the place at on are the n parts of w with the n parts of v, in the same order.
+fn are_parts(from: &[u64], to: &[u64], at: usize, w: u64, v: u64, arity: u8) -> bool
+    requires { ⌜ (arity ≤ 9) × (at + arity ≤ length (now from)) × (at + arity ≤ length (now to)) ⌝ }
+    ensures { λ r. ⌜ r ≡ sameTable (rowsAt at arity (now (from .entry)) (now (to .entry))) (prefixed (unpack w) (parts arity (unpack v))) ⌝ }
+{
+    let mut k = at;
+    let mut i: u8 = 1;
+    while i <= arity {
+        if !is_part(from[k], w, i) {
+            return false;
+        }
+        if !is_part(to[k], v, i) {
+            return false;
+        }
+        k += 1;
+        i += 1;
+    }
+    true
+}
+
+// Joins the pairs from the place start up to end into the one pair of the block w, if they are its parts with the parts of a word
+// of at least a belt. Returns the place behind the pairs that are left.
+fn join(from: &mut [u64], to: &mut [u64], start: usize, end: usize, w: u64, arity: u8) -> usize
+    requires { ⌜ (1 ≤ arity) × (arity ≤ 9) × (start ≤ end) × (end ≤ length (now from)) × (end ≤ length (now to)) ⌝ }
+    ensures within { λ r. ⌜ r ≤ end ⌝ }
+    ensures joins { λ r. ⌜ ((t b : Table) → rows end (now (from .entry)) (now (to .entry)) ≡ t ++ prefixed (unpack w) b → length t ≡ start
+        → rows r (now (from .exit)) (now (to .exit)) ≡ t ++ prefixed (unpack w) (joined arity b)) ⌝ }
+{
+    if end - start != arity as usize {
+        return end;
+    }
+    let v = words::parent(to[start]);
+    if v == 0 {
+        return end;
+    }
+    if !are_parts(from, to, start, w, v, arity) {
+        return end;
+    }
+    from[start] = w;
+    to[start] = v;
+    start + 1
+}
+
+// Reduces the block w, whose pairs stand at the place read and cut it into parts at most `left` ways below. The reduced pairs are
+// written from the place write on.
+fn reduce_block(
+    from: &[u64],
+    to: &[u64],
+    out_from: &mut [u64],
+    out_to: &mut [u64],
+    w: u64,
+    left: u8,
+    arity: u8,
+    read: usize,
+    write: usize,
+) -> Cursor
+    requires { ⌜ Places (state (now from) (now to) (now «out_from») (now «out_to») read write) × (1 ≤ arity) × (arity ≤ 9)
+        × (length (unpack w) + left ≤ maxDigits) × Block arity left (unpack w) (drop read (table (now from) (now to))) ⌝ }
+    ensures places { λ r. ⌜ Places (state (now (from .entry)) (now (to .entry)) (now («out_from» .exit)) (now («out_to» .exit)) (r .read) (r .write)) ⌝ }
+    ensures reduces { λ r. ⌜ ReducesBlock arity left (unpack w)
+        (state (now (from .entry)) (now (to .entry)) (now («out_from» .entry)) (now («out_to» .entry)) read write)
+        (state (now (from .entry)) (now (to .entry)) (now («out_from» .exit)) (now («out_to» .exit)) (r .read) (r .write)) ⌝ }
+{
+    if from[read] == w {
+        out_from[write] = w;
+        out_to[write] = to[read];
+        return Cursor {
+            read: read + 1,
+            write: write + 1,
+        };
+    }
+    let c = reduce_ways(
+        from,
+        to,
+        out_from,
+        out_to,
+        w,
+        1,
+        arity,
+        left - 1,
+        arity,
+        read,
+        write,
+    );
+    let next = c.read;
+    let end = c.write;
+    let joined = join(out_from, out_to, write, end, w, arity);
+    Cursor {
+        read: next,
+        write: joined,
+    }
+}
+
+// Reduces the parts of w from the i-th to the last, one after the other, each cut into parts at most `left` ways below.
+fn reduce_ways(
+    from: &[u64],
+    to: &[u64],
+    out_from: &mut [u64],
+    out_to: &mut [u64],
+    w: u64,
+    i: u8,
+    last: u8,
+    left: u8,
+    arity: u8,
+    read: usize,
+    write: usize,
+) -> Cursor
+    requires { ⌜ Places (state (now from) (now to) (now «out_from») (now «out_to») read write) × (1 ≤ arity) × (arity ≤ 9)
+        × (length (unpack w) + left < maxDigits) × (1 ≤ i) × (i ≤ last + 1) × (last ≤ 9)
+        × Parts arity left (unpack w) i (last + 1 - i) (drop read (table (now from) (now to))) ⌝ }
+    ensures places { λ r. ⌜ Places (state (now (from .entry)) (now (to .entry)) (now («out_from» .exit)) (now («out_to» .exit)) (r .read) (r .write)) ⌝ }
+    ensures reduces { λ r. ⌜ ReducesParts arity left (unpack w) i (last + 1 - i)
+        (state (now (from .entry)) (now (to .entry)) (now («out_from» .entry)) (now («out_to» .entry)) read write)
+        (state (now (from .entry)) (now (to .entry)) (now («out_from» .exit)) (now («out_to» .exit)) (r .read) (r .write)) ⌝ }
+{
+    if last < i {
+        return Cursor {
+            read: read,
+            write: write,
+        };
+    }
+    let part = words::child(w, i);
+    let c = reduce_block(from, to, out_from, out_to, part, left, arity, read, write);
+    let next = c.read;
+    let end = c.write;
+    reduce_ways(
+        from,
+        to,
+        out_from,
+        out_to,
+        w,
+        i + 1,
+        last,
+        left,
+        arity,
+        next,
+        end,
+    )
+}
+
+// Writes the reduced table of the columns from and to into the lent columns, from their first place on, and returns the number of its
+// pairs. The from column is in order and a basis.
+pub fn reduce(
+    from: &[u64],
+    to: &[u64],
+    out_from: &mut [u64],
+    out_to: &mut [u64],
+    arity: u8,
+    roots: u8,
+) -> usize
+    requires { ⌜ (length (now from) ≡ length (now to)) × (length (now from) ≤ length (now «out_from»)) × (length (now from) ≤ length (now «out_to»))
+        × T (shapeInRange (shape arity roots)) × Reducible (shape arity roots) (table (now from) (now to)) ⌝ }
+    ensures within { λ r. ⌜ r ≤ length (now (from .entry)) ⌝ }
+    ensures keeps { λ r. ⌜ rows r (now («out_from» .exit)) (now («out_to» .exit)) ≡ keep (shape arity roots) (table (now (from .entry)) (now (to .entry))) ⌝ }
+{
+    let c = reduce_ways(
+        from,
+        to,
+        out_from,
+        out_to,
+        0,
+        1,
+        roots,
+        MAX_WAYS,
+        arity,
+        0,
+        0,
+    );
+    c.write
+}
