@@ -17,3 +17,6 @@ pub mod Reduction
 pub mod Spread
 pub mod Followed
 pub mod Wide
+pub mod Lookup
+pub mod Extending
+pub mod Beneath

@@ -111,22 +111,23 @@ module _ (column : List ℕ) (s : sorted (wordsOf column) ≡ true) (w : ℕ) wh
         go (inr f) (inl t) = absurd (clash (eq-eqb x w (same t)) f)
         go (inr f) (inr n) = f ∙ sym n
 
--- a word that w does not meet is not begun by w
-unmet : (w : Word) (c : List Word) → meets w c ≡ false → (u : Word) → List·Memᴰ u c → begins w u ≡ false
+-- a word that w does not meet is not begun by w, and does not begin it
+pub unmet : (w : Word) (c : List Word) → meets w c ≡ false → (u : Word) → List·Memᴰ u c → (begins w u ≡ false) × (begins u w ≡ false)
 unmet w [] e u m = absurd (List·Memᴰ·not-nil m)
 unmet w (v ∷ c) e u m =
     let pair = begins w v || begins v w in
-    go (or-left-false (begins w v) (begins v w) (or-left-false pair (meets w c) e)) (List·Memᴰ·cases-cons m) (λ k. unmet w c (or-right-false pair (meets w c) e) u k)
+    go (or-left-false pair (meets w c) e) (List·Memᴰ·cases-cons m) (λ k. unmet w c (or-right-false pair (meets w c) e) u k)
   where
-    go : begins w v ≡ false → (u ≡ v) ⊎ List·Memᴰ u c → (List·Memᴰ u c → begins w u ≡ false) → begins w u ≡ false
-    go f (inl p) rest = ap (begins w) p ∙ f
+    go : (begins w v || begins v w) ≡ false → (u ≡ v) ⊎ List·Memᴰ u c → (List·Memᴰ u c → (begins w u ≡ false) × (begins u w ≡ false)) → (begins w u ≡ false) × (begins u w ≡ false)
+    go f (inl p) rest =
+        (ap (begins w) p ∙ or-left-false (begins w v) (begins v w) f, ap (λ x. begins x w) p ∙ or-right-false (begins w v) (begins v w) f)
     go f (inr k) rest = rest k
 
 apart-at : (column : List ℕ) → overlap (wordsOf column) ≡ false → (j k : ℕ) → j < k → k < length column → begins (wordAt column j) (wordAt column k) ≡ false
 apart-at [] o j k h l = absurd (omega arith)
 apart-at (x ∷ column) o j zero h l = absurd (omega arith)
 apart-at (x ∷ column) o zero (suc k) h l =
-    unmet (unpack x) (wordsOf column) (or-left-false (meets (unpack x) (wordsOf column)) (overlap (wordsOf column)) o) (wordAt column k) (mem-at column k (omega arith))
+    unmet (unpack x) (wordsOf column) (or-left-false (meets (unpack x) (wordsOf column)) (overlap (wordsOf column)) o) (wordAt column k) (mem-at column k (omega arith)) .0
 apart-at (x ∷ column) o (suc j) (suc k) h l =
     apart-at column (or-right-false (meets (unpack x) (wordsOf column)) (overlap (wordsOf column)) o) j k (omega arith) (omega arith)
 
@@ -141,7 +142,7 @@ module _ (column : List ℕ) (s : sorted (wordsOf column) ≡ true) (o : overlap
     where
       go : (k : ℕ) → k < r → u ≡ wordAt column k → begins (wordAt column k) (unpack w) ≡ true → (ltb k (r - 1) ≡ true) ⊎ (ltb k (r - 1) ≡ false) → (0 < r) × (u ≡ wordAt column (r - 1))
       go k h e b′ (inl t) =
-          let last = last-in-order column s w r p (omega arith) in
+          let last = in-order-of-test (wordAt column (r - 1)) (unpack w) (p .front (r - 1) (omega arith)) in
           let begun = begins-between (wordAt column k) (wordAt column (r - 1)) (unpack w) (up-to-last column s w r p k h) last b′ in
           absurd (clash begun (apart-at column o k (r - 1) (ltb-true k (r - 1) t) (omega (arith, p .within))))
       go k h e b′ (inr f) =

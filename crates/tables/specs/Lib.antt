@@ -5,4 +5,5 @@ pub mod Columns
 pub mod Sorts
 pub mod Reduction
 pub mod Spread
+pub mod Spreading
 pub mod Lines

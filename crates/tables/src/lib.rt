@@ -5,3 +5,4 @@ pub mod columns;
 pub mod list;
 pub mod reduce;
 pub mod sorting;
+pub mod spreading;

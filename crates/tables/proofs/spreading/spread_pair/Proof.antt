@@ -1,0 +1,145 @@
+-- `plans::spreading::spread_pair` meets its contract: a from-word of b that begins v gives the image of v, and where none does, v has
+-- no image and the pairs beneath it are written.
+use Prim.Native.Nat.{ℕ}
+use mathlib.Core.Path.{_≡_, sym, _∙_, ap, subst}
+use mathlib.Core.List.{[], _∷_, _++_, append-nil}
+use borrow.Author.Needs.{needs}
+use native.Mathlib.Omega.{arith}
+use lib.ListN.{length, getD}
+use Rattle.words.specs.Packed.{unpack}
+use Rattle.words.proofs.Packing.{unpack-zero}
+use Rattle.tables.specs.Packed.{table}
+use Rattle.tables.specs.Columns.{wordAt}
+use Rattle.tables.specs.Spread.{beneath, spreadPair}
+use Rattle.tables.specs.Spreading.{pair, Room, Spreads, Unbegun}
+use Rattle.tables.proofs.Lookup.{image-at, image-nowhere, packed-at, packed-zero, packed-tail}
+use Rattle.tables.proofs.Beneath.{spread-whole, spread-parts}
+use Rattle.tables.proofs.spreading.spread_pair.Statement.{statement}
+use Rattle.tables.proofs.spreading.spread_pair.Tie as tie
+
+-- the one pair, where a from-word begins v
+single : (c : tie.After-tail) →
+    let b = c .before .before .before .before in
+    let a = b .before .before .before .before .before .args in
+    spreadPair (table (a .from .now) (a .to .now)) (pair (unpack (a .u)) (unpack (a .v))) ≡ pair (unpack (a .u) ++ unpack 0) (wordAt (a .to .now) (b .begun-by .result) ++ unpack (c .tail .result)) ∷ []
+single c =
+    let b = c .before .before .before .before in
+    let s = b .before .before .before .before .before in
+    let a = s .args in
+    let k = b .begun-by .result in
+    let z = wordAt (a .to .now) k ++ unpack (c .tail .result) in
+    let whole : unpack (a .u) ≡ unpack (a .u) ++ unpack 0 = sym (ap (λ w. unpack (a .u) ++ w) unpack-zero ∙ append-nil (unpack (a .u))) in
+    spread-whole (table (a .from .now) (a .to .now)) (unpack (a .u)) (unpack (a .v)) z (image-at (a .from .now) (a .to .now) (s .pre .1 .0 .plain .long) (s .pre .1 .0 .apart) k (omega arith) (unpack (a .v)) (unpack (c .tail .result)) (c .tail .ensures))
+    ∙ ap (λ w. pair w z ∷ []) whole
+
+-- no from-word begins v
+unbegun : (c : tie.Else1) → let a = c .before .before .before .before .before .before .args in Unbegun (a .from .now) (a .v)
+unbegun c = c .before .begun-by .ensures .none (omega (arith, c .before .begun-by .ensures .within))
+
+parts : (c : tie.Else1) →
+    let a = c .before .before .before .before .before .before .args in
+    spreadPair (table (a .from .now) (a .to .now)) (pair (unpack (a .u)) (unpack (a .v))) ≡ beneath (unpack (a .u)) (unpack (a .v)) (table (a .from .now) (a .to .now))
+parts c =
+    let a = c .before .before .before .before .before .before .args in
+    spread-parts (table (a .from .now) (a .to .now)) (unpack (a .u)) (unpack (a .v)) (image-nowhere (a .from .now) (a .to .now) (unpack (a .v)) (unbegun c))
+
+begun-by-requires : tie.Need-begun-by-requires
+begun-by-requires c κs = search needs
+
+mul-put : tie.Need-mul-put
+mul-put c = omega arith
+
+shared-slice-read-put : tie.Need-shared-slice-read-put
+shared-slice-read-put c = omega arith
+
+mul-tail : tie.Need-mul-tail
+mul-tail c = omega arith
+
+shared-slice-read-tail : tie.Need-shared-slice-read-tail
+shared-slice-read-tail c = omega arith
+
+tail-requires : tie.Need-tail-requires
+tail-requires c κs =
+    let b = c .before .before .before in
+    let s = b .before .before .before .before .before in
+    (s .pre .0 .1, b .begun-by .ensures .found (c .before .before .if1 .taken))
+
+put-requires : tie.Need-put-requires
+put-requires c κs =
+    let t = c .before .before in
+    let b = t .before .before .before .before in
+    let s = b .before .before .before .before .before in
+    let a = s .args in
+    let k = b .begun-by .result in
+    let room = subst (λ t. Room (a .n) t (a .froms .now) (a .tos .now)) (single t) (s .pre .1 .1) in (
+      (
+        s .pre .0 .0,
+        (
+          packed-zero,
+          (
+            packed-at (a .to .now) (s .pre .1 .0 .plain .to-packed) k (omega arith),
+            packed-tail (wordAt (a .from .now) k) (a .v) (t .tail .result) (s .pre .0 .1) (t .tail .ensures),
+          ),
+        ),
+      ),
+      (omega arith, omega arith),
+    )
+
+spread-beneath-requires : tie.Need-spread-beneath-requires
+spread-beneath-requires c κs =
+    let e = c .before .before in
+    let s = e .before .before .before .before .before .before in
+    let a = s .args in
+    (s .pre .0, (s .pre .1 .0, (unbegun e, subst (λ t. Room (a .n) t (a .froms .now) (a .tos .now)) (parts e) (s .pre .1 .1))))
+
+same-length : tie.Need-same-length
+same-length c = c .before .before .before .before .put .kept .1 .1 .1 .1 .0
+
+same-length-2 : tie.Need-same-length-2
+same-length-2 c = c .before .before .before .before .put .kept .1 .1 .1 .1 .1 .0
+
+returns : tie.Need-returns
+returns c =
+    let p = c .before .before .before .before in
+    let t = p .before .before .before in
+    let b = t .before .before .before .before in
+    let a = b .before .before .before .before .before .args in
+    subst
+    (λ r. Spreads r (a .n) (a .froms .now) (a .tos .now) (p .put .last .1 .1 .1 .1 .0) (p .put .last .1 .1 .1 .1 .1 .0) (p .put .result))
+    (sym (single t))
+    (p .put .ensures)
+
+same-length-3 : tie.Need-same-length-3
+same-length-3 c = c .before .before .before .before .spread-beneath .kept .1 .1 .1 .1 .0
+
+same-length-4 : tie.Need-same-length-4
+same-length-4 c = c .before .before .before .before .spread-beneath .kept .1 .1 .1 .1 .1 .0
+
+returns-2 : tie.Need-returns-2
+returns-2 c =
+    let p = c .before .before .before .before in
+    let e = p .before .before .before in
+    let a = e .before .before .before .before .before .before .args in
+    subst
+    (λ r. Spreads r (a .n) (a .froms .now) (a .tos .now) (p .spread-beneath .last .1 .1 .1 .1 .0) (p .spread-beneath .last .1 .1 .1 .1 .1 .0) (p .spread-beneath .result))
+    (sym (parts e))
+    (p .spread-beneath .ensures)
+
+pub spread-pair-spec : {M : Type 1} → statement M
+spread-pair-spec =
+    tie.close
+    (tie.spec
+    begun-by-requires
+    mul-put
+    shared-slice-read-put
+    mul-tail
+    shared-slice-read-tail
+    tail-requires
+    put-requires
+    spread-beneath-requires
+    same-length
+    same-length-2
+    returns
+    same-length-3
+    same-length-4
+    returns-2)
