@@ -12,7 +12,7 @@ use lib.Seq.{take-suc-set, length-take-le}
 use borrow.Author.Tests.{le-leb, lt-leb}
 use Rattle.higman.specs.Words.{Word}
 use Rattle.higman.specs.Bases.{all}
-use Rattle.higman.specs.Tables.{Pair, Table}
+use Rattle.higman.specs.Tables.{Table}
 use Rattle.higman.specs.Limits.{maxDigits, fits, pairFits}
 use Rattle.higman.proofs.Tests.{and-intro, all-cons}
 use Rattle.words.specs.Packed.{unpack, isPacked}

@@ -20,3 +20,4 @@ pub mod Wide
 pub mod Lookup
 pub mod Extending
 pub mod Beneath
+pub mod Routes

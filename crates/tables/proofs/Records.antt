@@ -1,4 +1,5 @@
--- The records of a listing: the bytes of a word, the lengths of records, and the M records that are left from a place of the two columns on.
+-- The records of a listing: the bytes of a word, the lengths of records and of whole listings, and the M records that are left from a
+-- place of the two columns on, which are those of the pair there and then those from the next place on.
 use Prim.Native.Nat.{ℕ, _+_, _^_, _≤_, _<_}
 use mathlib.Core.Path.{_≡_, sym, _∙_, ap, ap₂}
 use mathlib.Core.List.{List, [], _++_}

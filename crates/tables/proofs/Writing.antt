@@ -1,4 +1,5 @@
--- Bytes written into a buffer one run behind the other: together they are one run.
+-- Bytes written into a buffer one run behind the other: together they are one run. `Wrote` says of a run where it stands and that the
+-- rest of the buffer is as it was.
 use Prim.Native.Nat.{ℕ, _+_, _≤_, _<_}
 use mathlib.Core.Path.{_≡_, sym, _∙_, ap, ap₂}
 use mathlib.Core.List.{List, [], _∷_, _++_, append-assoc}

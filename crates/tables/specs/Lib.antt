@@ -6,4 +6,5 @@ pub mod Sorts
 pub mod Reduction
 pub mod Spread
 pub mod Spreading
+pub mod Routing
 pub mod Lines

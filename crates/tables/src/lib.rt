@@ -4,5 +4,6 @@
 pub mod columns;
 pub mod list;
 pub mod reduce;
+pub mod routing;
 pub mod sorting;
 pub mod spreading;

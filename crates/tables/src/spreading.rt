@@ -60,7 +60,8 @@ fn spread_beneath(
         if !words::begins(v, from[i]) {
             return Spread::Rows(rows);
         }
-        let Spread::Rows(r) = put(u, words::tail(v, from[i]), to[i], 0, froms, tos, rows) else {
+        let tail = words::tail(v, from[i]);
+        let Spread::Rows(r) = put(u, tail, to[i], 0, froms, tos, rows) else {
             return Spread::TooLong;
         };
         rows = r;
@@ -86,7 +87,9 @@ fn spread_pair(
 {
     let k = columns::begun_by(from, v);
     if k < from.len() {
-        put(u, 0, to[k], words::tail(from[k], v), froms, tos, n)
+        let image = to[k];
+        let tail = words::tail(from[k], v);
+        put(u, 0, image, tail, froms, tos, n)
     } else {
         spread_beneath(u, v, from, to, froms, tos, n)
     }

@@ -1,4 +1,5 @@
--- `tables::list::close_line` meets its contract: the letter and the line end are one run.
+-- `tables::list::close_line` meets its contract: the letter and the line end are one run. `.put` and `.put2` are what the two calls
+-- say, each four records behind the next.
 use borrow.Author.Needs.{needs}
 use native.Mathlib.Omega.{arith}
 use Rattle.tables.proofs.Writing.{wrote-then}

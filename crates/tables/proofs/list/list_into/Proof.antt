@@ -1,4 +1,5 @@
--- `tables::list::list_into` meets its contract: the P record, the M records and the E record are one run, the listing.
+-- `tables::list::list_into` meets its contract: the P record, the M records and the E record are one run, the listing. That each has
+-- room follows from the length of the whole listing, `listing-size`.
 use mathlib.Core.Path.{_∙_}
 use borrow.Author.Needs.{needs}
 use native.Mathlib.Nat.{zero-add}

@@ -1,4 +1,5 @@
--- `tables::list::open_line` meets its contract: the letter, the three fields and the line end are one run.
+-- `tables::list::open_line` meets its contract: the letter, the three fields and the line end are one run. Each of the five calls stands
+-- four records behind the next, and the two calls of `byte` before them say the digits' bytes.
 use Prim.Native.Nat.{ℕ}
 use mathlib.Core.Path.{_≡_, subst}
 use mathlib.Core.List.{List, [], _∷_}

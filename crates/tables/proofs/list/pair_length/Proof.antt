@@ -1,4 +1,5 @@
--- `tables::list::pair_length` meets its contract: the four marks and the digits of the two words.
+-- `tables::list::pair_length` meets its contract: the four marks, a letter, two tabs and a line end, and the digits of the two words.
+-- A packed word has few digits, so the sums fit.
 use borrow.Author.Needs.{needs}
 use native.Mathlib.Omega.{arith}
 use Rattle.tables.specs.Lines.{pairOf}

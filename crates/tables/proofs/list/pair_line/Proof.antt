@@ -1,4 +1,5 @@
--- `tables::list::pair_line` meets its contract: the letter, the two words and the line end are one run.
+-- `tables::list::pair_line` meets its contract: the letter, the two words and the line end are one run. That each has room follows from
+-- the length of the whole record, `pair-size`.
 use borrow.Author.Needs.{needs}
 use native.Mathlib.Omega.{arith}
 use Rattle.words.specs.Packed.{unpack}

@@ -1,4 +1,5 @@
--- `tables::list::put` meets its contract: a store is a run of one byte.
+-- `tables::list::put` meets its contract: a store is a run of one byte. The place is within the buffer, as the function requires, so
+-- the place behind it is a number that fits.
 use borrow.Author.Needs.{needs}
 use Rattle.tables.proofs.Writing.{wrote-byte}
 use Rattle.tables.proofs.list.put.Statement.{statement}

@@ -1,4 +1,5 @@
--- `tables::list::put_field` meets its contract: the tab and the byte are one run.
+-- `tables::list::put_field` meets its contract: the tab and the byte are one run. `.put` and `.put2` are what the two calls say, each
+-- four records behind the next.
 use borrow.Author.Needs.{needs}
 use native.Mathlib.Omega.{arith}
 use Rattle.tables.proofs.Writing.{wrote-then}

@@ -1,4 +1,5 @@
--- `tables::list::put_word` meets its contract: the tab and the word are one run.
+-- `tables::list::put_word` meets its contract: the tab and the word are one run. A word has as many bytes as digits, which
+-- `wrote-word` says.
 use borrow.Author.Needs.{needs}
 use native.Mathlib.Omega.{arith}
 use Rattle.words.specs.Packed.{unpack}

@@ -1,4 +1,4 @@
--- `plans::spreading::put` meets its contract: the words have room if their parts together have no more digits than the limit.
+-- `tables::spreading::put` meets its contract: the words have room if their parts together have no more digits than the limit.
 use Prim.Native.Nat.{ℕ, _+_, _≤_}
 use mathlib.Core.Path.{ap₂, subst}
 use mathlib.Core.List.{[], _∷_, _++_}
@@ -26,85 +26,67 @@ second-room : (c : tie.Else2) → let a = start c .args in length (unpack (a .v)
 unfolding start
 second-room c = omega (arith, limit)
 
--- src/spreading.rt:31:21
 length-requires : tie.Need-length-requires
 length-requires c κs = search needs
 
--- src/spreading.rt:31:40
 length-requires-2 : tie.Need-length-requires-2
 length-requires-2 c κs = search needs
 
--- src/spreading.rt:31:21
 add-if1 : tie.Need-add-if1
 add-if1 c =
     let s = c .before .before .before .before in
     record { fits = omega (arith, word-fits (s .args .u) (s .fits .u .fits), word-fits (s .args .x) (s .fits .x .fits), limit) }
 
--- src/spreading.rt:32:9
 returns : tie.Need-returns
 returns c =
     let a = c .before .before .before .before .before .args in
     from-too-long (unpack (a .u) ++ unpack (a .x)) (unpack (a .v) ++ unpack (a .y)) (omega (arith, length-append (unpack (a .u)) (unpack (a .x)), limit))
 
--- src/spreading.rt:34:21
 length-requires-3 : tie.Need-length-requires-3
 length-requires-3 c κs = search needs
 
--- src/spreading.rt:34:40
 length-requires-4 : tie.Need-length-requires-4
 length-requires-4 c κs = search needs
 
--- src/spreading.rt:34:21
 add-if2 : tie.Need-add-if2
 add-if2 c =
     let s = c .before .before .before .before .before .before .before in
     record { fits = omega (arith, word-fits (s .args .v) (s .fits .v .fits), word-fits (s .args .y) (s .fits .y .fits), limit) }
 
--- src/spreading.rt:35:9
 returns-2 : tie.Need-returns-2
 returns-2 c =
     let a = c .before .before .before .before .before .before .before .before .args in
     to-too-long (unpack (a .u) ++ unpack (a .x)) (unpack (a .v) ++ unpack (a .y)) (omega (arith, length-append (unpack (a .v)) (unpack (a .y)), limit))
 
--- src/spreading.rt:37:16
 append-requires : tie.Need-append-requires
 unfolding start
 append-requires c κs = first-room c
 
--- src/spreading.rt:37:5
 mul-froms : tie.Need-mul-froms
 mul-froms c = search needs
 
--- src/spreading.rt:37:5
 slice-write-froms : tie.Need-slice-write-froms
 slice-write-froms c = search needs
 
--- src/spreading.rt:38:14
 append-requires-2 : tie.Need-append-requires-2
 unfolding start
 append-requires-2 c κs = second-room (c .before)
 
--- src/spreading.rt:38:5
 mul-tos : tie.Need-mul-tos
 mul-tos c = search needs
 
--- src/spreading.rt:38:5
 slice-write-tos : tie.Need-slice-write-tos
 slice-write-tos c = search needs
 
--- src/spreading.rt:39:18
 add-t13 : tie.Need-add-t13
 add-t13 c = search needs
 
--- src/spreading.rt:26:1
 same-length : tie.Need-same-length
 same-length c = search needs
 
--- src/spreading.rt:26:1
 same-length-2 : tie.Need-same-length-2
 same-length-2 c = search needs
 
--- src/spreading.rt:26:1
 returns-3 : tie.Need-returns-3
 unfolding start
 returns-3 c =

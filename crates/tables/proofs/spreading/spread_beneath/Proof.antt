@@ -1,8 +1,8 @@
--- `plans::spreading::spread_beneath` meets its contract. The invariant: the pairs beneath the word are those written so far and those
+-- `tables::spreading::spread_beneath` meets its contract. The invariant: the pairs beneath the word are those written so far and those
 -- of the places from i on. The measure is what is left of the column.
 use Prim.Native.Nat.{ℕ, _+_, _-_, _≤_}
 use mathlib.Core.Path.{_≡_, sym, _∙_, ap, subst}
-use mathlib.Core.Bool.{true, false}
+use mathlib.Core.Bool.{false}
 use mathlib.Core.List.{List, [], _∷_, _++_, append-nil}
 use borrow.Author.Needs.{needs}
 use borrow.Author.Tests.{not-true, not-false}
@@ -57,11 +57,9 @@ turn c =
     beneath-take (unpack (a .u)) (unpack (a .v)) (a .from .now) (a .to .now) i (unpack (c .tail .result)) (omega arith) (omega arith) (c .tail .ensures)
     ∙ ap (λ w. pair (unpack (a .u) ++ unpack (c .tail .result)) w ∷ left (a .u) (a .v) (a .from .now) (a .to .now) (i + 1)) whole
 
--- src/spreading.rt:51:9
 first-after-requires : tie.Need-first-after-requires Inv-loop μ-loop
 first-after-requires c κs = search needs
 
--- src/spreading.rt:52:5
 loop-holds : tie.Need-loop-holds Inv-loop μ-loop
 loop-holds c =
     let s = c .before .before .before .before .before in
@@ -80,27 +78,21 @@ loop-holds c =
           (beneath-skip (unpack (a .u)) (unpack (a .v)) (c .first-after .result) (a .from .now) (a .to .now) (s .pre .1 .0 .plain .long) (none-before (a .from .now) (a .v) (c .first-after .result) p (s .pre .1 .1 .0)) (p .within));
     }
 
--- src/spreading.rt:53:30
 mul-begins : tie.Need-mul-begins Inv-loop μ-loop
 mul-begins c = omega arith
 
--- src/spreading.rt:53:30
 shared-slice-read-begins : tie.Need-shared-slice-read-begins Inv-loop μ-loop
 shared-slice-read-begins c = omega arith
 
--- src/spreading.rt:53:13
 begins-requires : tie.Need-begins-requires Inv-loop μ-loop
 begins-requires c κs = search needs
 
--- src/spreading.rt:54:13
 same-length : tie.Need-same-length Inv-loop μ-loop
 same-length c = c .before .before .before .before .loop .inv .filling .from-long
 
--- src/spreading.rt:54:13
 same-length-2 : tie.Need-same-length-2 Inv-loop μ-loop
 same-length-2 c = c .before .before .before .before .loop .inv .filling .to-long
 
--- src/spreading.rt:54:13
 returns : tie.Need-returns Inv-loop μ-loop
 returns c =
     let l = c .before .before .before .before in
@@ -113,15 +105,12 @@ returns c =
     (l .loop .inv .filling)
     (beneath-stop (unpack (a .u)) (unpack (a .v)) (a .from .now) (a .to .now) i (none-behind (a .from .now) (a .v) (f .first-after .result) (f .first-after .ensures) (s .pre .1 .0 .in-order) i (l .loop .inv .onward) (omega arith) other))
 
--- src/spreading.rt:56:53
 mul-tail : tie.Need-mul-tail Inv-loop μ-loop
 mul-tail c = omega arith
 
--- src/spreading.rt:56:53
 shared-slice-read-tail : tie.Need-shared-slice-read-tail Inv-loop μ-loop
 shared-slice-read-tail c = omega arith
 
--- src/spreading.rt:56:38
 tail-requires : tie.Need-tail-requires Inv-loop μ-loop
 tail-requires c κs =
     let l = c .before .before .before .before .before in
@@ -131,15 +120,12 @@ tail-requires c κs =
       sym (b .begins .ensures) ∙ not-false (b .begins .result) (c .before .if1 .left),
     )
 
--- src/spreading.rt:56:63
 mul-put : tie.Need-mul-put Inv-loop μ-loop
 mul-put c = omega arith
 
--- src/spreading.rt:56:63
 shared-slice-read-put : tie.Need-shared-slice-read-put Inv-loop μ-loop
 shared-slice-read-put c = omega arith
 
--- src/spreading.rt:56:31
 put-requires : tie.Need-put-requires Inv-loop μ-loop
 put-requires c κs =
     let t = c .before .before .before in
@@ -158,27 +144,22 @@ put-requires c κs =
       (omega arith, omega arith),
     )
 
--- src/spreading.rt:56:26
 enum-known-r : tie.Need-enum-known-r Inv-loop μ-loop
 enum-known-r c = search needs
 
--- src/spreading.rt:57:13
 enum-told : tie.Need-enum-told Inv-loop μ-loop
 enum-told c = search needs
 
--- src/spreading.rt:57:13
 same-length-3 : tie.Need-same-length-3 Inv-loop μ-loop
 same-length-3 c =
     let p = c .before .before .before .before .before .before in
     p .put .kept .1 .1 .1 .1 .0 ∙ c .before .before .before .before .before .before .before .before .before .before .before .before .before .before .before .before .loop .inv .filling .from-long
 
--- src/spreading.rt:57:13
 same-length-4 : tie.Need-same-length-4 Inv-loop μ-loop
 same-length-4 c =
     let p = c .before .before .before .before .before .before in
     p .put .kept .1 .1 .1 .1 .1 .0 ∙ c .before .before .before .before .before .before .before .before .before .before .before .before .before .before .before .before .loop .inv .filling .to-long
 
--- src/spreading.rt:57:13
 returns-2 : tie.Need-returns-2 Inv-loop μ-loop
 returns-2 c =
     let p = c .before .before .before .before .before .before in
@@ -192,15 +173,12 @@ returns-2 c =
     (turn t)
     (subst (Spreads (own t) (l .loop .rows) (l .loop .froms) (l .loop .tos) (p .put .last .1 .1 .1 .1 .0) (p .put .last .1 .1 .1 .1 .1 .0)) (c .enum-told .given .1) (p .put .ensures))
 
--- src/spreading.rt:60:9
 add-i : tie.Need-add-i Inv-loop μ-loop
 add-i c = omega arith
 
--- src/spreading.rt:52:5
 loop-less : tie.Need-loop-less Inv-loop μ-loop
 loop-less c = omega arith
 
--- src/spreading.rt:52:5
 loop-again : tie.Need-loop-again Inv-loop μ-loop
 loop-again c =
     let p = c .before .before .before .before .before .before .before in
@@ -221,15 +199,12 @@ loop-again c =
           (p .put .kept .1 .1 .1 .1 .1 .0);
     }
 
--- src/spreading.rt:43:1
 same-length-5 : tie.Need-same-length-5 Inv-loop μ-loop
 same-length-5 c = c .before .loop .inv .filling .from-long
 
--- src/spreading.rt:43:1
 same-length-6 : tie.Need-same-length-6 Inv-loop μ-loop
 same-length-6 c = c .before .loop .inv .filling .to-long
 
--- src/spreading.rt:43:1
 returns-3 : tie.Need-returns-3 Inv-loop μ-loop
 returns-3 c =
     let l = c .before in

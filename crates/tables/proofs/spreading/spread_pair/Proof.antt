@@ -1,11 +1,9 @@
--- `plans::spreading::spread_pair` meets its contract: a from-word of b that begins v gives the image of v, and where none does, v has
+-- `tables::spreading::spread_pair` meets its contract: a from-word of b that begins v gives the image of v, and where none does, v has
 -- no image and the pairs beneath it are written.
-use Prim.Native.Nat.{ℕ}
 use mathlib.Core.Path.{_≡_, sym, _∙_, ap, subst}
 use mathlib.Core.List.{[], _∷_, _++_, append-nil}
 use borrow.Author.Needs.{needs}
 use native.Mathlib.Omega.{arith}
-use lib.ListN.{length, getD}
 use Rattle.words.specs.Packed.{unpack}
 use Rattle.words.proofs.Packing.{unpack-zero}
 use Rattle.tables.specs.Packed.{table}
@@ -46,11 +44,11 @@ parts c =
 begun-by-requires : tie.Need-begun-by-requires
 begun-by-requires c κs = search needs
 
-mul-put : tie.Need-mul-put
-mul-put c = omega arith
+mul-image : tie.Need-mul-image
+mul-image c = omega arith
 
-shared-slice-read-put : tie.Need-shared-slice-read-put
-shared-slice-read-put c = omega arith
+shared-slice-read-image : tie.Need-shared-slice-read-image
+shared-slice-read-image c = omega arith
 
 mul-tail : tie.Need-mul-tail
 mul-tail c = omega arith
@@ -130,8 +128,8 @@ spread-pair-spec =
     tie.close
     (tie.spec
     begun-by-requires
-    mul-put
-    shared-slice-read-put
+    mul-image
+    shared-slice-read-image
     mul-tail
     shared-slice-read-tail
     tail-requires

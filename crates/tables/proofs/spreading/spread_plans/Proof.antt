@@ -1,8 +1,8 @@
--- `plans::spreading::spread_plans` meets its contract. The invariant: the pairs of "a then b" are those written so far and those that
+-- `tables::spreading::spread_plans` meets its contract. The invariant: the pairs of "a then b" are those written so far and those that
 -- the pairs of a from i on give. The measure is what is left of a.
 use Prim.Native.Nat.{ℕ, _+_, _-_, _≤_}
 use mathlib.Core.Path.{_≡_, refl, _∙_, ap, subst}
-use mathlib.Core.List.{List, [], _++_}
+use mathlib.Core.List.{List, _++_}
 use borrow.Author.Needs.{needs}
 use native.Mathlib.Omega.{arith}
 use lib.ListN.{length, drop, drop-of-length-le}

@@ -1,0 +1,147 @@
+-- Routing a code of any length: the word of a column that begins it begins its front, the tail behind that word is a part of the code,
+-- and the image, in bytes, is the to-word's bytes and then that part.
+use Prim.Native.Nat.{ℕ, zero, suc, _+_, _-_, _≤_, _<_}
+use mathlib.Core.Path.{_≡_, refl, sym, _∙_, ap, ap₂, subst}
+use mathlib.Core.Logic.{_⊎_, inl, inr}
+use mathlib.Core.Bool.{true, false}
+use mathlib.Core.List.{List, [], _∷_, _++_, append-nil, append-assoc, map-append, List·Memᴰ, List·Memᴰ·head, List·Memᴰ·tail}
+use mathlib.Core.Option.{Option, none, some}
+use native.Mathlib.Omega.{arith}
+use lib.Dec.{leb, lit≤}
+use lib.ListN.{length, take, drop, length-append, length-drop, length-map, take-append-drop, drop-of-length-le}
+use lib.Seq.{take-all, take-at, drop-at, drop-drop}
+use borrow.Author.Tests.{le-leb, lt-leb, leb-true, leb-false}
+use Rattle.higman.specs.Words.{Word, begins}
+use Rattle.higman.specs.Bases.{overlap}
+use Rattle.higman.specs.Tables.{image}
+use Rattle.higman.specs.Listing.{digitByte, wordBytes}
+use Rattle.higman.specs.Limits.{maxDigits}
+use Rattle.higman.proofs.Tests.{passes, Ways}
+use Rattle.higman.proofs.Prefixes.{tail-of-begins, ways-left, ways-right}
+use Rattle.words.specs.Packed.{pack, unpack}
+use Rattle.words.specs.Bytes.{digitOf, digitsOf, written}
+use Rattle.words.proofs.Packing.{unpack-pack}
+use Rattle.words.proofs.Packed.{more-ways, ways-of-test, packed-length}
+use Rattle.words.proofs.Bytes.{digit-under, digit-over, digit-within}
+use Rattle.words.proofs.Codes.{digits-take, digits-drop, begins-take, after-drop}
+use Rattle.tables.specs.Packed.{wordsOf, table}
+use Rattle.tables.specs.Columns.{wordAt, BegunAt}
+use Rattle.tables.specs.Spreading.{packedWords, Operand}
+use Rattle.tables.specs.Routing.{IsCode, MatchedAt, matchedDigits, routedIn, routedInto}
+use Rattle.tables.specs.declared.routing.Routed.the-variants.{Image, TooShort, NoRoom}
+use Rattle.tables.proofs.Places.{place-of}
+use Rattle.tables.proofs.Lookup.{first-apart, overlap-rest, image-at, packed-at}
+
+pub code-ways : (code : List ℕ) → IsCode code → Ways 9 (digitsOf code)
+code-ways code t = ways-of-test 9 (digitsOf code) t
+
+-- the first k digits of a code, packed, hold the first k digits of its word
+pub front-of-code : (code : List ℕ) (k : ℕ) → IsCode code → unpack (pack (digitsOf (take k code))) ≡ take k (digitsOf code)
+front-of-code code k t =
+    let w = digitsOf code in
+    let ways = ways-left 9 (take k w) (drop k w) (subst (Ways 9) (sym (take-append-drop k w)) (code-ways code t)) in
+    ap (λ u. unpack (pack u)) (digits-take k code) ∙ unpack-pack (take k w) (more-ways (take k w) (lit≤ tt) ways)
+
+-- the word that begins the front of w is the word that begins w
+pub matched-of-begun : (column : List ℕ) (x : ℕ) (w : Word) (r : ℕ) → packedWords column → unpack x ≡ take maxDigits w → BegunAt column x r → MatchedAt column w r
+matched-of-begun column x w r t e b =
+    record {
+      within = b .within;
+      found = λ h. same (wordAt column r) (packed-length _ (packed-at column t r h)) ∙ b .found h;
+      none = λ h u m. let (k, l, p) = place-of column u m in same u (subst (λ v. length v ≤ maxDigits) (sym p) (packed-length _ (packed-at column t k l))) ∙ b .none h u m;
+    }
+  where
+    same : (u : Word) → length u ≤ maxDigits → begins u w ≡ begins u (unpack x)
+    same u h = sym (begins-take u w maxDigits h) ∙ ap (begins u) (sym e)
+
+pub matched-digits : (column : List ℕ) → overlap (wordsOf column) ≡ false → (k : ℕ) → k < length column → (w : Word) → begins (wordAt column k) w ≡ true → matchedDigits (wordsOf column) w ≡ length (wordAt column k)
+matched-digits [] o k h w b = absurd (omega arith)
+matched-digits (x ∷ column) o zero h w b = rw (b, matchedDigits) refl
+matched-digits (x ∷ column) o (suc k) h w b =
+    rw (first-apart x column o k (omega arith) w b, matchedDigits) (matched-digits column (overlap-rest x column o) k (omega arith) w b)
+
+pub matched-none : (c : List Word) (w : Word) → ((u : Word) → List·Memᴰ u c → begins u w ≡ false) → matchedDigits c w ≡ 0
+matched-none [] w h = refl
+matched-none (u ∷ c) w h = rw (h u (List·Memᴰ·head refl), matchedDigits) (matched-none c w (λ v m. h v (List·Memᴰ·tail m)))
+
+-- a word that begins a code has no more digits than the code has bytes
+pub begins-within : (p : Word) (code : List ℕ) → begins p (digitsOf code) ≡ true → length p ≤ length code
+begins-within p code b =
+    let t = tail-of-begins p (digitsOf code) b in
+    omega (arith, ap length (t .1), length-append p (t .0), length-map code digitOf)
+
+byte-of-digit : (b : ℕ) → 1 ≤ digitOf b → digitByte (digitOf b) ≡ b
+byte-of-digit b h = go (passes (leb 49 b)) (passes (leb b 57))
+  where
+    go : (leb 49 b ≡ true) ⊎ (leb 49 b ≡ false) → (leb b 57 ≡ true) ⊎ (leb b 57 ≡ false) → digitByte (digitOf b) ≡ b
+    go (inl p) (inl q) = omega (arith, leb-true 49 b p, digit-within b (leb-true 49 b p) (leb-true b 57 q))
+    go (inl p) (inr q) = absurd (omega (arith, digit-over b (leb-false b 57 q)))
+    go (inr p) q = absurd (omega (arith, digit-under b (leb-false 49 b p)))
+
+-- the bytes of a code are those of its word
+bytes-of-code : (code : List ℕ) → Ways 9 (digitsOf code) → wordBytes (digitsOf code) ≡ code
+bytes-of-code [] h = refl
+bytes-of-code (b ∷ code) h = ap₂ _∷_ (byte-of-digit b (h .0 .0)) (bytes-of-code code (h .1))
+
+-- what the from-word at a place that begins a code gives: the to-word, and behind it the tail
+module _ (from to : List ℕ) (o : Operand from to) (code : List ℕ) (t : IsCode code) (k : ℕ) (h : k < length from) (b : begins (wordAt from k) (digitsOf code) ≡ true) where
+  tail : List ℕ
+  tail = drop (length (wordAt from k)) code
+
+  pub routed-word : Word
+  routed-word = wordAt to k ++ digitsOf tail
+
+  pub image-of-code : image (table from to) (digitsOf code) ≡ some routed-word
+  unfolding tail routed-word
+  image-of-code =
+      image-at from to (o .plain .long) (o .apart) k h (digitsOf code) (drop (length (wordAt from k)) (digitsOf code)) (after-drop (wordAt from k) (digitsOf code) b)
+      ∙ ap (λ x. some (wordAt to k ++ x)) (sym (digits-drop (length (wordAt from k)) code))
+
+  pub routed-length : length routed-word ≡ length (wordAt to k) + length (drop (length (wordAt from k)) code)
+  unfolding tail routed-word
+  routed-length = length-append (wordAt to k) (digitsOf tail) ∙ ap (λ n. length (wordAt to k) + n) (length-map tail digitOf)
+
+  pub routed-bytes : wordBytes routed-word ≡ wordBytes (wordAt to k) ++ drop (length (wordAt from k)) code
+  unfolding tail routed-word
+  routed-bytes =
+      let n = length (wordAt from k) in
+      let w = digitsOf code in
+      let ways = ways-right 9 (take n w) (drop n w) (subst (Ways 9) (sym (take-append-drop n w)) (code-ways code t)) in
+      map-append digitByte (wordAt to k) (digitsOf tail)
+      ∙ ap (λ l. wordBytes (wordAt to k) ++ l) (bytes-of-code tail (subst (Ways 9) (sym (digits-drop n code)) ways))
+
+-- bytes written to the start, and more bytes to the part behind them
+written-behind : (out s t : List ℕ) → length s ≤ length out → take (length s) (written out 0 s) ++ written (drop (length s) (written out 0 s)) 0 t ≡ written out 0 (s ++ t)
+written-behind out s t h =
+    let rest = drop (0 + length s) out in
+    let n : 0 + length s + length t ≡ 0 + length (s ++ t) = omega (arith, length-append s t) in
+    let m : 0 + length t ≡ length t = omega arith in
+    ap₂ (λ a b. a ++ (t ++ drop (0 + length t) b)) (take-at s rest (length s) refl) (drop-at s rest (length s) refl)
+    ∙ ap (λ l. s ++ (t ++ l)) (ap (λ k. drop k rest) m ∙ drop-drop (length t) (0 + length s) out ∙ ap (λ k. drop k out) n)
+    ∙ sym (append-assoc s t (drop (0 + length (s ++ t)) out))
+
+-- the same where the part from e on was lent to the second writer and has come back as back
+pub written-part : (out s t whole back : List ℕ) (e : ℕ) → e ≡ length s → length s ≤ length out → whole ≡ written out 0 s → back ≡ written (take (length whole - e) (drop e whole)) 0 t → take e whole ++ (back ++ drop (length whole - e) (drop e whole)) ≡ written out 0 (s ++ t)
+written-part out s t whole back e n h w b =
+    let part = drop e whole in
+    let rest = length-drop e whole in
+    ap (λ l. take e whole ++ (back ++ l)) (drop-of-length-le part {i = length whole - e} (omega arith))
+    ∙ ap (λ l. take e whole ++ l) (append-nil back ∙ b ∙ ap (λ l. written l 0 t) (take-all (length whole - e) part (omega arith)))
+    ∙ ap₂ (λ k l. take k l ++ written (drop k l) 0 t) n w
+    ∙ written-behind out s t h
+
+-- the three answers, by the image of the code
+module _ (out : List ℕ) {o : Option Word} where
+  pub route-too-short : o ≡ none → (TooShort ≡ routedIn o (length out)) × (out ≡ routedInto o out)
+  route-too-short e = (sym (ap (λ o. routedIn o (length out)) e), sym (ap (λ o. routedInto o out) e))
+
+  module _ (v : Word) (e : o ≡ some v) where
+    pub route-no-room : length out < length v → (NoRoom ≡ routedIn o (length out)) × (out ≡ routedInto o out)
+    route-no-room h =
+        let f = lt-leb (length v) (length out) h in
+        (sym (ap (λ o. routedIn o (length out)) e ∙ rw (f, routedIn) refl), sym (ap (λ o. routedInto o out) e ∙ rw (f, routedInto) refl))
+
+    pub route-image : length v ≤ length out → (Image (length v) ≡ routedIn o (length out)) × (written out 0 (wordBytes v) ≡ routedInto o out)
+    route-image h =
+        let f = le-leb (length v) (length out) h in
+        (sym (ap (λ o. routedIn o (length out)) e ∙ rw (f, routedIn) refl), sym (ap (λ o. routedInto o out) e ∙ rw (f, routedInto) refl))

@@ -1,0 +1,52 @@
+-- `tables::routing::matched` meets its contract: the place found gives the digits that are matched, and none are where there is none.
+use mathlib.Core.Path.{sym, _∙_, ap}
+use borrow.Author.Needs.{needs}
+use native.Mathlib.Omega.{arith}
+use lib.ListN.{drop}
+use Rattle.words.specs.Bytes.{digitsOf}
+use Rattle.tables.specs.Packed.{wordsOf}
+use Rattle.tables.specs.Columns.{wordAt}
+use Rattle.tables.proofs.Routes.{matched-digits, matched-none, begins-within}
+use Rattle.tables.proofs.routing.matched.Statement.{statement}
+use Rattle.tables.proofs.routing.matched.Tie as tie
+
+place-of-requires : tie.Need-place-of-requires
+place-of-requires c κs = search needs
+
+mul-behind : tie.Need-mul-behind
+mul-behind c = search needs
+
+shared-slice-read-behind : tie.Need-shared-slice-read-behind
+shared-slice-read-behind c = search needs
+
+behind-requires : tie.Need-behind-requires
+behind-requires c κs =
+    let p = c .before .before in
+    let a = p .before .before .before .args in
+    begins-within (wordAt (a .from .now) (p .place-of .result)) (a .code .now) (p .place-of .ensures .found (c .before .if1 .taken))
+
+returns : tie.Need-returns
+returns c =
+    let t = c .before .before in
+    let p = t .before in
+    let s = p .before .before .before in
+    let a = s .args in
+    c .behind .ensures
+    ∙ ap (λ n. drop n (a .code .now)) (sym (matched-digits (a .from .now) (s .pre .0 .apart) (p .place-of .result) (t .if1 .taken) (digitsOf (a .code .now)) (p .place-of .ensures .found (t .if1 .taken))))
+
+returns-2 : tie.Need-returns-2
+returns-2 c =
+    let p = c .before in
+    let a = p .before .before .before .args in
+    ap (λ n. drop n (a .code .now)) (sym (matched-none (wordsOf (a .from .now)) (digitsOf (a .code .now)) (p .place-of .ensures .none (omega (arith, p .place-of .ensures .within)))))
+
+pub matched-spec : {M : Type 1} → statement M
+matched-spec =
+    tie.close
+    (tie.spec
+    place-of-requires
+    mul-behind
+    shared-slice-read-behind
+    behind-requires
+    returns
+    returns-2)

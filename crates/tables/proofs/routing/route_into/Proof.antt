@@ -1,0 +1,186 @@
+-- `tables::routing::route_into` meets its contract: the image is the to-word at the place found, and behind it the tail.
+use Prim.Native.Nat.{_+_, _≤_}
+use mathlib.Core.Path.{_≡_, sym, _∙_, ap}
+use mathlib.Core.Bool.{true}
+use mathlib.Core.List.{_++_}
+use mathlib.Core.Option.{some}
+use borrow.Author.Needs.{needs}
+use native.Mathlib.Omega.{arith}
+use lib.ListN.{length, drop, length-map}
+use Rattle.higman.specs.Words.{Word, begins}
+use Rattle.higman.specs.Tables.{image}
+use Rattle.higman.specs.Listing.{digitByte, wordBytes}
+use Rattle.words.specs.Bytes.{digitsOf, written}
+use Rattle.tables.specs.Packed.{table}
+use Rattle.tables.specs.Columns.{wordAt}
+use Rattle.tables.specs.declared.routing.Routed.the-variants.{Image}
+use Rattle.tables.proofs.Lookup.{image-nowhere}
+use Rattle.tables.proofs.Routes.{begins-within, routed-word, image-of-code, routed-length, routed-bytes, written-part, route-too-short, route-no-room, route-image}
+use Rattle.tables.proofs.routing.route_into.Statement.{statement}
+use Rattle.tables.proofs.routing.route_into.Tie as tie
+
+-- where the place of a from-word was found: it begins the code, and these are the image and its length
+begun : (c : tie.Else1) →
+    let p = c .before in
+    let a = p .before .before .before .before .before .args in
+    begins (wordAt (a .from .now) (p .place-of .result)) (digitsOf (a .code .now)) ≡ true
+begun c = c .before .place-of .ensures .found (c .if1 .left)
+
+abbrev routed : tie.Else1 → Word
+routed c =
+    let p = c .before in
+    let s = p .before .before .before .before .before in
+    let a = s .args in
+    routed-word (a .from .now) (a .to .now) (s .pre .0) (a .code .now) (s .pre .1) (p .place-of .result) (c .if1 .left) (begun c)
+
+image-is : (c : tie.Else1) →
+    let a = c .before .before .before .before .before .before .args in
+    image (table (a .from .now) (a .to .now)) (digitsOf (a .code .now)) ≡ some (routed c)
+image-is c =
+    let p = c .before in
+    let s = p .before .before .before .before .before in
+    let a = s .args in
+    image-of-code (a .from .now) (a .to .now) (s .pre .0) (a .code .now) (s .pre .1) (p .place-of .result) (c .if1 .left) (begun c)
+
+long : (c : tie.Else1) →
+    let p = c .before in
+    let a = p .before .before .before .before .before .args in
+    length (routed c) ≡ length (wordAt (a .to .now) (p .place-of .result)) + length (drop (length (wordAt (a .from .now) (p .place-of .result))) (a .code .now))
+long c =
+    let p = c .before in
+    let s = p .before .before .before .before .before in
+    let a = s .args in
+    routed-length (a .from .now) (a .to .now) (s .pre .0) (a .code .now) (s .pre .1) (p .place-of .result) (c .if1 .left) (begun c)
+
+-- where both tests of the room have passed
+room : (c : tie.Else3) →
+    let e = c .before .before .before .before .before .before in
+    let a = e .before .before .before .before .before .before .args in
+    length (routed e) ≤ length (a .out .now)
+room c =
+    let b = c .before .before .before .before in
+    omega (arith, long (b .before .before), ap length (b .behind .ensures))
+
+place-of-requires : tie.Need-place-of-requires
+place-of-requires c κs = search needs
+
+returns : tie.Need-returns
+returns c =
+    let p = c .before in
+    let a = p .before .before .before .before .before .args in
+    route-too-short (a .out .now) (image-nowhere (a .from .now) (a .to .now) (digitsOf (a .code .now)) (p .place-of .ensures .none (omega (arith, p .place-of .ensures .within))))
+
+mul-behind : tie.Need-mul-behind
+mul-behind c = search needs
+
+shared-slice-read-behind : tie.Need-shared-slice-read-behind
+shared-slice-read-behind c = search needs
+
+behind-requires : tie.Need-behind-requires
+behind-requires c κs =
+    let e = c .before in
+    let a = e .before .before .before .before .before .before .args in
+    begins-within (wordAt (a .from .now) (e .before .place-of .result)) (a .code .now) (begun e)
+
+mul-length : tie.Need-mul-length
+mul-length c = search needs
+
+shared-slice-read-length : tie.Need-shared-slice-read-length
+shared-slice-read-length c = search needs
+
+length-requires : tie.Need-length-requires
+length-requires c κs = search needs
+
+cast-head : tie.Need-cast-head
+cast-head c = search needs
+
+returns-2 : tie.Need-returns-2
+returns-2 c =
+    let l = c .before in
+    let e = l .before .before .before .before in
+    let a = e .before .before .before .before .before .before .args in
+    route-no-room (a .out .now) (routed e) (image-is e) (omega (arith, long e))
+
+sub-if3 : tie.Need-sub-if3
+sub-if3 c = search needs
+
+returns-3 : tie.Need-returns-3
+returns-3 c =
+    let l = c .before .before in
+    let e = l .before .before .before .before in
+    let a = e .before .before .before .before .before .before .args in
+    route-no-room (a .out .now) (routed e) (image-is e) (omega (arith, long e, ap length (l .before .before .behind .ensures)))
+
+mul-write : tie.Need-mul-write
+mul-write c = search needs
+
+shared-slice-read-write : tie.Need-shared-slice-read-write
+shared-slice-read-write c = search needs
+
+write-requires : tie.Need-write-requires
+write-requires c κs = search needs
+
+sub-copy : tie.Need-sub-copy
+sub-copy c = search needs
+
+part-copy-start : tie.Need-part-copy-start
+part-copy-start c = search needs
+
+part-copy-end : tie.Need-part-copy-end
+part-copy-end c = search needs
+
+copy-requires : tie.Need-copy-requires
+copy-requires c κs = search needs
+
+add-t16 : tie.Need-add-t16
+add-t16 c = search needs
+
+same-length : tie.Need-same-length
+same-length c = search needs
+
+returns-4 : tie.Need-returns-4
+returns-4 c =
+    let y = c .before .before in
+    let w = y .before .before .before .before in
+    let b = w .before .before .before .before .before .before .before in
+    let e = b .before .before in
+    let s = e .before .before .before .before .before .before in
+    let a = s .args in
+    let k = e .before .place-of .result in
+    let head = wordAt (a .to .now) k in
+    let d = w .before .before .before in
+    let size : w .write .result + length (b .behind .result .now) ≡ length (routed e) = omega (arith, long e, ap length (b .behind .ensures), w .write .ensures .0) in
+    let answer = route-image (a .out .now) (routed e) (image-is e) (room d) in
+    let bytes = routed-bytes (a .from .now) (a .to .now) (s .pre .0) (a .code .now) (s .pre .1) k (e .if1 .left) (begun e) in (
+      ap Image size ∙ answer .0,
+      written-part (a .out .now) (wordBytes head) (b .behind .result .now) (w .write .last .1 .0) (y .copy .last .1 .0) (w .write .result) (omega (arith, w .write .ensures .0, length-map head digitByte)) (omega (arith, long e, length-map head digitByte)) (w .write .ensures .1) (y .copy .ensures)
+          ∙ ap (written (a .out .now) 0) (ap (λ l. wordBytes head ++ l) (b .behind .ensures) ∙ sym bytes)
+          ∙ answer .1,
+    )
+
+pub route-into-spec : {M : Type 1} → statement M
+route-into-spec =
+    tie.close
+    (tie.spec
+    place-of-requires
+    returns
+    mul-behind
+    shared-slice-read-behind
+    behind-requires
+    mul-length
+    shared-slice-read-length
+    length-requires
+    cast-head
+    returns-2
+    sub-if3
+    returns-3
+    mul-write
+    shared-slice-read-write
+    write-requires
+    sub-copy
+    part-copy-start
+    part-copy-end
+    copy-requires
+    add-t16
+    same-length
+    returns-4)

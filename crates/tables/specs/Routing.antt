@@ -1,0 +1,62 @@
+-- Codes under a plan's columns (document 01, "Forms"): the word of a column that begins a code, the tail behind it, and what routing
+-- a code answers and leaves in the buffer.
+use Prim.Native.Nat.{ℕ, _≤_, _<_}
+use mathlib.Core.Path.{_≡_, refl}
+use mathlib.Core.Bool.{true, false}
+use mathlib.Core.List.{List, [], _∷_, map, List·Memᴰ}
+use mathlib.Core.Option.{Option, none, some}
+use lib.Dec.{T, leb}
+use lib.ListN.{length, drop}
+use Rattle.higman.specs.Words.{Word, isWays, begins, spell}
+use Rattle.higman.specs.Bases.{overlap}
+use Rattle.higman.specs.Listing.{wordBytes}
+use Rattle.words.specs.Bytes.{digitOf, digitsOf, written}
+use Rattle.tables.specs.Packed.{wordsOf, sorted}
+use Rattle.tables.specs.Columns.{wordAt}
+use Rattle.tables.specs.Spreading.{packedWords}
+use Rattle.tables.specs.declared.routing.Routed.{Routed}
+use Rattle.tables.specs.declared.routing.Routed.the-variants.{Image, TooShort, NoRoom}
+
+-- "A code is a string of digits"
+abbrev pub IsCode : List ℕ → Type 0
+IsCode code = T (isWays 9 (digitsOf code))
+
+-- a column in which the word that begins a code is looked up
+pub record Searchable (column : List ℕ) : Type 0 where
+  pub packed : packedWords column
+  pub in-order : sorted (wordsOf column) ≡ true
+  pub apart : overlap (wordsOf column) ≡ false
+
+-- r is the place of the word that begins the word w, of any length, or the length of the column where no word of it does.
+pub record MatchedAt (column : List ℕ) (w : Word) (r : ℕ) : Type 0 where
+  pub within : r ≤ length column
+  pub found : r < length column → begins (wordAt column r) w ≡ true
+  pub none : r ≡ length column → (u : Word) → List·Memᴰ u (wordsOf column) → begins u w ≡ false
+
+-- the number of digits of the word that begins w, 0 where none does
+abbrev pub matchedDigits : List Word → Word → ℕ
+matchedDigits [] w = 0
+matchedDigits (u ∷ c) w = elim (begins u w) [ true ↦ length u | false ↦ matchedDigits c w ]
+
+-- "The library's match hands back the unmatched tail .. Where no from-word begins the code .. that part is the whole code."
+abbrev pub unmatched : List Word → List ℕ → List ℕ
+unmatched c code = drop (matchedDigits c (digitsOf code)) code
+
+-- what routing a code with this image answers, with room for so many bytes
+abbrev pub routedIn : Option Word → ℕ → Routed
+routedIn none room = TooShort
+routedIn (some v) room = elim (leb (length v) room) [ true ↦ Image (length v) | false ↦ NoRoom ]
+
+-- and what the buffer then holds: "On success only the bytes of the output change."
+abbrev pub routedInto : Option Word → List ℕ → List ℕ
+routedInto none out = out
+routedInto (some v) out = elim (leb (length v) (length out)) [ true ↦ written out 0 (wordBytes v) | false ↦ out ]
+
+-- 1122 behind 112, and 21, which no word begins
+unmatched-example : map (unmatched (spell 111 ∷ spell 112 ∷ [])) ((49 ∷ 49 ∷ 50 ∷ 50 ∷ []) ∷ (50 ∷ 49 ∷ []) ∷ []) ≡ (50 ∷ []) ∷ (50 ∷ 49 ∷ []) ∷ []
+unfolding digitOf
+unmatched-example = refl
+
+-- room for all four bytes, for three of them, and a code that is too short
+routedIn-example : (routedIn (some (spell 1212)) 4 ≡ Image 4) × (routedIn (some (spell 1212)) 3 ≡ NoRoom) × (routedIn none 4 ≡ TooShort)
+routedIn-example = (refl, refl, refl)
