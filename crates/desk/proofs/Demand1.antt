@@ -1,5 +1,5 @@
--- Demand 1: whatever its bytes, a line gets its job done or one numbered refusal, which is a line of its own and changes nothing but
--- that no plan is open.
+-- Demand 1: whatever its bytes, a line gets its job done or one numbered refusal, which is a line of its own. What becomes of the desk
+-- is in Outcomes.antt and Stays.antt.
 use Prim.Native.Nat.{ℕ, suc}
 use mathlib.Core.Path.{_≡_, refl, sym, _∙_, ap, subst}
 use mathlib.Core.Logic.{_⊎_, inl, inr, _↔_}
@@ -17,12 +17,13 @@ use Rattle.higman.specs.Cases.{Letter}
 use Rattle.higman.proofs.Tests.{so, T-of, clash, or-cases, or-true-left, or-true-right, all-at}
 use Rattle.desk.specs.Text.{Bytes, bytes}
 use Rattle.desk.specs.Limits.{maxLine}
-use Rattle.desk.specs.Desk.{Desk, dropped}
+use Rattle.desk.specs.Desk.{Desk}
 use Rattle.desk.specs.Records.{Record, P, M, E, F, I, K, S, W, L, C, T as Tᴿ, U, parse}
 use Rattle.desk.specs.Replies.{Outcome, refuse, pass, _>>=_, Effect, settle, operation, recordOf, lineOperation, respondLine}
 use Rattle.desk.specs.Bytes.{Order, decimal, lineOf, columnField, replyBytes}
 use Rattle.desk.specs.Conditions.{Condition, conditions, firstOf, refusalOf}
 use Rattle.desk.specs.Demands.{refusalNumbers, Done, Refused, Demand1}
+use Rattle.desk.proofs.Outcomes.{refusal-drops}
 use Rattle.desk.proofs.Stays.{desk-stays}
 use Rattle.desk.proofs.Conditions.{first-condition}
 
@@ -180,7 +181,7 @@ unfolding respondLine
 responded d line o e = ap (settle d) e
 
 answered : (order : Order) (d : Desk) (line : Bytes) → Done d line ⊎ Refused order d line
-unfolding dropped replyBytes
+unfolding replyBytes
 answered order d line = go (lineOperation d line) refl
   where
     go : (o : Outcome Effect) → lineOperation d line ≡ o → Done d line ⊎ Refused order d line
@@ -195,9 +196,6 @@ answered order d line = go (lineOperation d line) refl
           numbered = numbered d line n c e;
           refused = e;
           replied = ap (λ x. x .1) r;
-          same-slots = ap (λ x. x .0 .slots) r;
-          same-count = ap (λ x. x .0 .changes) r;
-          none-open = ap (λ x. x .0 .draft) r;
           text = text;
           no-line-end = k;
           one-line = ap (λ x. replyBytes order (x .1)) r ∙ f;
@@ -205,4 +203,4 @@ answered order d line = go (lineOperation d line) refl
 
 -- Demand 1.
 pub demand1 : Demand1
-demand1 = record { answered = answered; desk-stays = desk-stays .line; no-record = no-record; first-condition = first-condition }
+demand1 = record { answered = answered; refusal-drops = refusal-drops; desk-stays = desk-stays; no-record = no-record; first-condition = first-condition }

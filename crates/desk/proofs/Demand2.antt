@@ -1,5 +1,5 @@
--- Demand 2: what E, F, I, K, W and S do when they are not refused, by higman's theorems, and a listing read back. From what an
--- operation passed it is read off which steps it took.
+-- Demand 2: what E, F, I, K, W and S do when they are not refused, by higman's theorems; the other records are in Replies.antt. From
+-- what an operation passed it is read off which steps it took. At the end, the three demands in one term.
 use Prim.Native.Nat.{ℕ, _<_}
 use mathlib.Core.Path.{_≡_, refl, sym, _∙_, ap, subst}
 use mathlib.Core.Logic.{_⊎_, inl, inr, _↔_}
@@ -25,46 +25,17 @@ use Rattle.desk.specs.Limits.{maxChanges}
 use Rattle.desk.specs.Desk.{Draft, Desk, held, IsDraft, IsDesk}
 use Rattle.desk.specs.Records.{E, F, I, K, S, W}
 use Rattle.desk.specs.Replies.{Outcome, refuse, pass, _>>=_, _when_, Effect, Reply, silent, ok, okNumber, okWord, lists, surveys, refuses, slotNumber, wordOf, bit, openPlan, planIn, ofVerdict, ofAnswer, ofComparison, ofRoute, atLimit, keepIn, closed, operation}
-use Rattle.desk.specs.Demands.{Kept-as-typed, Kept-in, Demand2}
-use Rattle.desk.proofs.ReadBack.{listing-read-back}
-use Rattle.desk.proofs.Outcomes.{Passes, stops, passes, passes-then, any-then}
-
-abbrev IsPass : {A : Type 0} → Outcome A → Type 0
-IsPass (refuse n c) = ⊥
-IsPass (pass a) = Unit {0}
-
-abbrev valueOr : {A : Type 0} → A → Outcome A → A
-valueOr other (refuse n c) = other
-valueOr other (pass a) = a
-
--- what is known of all that an operation passes is known of what it passed
-passed : {A : Type 0} {Q : A → Type 0} {o : Outcome A} → Passes Q o → (a : A) → o ≡ pass a → Q a
-passed stops a e = absurd (subst IsPass (sym e) tt)
-passed {Q = Q} (passes {a = b} h) a e = subst Q (ap (valueOr b) e) h
+use Rattle.desk.specs.Demands.{KeptAsTyped, KeptIn, Demand2, Demands}
+use Rattle.desk.proofs.ReadBack.{typed-in, listing-read-back}
+use Rattle.desk.proofs.Outcomes.{Passes, stops, passes, passes-then, any-then, passed, test-failed, plan-held, plan-open}
+use Rattle.desk.proofs.Replies.{replies-exact, desk-parts}
+use Rattle.desk.proofs.Demand1.{demand1}
 
 bind-pass : {A B : Type 0} (o : Outcome A) (a : A) (f : A → Outcome B) → o ≡ pass a → (o >>= f) ≡ f a
 unfolding _>>=_
 bind-pass o a f e = ap (λ x. x >>= f) e
 
--- what the steps pass on
-test-failed : (n : ℕ) (t : Bool) → Passes (λ _. t ≡ false) (n when t)
-test-failed n true = stops
-test-failed n false = passes refl
-
-plan-held : (d : Desk) (a : ℕ) → Passes (λ p. held d (slotNumber a) ≡ some p) (planIn d a)
-plan-held d a = go (held d (slotNumber a)) refl
-  where
-    go : (x : Option Plan) → held d (slotNumber a) ≡ x → Passes (λ p. held d (slotNumber a) ≡ some p) (elim x [ none ↦ refuse 9 none | some p ↦ pass p ])
-    go none e = stops
-    go (some p) e = passes e
-
-plan-open : (d : Desk) → Passes (λ o. d .draft ≡ some o) (openPlan d)
-plan-open d = go (d .draft) refl
-  where
-    go : (x : Option Draft) → d .draft ≡ x → Passes (λ o. d .draft ≡ some o) (elim x [ none ↦ refuse 2 none | some o ↦ pass o ])
-    go none e = stops
-    go (some o) e = passes e
-
+-- what the answers about plans pass on
 answer-granted : (a : Answer) → Passes (λ p. a ≡ Granted p) (ofAnswer a)
 answer-granted (Granted p) = passes refl
 answer-granted (Refused r) = stops
@@ -119,7 +90,7 @@ accepted d o h x = (to, from)
     from : Bases (o .shape) (o .rows) × (d .changes < maxChanges) → (e : Effect) × (operation d E ≡ pass e)
     from (b, l) = (keepIn d (o .slot) (closed o), closing d o x (draft-verdict o (h .drafted o x) .1 b) (lt-leb maxChanges (d .changes) l))
 
-typed : (d : Desk) (o : Draft) (e : Effect) → IsDesk d → d .draft ≡ some o → operation d E ≡ pass e → Kept-as-typed d o e
+typed : (d : Desk) (o : Draft) (e : Effect) → IsDesk d → d .draft ≡ some o → operation d E ≡ pass e → KeptAsTyped d o e
 typed d o e h x p =
     let (o′, y, v, l, q) = passed (closes d) e p in
     let k = h .drafted o x in
@@ -140,7 +111,7 @@ follow-steps d a b c =
     any-then _ (λ _. any-then _ (λ _. passes-then (plan-held d a) (λ p x. passes-then (plan-held d b) (λ q y. passes-then (answer-granted (followed p q)) (λ r g. any-then _ (λ _. passes (p, q, r, x, y, g, refl)))))))
 
 follows : (d : Desk) (a b c : ℕ) (e : Effect) → IsDesk d → operation d (F a b c) ≡ pass e
-    → (p : Plan) × (q : Plan) × (r : Plan) × (held d (slotNumber a) ≡ some p) × (held d (slotNumber b) ≡ some q) × Kept-in d c e r
+    → (p : Plan) × (q : Plan) × (r : Plan) × (held d (slotNumber a) ≡ some p) × (held d (slotNumber b) ≡ some q) × KeptIn d c e r × (p .shape ≡ q .shape) × (r .shape ≡ p .shape)
     × ((w v : Word) → T (isWord (p .shape) w) → andThen (image (p .rows)) (image (q .rows)) w ≡ some v → image (r .rows) w ≡ some v)
 follows d a b c e h o =
     let (p, q, r, x, y, g, f) = passed (follow-steps d a b c) e o in
@@ -153,6 +124,8 @@ follows d a b c e h o =
       x,
       y,
       record { effect = f; kept = demand3 .followed-kept p q r P Q g },
+      s,
+      ap (λ z. z .shape) u,
       λ w v i j.
           subst (λ z. image (z .rows) w ≡ some v) (sym u)
           (group-acts .compose-acts (p .shape) (arity-of-range (p .shape) (P .in-range)) (p .rows) (q .rows) (P .bases) (subst (λ z. Bases z (q .rows)) (sym s) (Q .bases)) w v i j),
@@ -168,7 +141,7 @@ invert-steps d a c =
     any-then _ (λ _. any-then _ (λ _. passes-then (plan-held d a) (λ p x. passes-then (answer-granted (inverted p)) (λ r g. any-then _ (λ _. passes (p, r, x, g, refl))))))
 
 inverts : (d : Desk) (a c : ℕ) (e : Effect) → IsDesk d → operation d (I a c) ≡ pass e
-    → (p : Plan) × (r : Plan) × (held d (slotNumber a) ≡ some p) × Kept-in d c e r
+    → (p : Plan) × (r : Plan) × (held d (slotNumber a) ≡ some p) × KeptIn d c e r × (r .shape ≡ p .shape)
     × ((w v : Word) → T (isWord (p .shape) w) → image (p .rows) w ≡ some v → image (r .rows) v ≡ some w)
 inverts d a c e h o =
     let (p, r, x, g, f) = passed (invert-steps d a c) e o in
@@ -177,6 +150,7 @@ inverts d a c e h o =
       r,
       x,
       record { effect = f; kept = demand3 .inverted-kept p r P g },
+      ap (λ z. z .shape) (inverted-cases p r g),
       λ w v i j.
           subst (λ z. image (z .rows) v ≡ some w) (sym (inverted-cases p r g))
           (group-acts .inverse-acts (p .shape) (arity-of-range (p .shape) (P .in-range)) (p .rows) (P .bases) w v i j),
@@ -192,7 +166,7 @@ repeat-steps d a c k =
     any-then _ (λ _. any-then _ (λ _. any-then _ (λ _. passes-then (plan-held d a) (λ p x. passes-then (answer-granted (powered p k)) (λ r g. any-then _ (λ _. passes (p, r, x, g, refl)))))))
 
 repeats : (d : Desk) (a c : ℕ) (k : ℤ) (e : Effect) → IsDesk d → operation d (K a k c) ≡ pass e
-    → (p : Plan) × (held d (slotNumber a) ≡ some p) × Kept-in d c e (record { shape = p .shape; rows = power (p .shape) (p .rows) k })
+    → (p : Plan) × (held d (slotNumber a) ≡ some p) × KeptIn d c e (record { shape = p .shape; rows = power (p .shape) (p .rows) k })
 repeats d a c k e h o =
     let (p, r, x, g, f) = passed (repeat-steps d a c k) e o in
     let u = answers-exact .power-granted p r k g in
@@ -296,5 +270,12 @@ demand2 =
       repeats = repeats;
       routes = routes;
       compares = compares;
+      replies = replies-exact;
+      desk-parts = desk-parts;
+      typed-in = typed-in;
       read-back = listing-read-back;
     }
+
+-- The three demands.
+pub demands : Demands
+demands = record { demand1 = demand1; demand2 = demand2; demand3 = demand3 }

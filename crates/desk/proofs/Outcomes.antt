@@ -1,12 +1,15 @@
--- What holds of every outcome that is no refusal: a step hands it on to the next. With it, that a refusal only drops the open plan.
+-- What holds of every outcome that is no refusal: a step hands it on to the next, and what was passed has it. With it, that a refusal
+-- only drops the open plan.
 use Prim.Native.Nat.{ℕ}
-use mathlib.Core.Path.{_≡_, refl, subst}
-use mathlib.Core.Option.{Option}
+use mathlib.Core.Path.{_≡_, refl, sym, ap, subst}
+use mathlib.Core.Bool.{Bool, true, false}
+use mathlib.Core.Option.{Option, none, some}
+use Rattle.higman.specs.Limits.{Plan}
 use Rattle.higman.specs.Cases.{Letter}
 use Rattle.desk.specs.Text.{Bytes}
-use Rattle.desk.specs.Desk.{Desk, dropped}
+use Rattle.desk.specs.Desk.{Draft, Desk, held, dropped}
 use Rattle.desk.specs.Records.{Record, P, M, E, F, I, K, S, W, L, C, T, U}
-use Rattle.desk.specs.Replies.{Reply, silent, ok, okNumber, okWord, lists, surveys, refuses, Outcome, refuse, pass, _>>=_, Effect, settle, operation, lineOperation, respondLine}
+use Rattle.desk.specs.Replies.{Reply, silent, ok, okNumber, okWord, lists, surveys, refuses, Outcome, refuse, pass, _>>=_, _when_, slotNumber, planIn, openPlan, Effect, settle, operation, lineOperation, respondLine}
 use Rattle.desk.specs.Theorems.{RefusalDrops}
 
 pub data Passes {A : Type 0} (Q : A → Type 0) : Outcome A → Type 0 where
@@ -24,6 +27,38 @@ pub any-then : {A B : Type 0} {Q : B → Type 0} (o : Outcome A) {f : A → Outc
 unfolding _>>=_
 any-then (refuse n c) k = stops
 any-then (pass a) k = k a
+
+abbrev IsPass : {A : Type 0} → Outcome A → Type 0
+IsPass (refuse n c) = ⊥
+IsPass (pass a) = Unit {0}
+
+abbrev valueOr : {A : Type 0} → A → Outcome A → A
+valueOr other (refuse n c) = other
+valueOr other (pass a) = a
+
+-- what is known of all that an operation passes is known of what it passed
+pub passed : {A : Type 0} {Q : A → Type 0} {o : Outcome A} → Passes Q o → (a : A) → o ≡ pass a → Q a
+passed stops a e = absurd (subst IsPass (sym e) tt)
+passed {Q = Q} (passes {a = b} h) a e = subst Q (ap (valueOr b) e) h
+
+-- what the steps pass on
+pub test-failed : (n : ℕ) (t : Bool) → Passes (λ _. t ≡ false) (n when t)
+test-failed n true = stops
+test-failed n false = passes refl
+
+pub plan-held : (d : Desk) (a : ℕ) → Passes (λ p. held d (slotNumber a) ≡ some p) (planIn d a)
+plan-held d a = go (held d (slotNumber a)) refl
+  where
+    go : (x : Option Plan) → held d (slotNumber a) ≡ x → Passes (λ p. held d (slotNumber a) ≡ some p) (elim x [ none ↦ refuse 9 none | some p ↦ pass p ])
+    go none e = stops
+    go (some p) e = passes e
+
+pub plan-open : (d : Desk) → Passes (λ o. d .draft ≡ some o) (openPlan d)
+plan-open d = go (d .draft) refl
+  where
+    go : (x : Option Draft) → d .draft ≡ x → Passes (λ o. d .draft ≡ some o) (elim x [ none ↦ refuse 2 none | some o ↦ pass o ])
+    go none e = stops
+    go (some o) e = passes e
 
 abbrev NoRefusal : Reply → Type 0
 NoRefusal silent = Unit {0}

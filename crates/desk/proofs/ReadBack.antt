@@ -1,5 +1,5 @@
--- A listing read back is the same plan: its lines are the P, M and E records of the plan, each is accepted, and what E keeps of a
--- kept plan is that plan. That comes from higman's theorems.
+-- What is typed is what the lines say: each P and M record of words within the limits is accepted, and they open the plan that they
+-- spell. So a listing read back is the same plan: what E keeps of a kept plan is that plan, by higman's theorems.
 use Prim.Native.Nat.{ℕ, suc, _+_, _≤_, _<_}
 use native.Mathlib.Omega.{arith}
 use mathlib.Core.Path.{_≡_, refl, _∙_, ap, ap₂}
@@ -15,9 +15,9 @@ use Rattle.higman.specs.Tables.{Pair, Table, froms, tos}
 use Rattle.higman.specs.Limits.{shapeInRange, granted, fits, pairFits, maxPairs, maxDigits}
 use Rattle.higman.specs.Normal.{keep}
 use Rattle.higman.specs.Answers.{Accepted, verdict}
-use Rattle.higman.specs.Listing.{tab, lineEnd, digitByte, wordBytes, pairRecord, pairRecords, joinLines, closeRecord}
+use Rattle.higman.specs.Listing.{tab, lineEnd, digitByte, wordBytes, openRecord, pairRecord, pairRecords, joinLines, closeRecord}
 use Rattle.higman.proofs.Tests.{so, and-left, and-right, and-intro, all-cons}
-use Rattle.higman.proofs.Statements.{normal-form, answers-exact}
+use Rattle.higman.proofs.Statements.{table-of, test-table, normal-form, answers-exact}
 use Rattle.higman.proofs.Columns.{column-is-basis}
 use Rattle.higman.proofs.KeptPlans.{in-range, arity-of-range}
 use Rattle.desk.specs.Text.{Bytes}
@@ -27,7 +27,7 @@ use Rattle.desk.specs.Records.{Record, P, M, E, fields, digitField, isNu
 use Rattle.desk.specs.Replies.{lists, pass, _>>=_, _when_, Effect, silent, okNumber, slotNumber, slotByte, isSlot, wordOf, newDraft, operation, recordOf, lineOperation, settle, respondLine}
 use Rattle.desk.specs.Bytes.{Order, replyBytes}
 use Rattle.desk.specs.Session.{State, idle, grown, feedByte, feed}
-use Rattle.desk.specs.Theorems.{ListingReadBack}
+use Rattle.desk.specs.Theorems.{TypedIn, ListingReadBack}
 
 -- bytes without a certain one
 abbrev Without : ℕ → Bytes → Type 0
@@ -219,20 +219,26 @@ without-draft : (d : Desk) → d .draft ≡ none → d ≡ dropped d
 unfolding dropped
 without-draft d e = λ i. record { slots = d .slots; draft = e i; changes = d .changes }
 
-pub listing-read-back : ListingReadBack
+pub typed-in : TypedIn
 unfolding replyBytes granted
+typed-in order d e b h s t k rest =
+    let table = table-of s t k in
+    let range = in-range s (table .in-range) in
+    ap (λ x. feed order (idle x) (openRecord b s ++ (joinLines (pairRecords t) ++ rest))) (without-draft d e)
+    ∙ feed-record order (dropped d) (openLine b s) (P b (s .arity) (s .roots)) (withDraft d (newDraft b s), silent) (joinLines (pairRecords t) ++ rest) (open-line-inside b s (slot-plain b lineEnd h (lit< tt))) (open-line-fits b s) (parse-open b s (slot-plain b tab h (lit< tt)) (range .arity-high) (range .roots-high)) (operation-open d b s h (table .in-range))
+    ∙ feed-pairs order d (slotNumber b) s t [] rest (spelt s t (table .from-words) (table .to-words) (and-right (leb (length t) maxPairs) (all pairFits t) (table .within))) (leb→le (length t) maxPairs (and-left (leb (length t) maxPairs) (all pairFits t) (table .within)))
+
+pub listing-read-back : ListingReadBack
+unfolding replyBytes
 listing-read-back order d e room b h p k =
     let s : Shape = p .shape in
     let t : Table = p .rows in
-    let range = in-range s (k .in-range) in
     let n = arity-of-range s (k .in-range) in
     let from-words = column-is-basis s n (froms t) .0 (k .bases .from-basis) .words in
     let to-words = column-is-basis s n (tos t) .0 (k .bases .to-basis) .words in
     let accepted = answers-exact .accepted s n t from-words to-words .1 (k .bases) in
     let own = normal-form .own s n t (k .bases) .0 (k .reduced, k .in-order) in
     let i : ℕ = slotNumber b in
-    ap (λ x. feed order (idle x) (replyBytes order (lists b p))) (without-draft d e)
-    ∙ feed-record order (dropped d) (openLine b s) (P b (s .arity) (s .roots)) (withDraft d (newDraft b s), silent) (joinLines (pairRecords t) ++ closeRecord) (open-line-inside b s (slot-plain b lineEnd h (lit< tt))) (open-line-fits b s) (parse-open b s (slot-plain b tab h (lit< tt)) (range .arity-high) (range .roots-high)) (operation-open d b s h (k .in-range))
-    ∙ feed-pairs order d i s t [] closeRecord (spelt s t from-words to-words (and-right (leb (length t) maxPairs) (all pairFits t) (k .within))) (leb→le (length t) maxPairs (and-left (leb (length t) maxPairs) (all pairFits t) (k .within)))
+    typed-in order d e b h s t (test-table s t (record { in-range = k .in-range; within = k .within; from-words = from-words; to-words = to-words })) closeRecord
     ∙ feed-record order (withDraft d (draftOf i s t)) (69 ∷ []) E (changed d i (some p), okNumber (length t)) [] (refl, tt) close-line-fits parse-close (operation-close d (draftOf i s t) accepted own room)
     ∙ after-all order (changed d i (some p), okNumber (length t))

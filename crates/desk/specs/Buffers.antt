@@ -11,7 +11,7 @@ use Rattle.desk.specs.Text.{Bytes, bytes}
 use Rattle.desk.specs.Limits.{slotCount, maxChanges}
 use Rattle.desk.specs.Desk.{Desk, freshDesk, dropped, isDesk}
 use Rattle.desk.specs.Records.{T}
-use Rattle.desk.specs.Replies.{Reply, Outcome, refuse, pass, _>>=_, Effect, settle, operation}
+use Rattle.desk.specs.Replies.{Reply, okNumber, Outcome, refuse, pass, _>>=_, Effect, settle, operation}
 use Rattle.desk.specs.Bytes.{Order, replyBytes}
 
 -- a lent buffer after a call, and the call's answer: how many bytes it wrote, or a refusal
@@ -37,41 +37,51 @@ lent buffer (pass output) =
 abbrev pub outputOf : Order → Outcome Effect → Outcome Bytes
 outputOf order o = o >>= λ e. pass (replyBytes order (e .1))
 
+-- What a call does on the desk that it is given: `λ d. operation d r` for a record, `λ d. lineOperation d l` for a line.
+abbrev pub Work : Type 0
+Work = Desk → Outcome Effect
+
 -- A refusal with 14 leaves the desk as any other does: the open plan is dropped, and the operation is not done.
 abbrev pub deskAfter : Desk → Outcome Effect → Outcome ℕ → Desk
 deskAfter d o (refuse n c) = dropped d
 deskAfter d o (pass n) = settle d o .0
 
--- A call that does an operation on a desk and writes the reply into a lent buffer. "15 before all these: a plan or desk handed in
--- isn't one as described above; such a desk has no open plan to drop and is left as it came."
-unfoldable pub lentCall : Order → Desk → Outcome Effect → Bytes → Desk × Lent
-lentCall order d o buffer =
+-- A call that works on a desk and writes the reply into a lent buffer. "15 before all these: a plan or desk handed in isn't one as
+-- described above; such a desk has no open plan to drop and is left as it came."
+unfoldable pub lentCall : Order → Desk → Work → Bytes → Desk × Lent
+lentCall order d work buffer =
     elim
     (isDesk d) [
-      | true ↦ let l = lent buffer (outputOf order o) in (deskAfter d o (l .answer), l)
+      | true ↦ let l = lent buffer (outputOf order (work d)) in (deskAfter d (work d) (l .answer), l)
       | false ↦ (d, lent buffer (refuse 15 none))
     ]
 
--- A call that does an operation on a desk and is lent nothing: the reply is its value.
+-- A call that works on a desk and is lent nothing: the reply is its value.
 abbrev pub replyOf : Outcome Effect → Outcome Reply
 replyOf o = o >>= λ e. pass (e .1)
 
-unfoldable pub plainCall : Desk → Outcome Effect → Desk × Outcome Reply
-plainCall d o = elim (isDesk d) [ true ↦ (settle d o .0, replyOf o) | false ↦ (d, refuse 15 none) ]
+unfoldable pub plainCall : Desk → Work → Desk × Outcome Reply
+plainCall d work = elim (isDesk d) [ true ↦ (settle d (work d) .0, replyOf (work d)) | false ↦ (d, refuse 15 none) ]
 
--- T on a fresh desk, with room for its reply and one byte short of it
-lentCall-example : (order : Order) →
-    lentCall order freshDesk (operation freshDesk T) (bytes ".......") ≡ (freshDesk, record { buffer = bytes "ok\t0\n.."; answer = pass 5 })
+-- The work of T on a fresh desk, with room for its reply and one byte short of it
+abbrev counting : Work
+counting d = operation d T
+
+lentCall-example : (order : Order) → lentCall order freshDesk counting (bytes ".......") ≡ (freshDesk, record { buffer = bytes "ok\t0\n.."; answer = pass 5 })
 unfolding _>>=_ lentCall lent isDesk operation replyBytes freshDesk slotCount maxChanges
 lentCall-example order = refl
 
-too-short-example : (order : Order) →
-    lentCall order freshDesk (operation freshDesk T) (bytes "....") ≡ (freshDesk, record { buffer = bytes "...."; answer = refuse 14 none })
+too-short-example : (order : Order) → lentCall order freshDesk counting (bytes "....") ≡ (freshDesk, record { buffer = bytes "...."; answer = refuse 14 none })
 unfolding _>>=_ lentCall lent isDesk operation replyBytes freshDesk dropped slotCount maxChanges
 too-short-example order = refl
 
+-- the same call lent nothing: the desk stays, and the reply is the count
+plainCall-example : plainCall freshDesk counting ≡ (freshDesk, pass (okNumber 0))
+unfolding _>>=_ plainCall isDesk operation freshDesk slotCount maxChanges
+plainCall-example = refl
+
 -- no desk: it has no slots
 no-desk-example : (order : Order) →
-    lentCall order (record { slots = []; draft = none; changes = 0 }) (refuse 1 none) (bytes ".") ≡ (record { slots = []; draft = none; changes = 0 }, record { buffer = bytes "."; answer = refuse 15 none })
+    lentCall order (record { slots = []; draft = none; changes = 0 }) counting (bytes ".") ≡ (record { slots = []; draft = none; changes = 0 }, record { buffer = bytes "."; answer = refuse 15 none })
 unfolding lentCall lent isDesk slotCount
 no-desk-example order = refl

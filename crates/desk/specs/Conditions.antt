@@ -1,9 +1,12 @@
 -- "When each operation says no", as a table: for each record the numbers in the paper's order, each with its condition. Demand 1 says
--- that the first whose condition holds is given, and that the operation is done where none holds. Read Demands.antt next.
+-- that the first whose condition holds is given, and that the operation is done where none holds.
+-- `operation` says the same and what is done besides, step by step and by higman's answers. The table stands beside it to be held
+-- against the paper line by line: each number has here its own condition, in the words of the definitions and by itself, so that no
+-- number hides in an answer or behind another step. Read Demands.antt next.
 use Prim.Native.Nat.{ℕ}
 use mathlib.Core.Path.{_≡_, refl}
 use mathlib.Core.Bool.{Bool, true, false, _&&_, _||_, not}
-use mathlib.Core.List.{List, [], _∷_}
+use mathlib.Core.List.{List, [], _∷_, map}
 use mathlib.Core.Option.{Option, none, some}
 use lib.Dec.{leb}
 use lib.IntN.{pos, natAbs}
@@ -15,6 +18,7 @@ use Rattle.higman.specs.Normal.{compose}
 use Rattle.higman.specs.Limits.{Plan, shapeInRange, granted, isCode, maxPairs, maxPower}
 use Rattle.higman.specs.Answers.{sameShape, raised, repeatable}
 use Rattle.higman.specs.Cases.{Letter}
+use Rattle.desk.specs.Text.{byte}
 use Rattle.desk.specs.Limits.{slotCount}
 use Rattle.desk.specs.Desk.{Draft, Desk, freshDesk, held, isPlanWord}
 use Rattle.desk.specs.Records.{Record, P, M, E, F, I, K, S, W, L, C, T, U}
@@ -137,7 +141,7 @@ abbrev pub refusalOf : {A : Type 0} → Outcome A → Option (ℕ × Option Lett
 refusalOf (refuse n c) = some (n, c)
 refusalOf (pass a) = none
 
--- a slot outside comes before an empty one, and a power outside too
-conditions-example : firstOf (conditions freshDesk (K 65 (pos 1001) 65)) ≡ some (12, none)
+-- on a fresh desk: a slot outside comes before a power outside, and that before an empty slot
+conditions-example : map (λ r. firstOf (conditions freshDesk r)) (K (byte "I") (pos 1001) (byte "A") ∷ K (byte "A") (pos 1001) (byte "A") ∷ K (byte "A") (pos 1000) (byte "A") ∷ T ∷ []) ≡ some (8, none) ∷ some (12, none) ∷ some (9, none) ∷ none ∷ []
 unfolding conditions freshDesk slotCount maxPower
 conditions-example = refl

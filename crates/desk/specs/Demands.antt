@@ -1,26 +1,29 @@
--- Demands 1 and 2, as statements about the definitions. Demand 3 is higman's `Demand3`. proofs/ has one term of each.
-use Prim.Native.Nat.{ℕ, _<_}
+-- The three demands, as statements about the definitions: Demand1 and Demand2 here, Demand3 from higman, and `Demands` for all of them.
+-- proofs/ has one term of each. Read Cases.antt next.
+use Prim.Native.Nat.{ℕ, _+_, _<_}
 use mathlib.Core.Path.{_≡_}
 use mathlib.Core.Logic.{_↔_, _⊎_}
+use mathlib.Core.Bool.{Bool, true, false}
 use mathlib.Core.List.{List, [], _∷_, _++_, List·Memᴰ}
 use mathlib.Core.Option.{Option, none, some}
 use lib.Dec.{T}
 use lib.IntN.{ℤ}
+use lib.ListN.{length}
 use Rattle.higman.specs.Words.{Word, isWord}
 use Rattle.higman.specs.Tables.{image}
 use Rattle.higman.specs.Normal.{andThen, power}
 use Rattle.higman.specs.Limits.{Plan, Bases, Kept}
 use Rattle.higman.specs.Listing.{lineEnd}
-use Rattle.higman.specs.Theorems.{ActAlike}
+use Rattle.higman.specs.Theorems.{ActAlike, Demand3}
 use Rattle.higman.specs.Cases.{Letter}
 use Rattle.desk.specs.Text.{Bytes}
-use Rattle.desk.specs.Limits.{maxChanges}
-use Rattle.desk.specs.Desk.{Draft, Desk, held, IsDesk}
-use Rattle.desk.specs.Records.{Record, E, F, I, K, S, W}
-use Rattle.desk.specs.Replies.{refuse, pass, Effect, okNumber, okWord, refuses, operation, lineOperation, respondLine, recordOf, keepIn, closed, slotNumber, wordOf}
+use Rattle.desk.specs.Limits.{slotCount, maxChanges}
+use Rattle.desk.specs.Desk.{Draft, Desk, held, IsDesk, changed, withDraft, withPair, dropped}
+use Rattle.desk.specs.Records.{Record, P, M, E, F, I, K, S, W, L, C, T as Tᴿ, U}
+use Rattle.desk.specs.Replies.{refuse, pass, Effect, silent, ok, okNumber, okWord, lists, surveys, refuses, heldFrom, operation, lineOperation, respondLine, recordOf, keepIn, newDraft, closed, slotNumber, wordOf}
 use Rattle.desk.specs.Bytes.{Order, replyBytes}
 use Rattle.desk.specs.Conditions.{conditions, firstOf, refusalOf}
-use Rattle.desk.specs.Theorems.{ListingReadBack}
+use Rattle.desk.specs.Theorems.{RefusalDrops, DeskStays, TypedIn, ListingReadBack}
 
 -- the numbers that a record may be refused with; 14 and 15 are of library calls
 unfoldable pub refusalNumbers : List ℕ
@@ -30,16 +33,13 @@ refusalNumbers = 1 ∷ 2 ∷ 3 ∷ 4 ∷ 5 ∷ 6 ∷ 7 ∷ 8 ∷ 9 ∷ 10 ∷ 11
 abbrev pub Done : Desk → Bytes → Type 0
 Done d line = (e : Effect) × (lineOperation d line ≡ pass e) × (respondLine d line ≡ e)
 
--- "Any refusal drops an open plan and changes nothing else", and its whole output is its own line
+-- a line is refused with a number, and its whole output is a line of its own
 pub record Refused (order : Order) (d : Desk) (line : Bytes) : Type 0 where
   pub number : ℕ
   pub column : Option Letter
   pub numbered : List·Memᴰ number refusalNumbers
   pub refused : lineOperation d line ≡ refuse number column
   pub replied : respondLine d line .1 ≡ refuses number column
-  pub same-slots : respondLine d line .0 .slots ≡ d .slots
-  pub same-count : respondLine d line .0 .changes ≡ d .changes
-  pub none-open : respondLine d line .0 .draft ≡ none
   pub text : Bytes
   pub no-line-end : List·Memᴰ lineEnd text → ⊥
   pub one-line : replyBytes order (respondLine d line .1) ≡ text ++ lineEnd ∷ []
@@ -47,38 +47,90 @@ pub record Refused (order : Order) (d : Desk) (line : Bytes) : Type 0 where
 -- Demand 1: any bytes, a job done or a numbered refusal that changes nothing.
 pub record Demand1 : Type 0 where
   pub answered : (order : Order) (d : Desk) (line : Bytes) → Done d line ⊎ Refused order d line
-  pub desk-stays : (d : Desk) (line : Bytes) → IsDesk d → IsDesk (respondLine d line .0)
+  -- "Any refusal drops an open plan and changes nothing else."
+  pub refusal-drops : RefusalDrops
+  pub desk-stays : DeskStays
   -- 1 exactly where a line is no record, and every other number under its condition and no other: the first that holds
   pub no-record : (d : Desk) (line : Bytes) (c : Option Letter) → (lineOperation d line ≡ refuse 1 c) ↔ (recordOf line ≡ refuse 1 c)
   pub first-condition : (d : Desk) (r : Record) → refusalOf (operation d r) ≡ firstOf (conditions d r)
 
+-- What becomes of a desk that is changed, gets an open plan or loses it.
+pub record DeskParts : Type 0 where
+  -- a change: one slot holds something else, the others hold what they held, and the count is one higher
+  pub changed-here : (d : Desk) (i : ℕ) (content : Option Plan) → length (d .slots) ≡ slotCount → i < slotCount → held (changed d i content) i ≡ content
+  pub changed-elsewhere : (d : Desk) (i j : ℕ) (content : Option Plan) → (i ≡ j → ⊥) → held (changed d i content) j ≡ held d j
+  pub changed-count : (d : Desk) (i : ℕ) (content : Option Plan) → changed d i content .changes ≡ d .changes + 1
+  pub changed-open : (d : Desk) (i : ℕ) (content : Option Plan) → changed d i content .draft ≡ none
+  -- an open plan: nothing else changes
+  pub drafted : (d : Desk) (o : Draft) → (withDraft d o .slots ≡ d .slots) × (withDraft d o .draft ≡ some o) × (withDraft d o .changes ≡ d .changes)
+  -- it is dropped: nothing else changes
+  pub dropped-parts : (d : Desk) → (dropped d .slots ≡ d .slots) × (dropped d .draft ≡ none) × (dropped d .changes ≡ d .changes)
+
+-- "E, F, I, K and C raise the count by one."
+unfoldable pub isChange : Record → Bool
+isChange (P a n r) = false
+isChange (M from to) = false
+isChange E = true
+isChange (F a b c) = true
+isChange (I a c) = true
+isChange (K a k c) = true
+isChange (S a b) = false
+isChange (W a code) = false
+isChange (L a) = false
+isChange (C a) = true
+isChange Tᴿ = false
+isChange U = false
+
+-- What P, M, C, L, T and U do when they are not refused, and which records change slots and count at all.
+pub record RepliesExact : Type 0 where
+  pub opens : (d : Desk) (a n r : ℕ) (e : Effect) → operation d (P a n r) ≡ pass e → (d .draft ≡ none) × (e ≡ (withDraft d (newDraft a (record { arity = n; roots = r })), silent))
+  pub adds : (d : Desk) (from to : Bytes) (e : Effect) → operation d (M from to) ≡ pass e
+      → (o : Draft) × (d .draft ≡ some o) × (e ≡ (withDraft d (withPair o (record { from = wordOf from; to = wordOf to })), silent))
+  pub empties : (d : Desk) (a : ℕ) (e : Effect) → operation d (C a) ≡ pass e → (p : Plan) × (held d (slotNumber a) ≡ some p) × (e ≡ (changed d (slotNumber a) none, ok))
+  pub lists : (d : Desk) (a : ℕ) (e : Effect) → operation d (L a) ≡ pass e → (p : Plan) × (held d (slotNumber a) ≡ some p) × (e ≡ (d, lists a p))
+  pub counts : (d : Desk) (e : Effect) → operation d Tᴿ ≡ pass e → e ≡ (d, okNumber (d .changes))
+  pub surveys : (d : Desk) (e : Effect) → operation d U ≡ pass e → e ≡ (d, surveys (heldFrom 0 (d .slots)))
+  pub only-changes : (d : Desk) (r : Record) (e : Effect) → isChange r ≡ false → operation d r ≡ pass e → (e .0 .slots ≡ d .slots) × (e .0 .changes ≡ d .changes)
+  pub raises : (d : Desk) (r : Record) (e : Effect) → isChange r ≡ true → operation d r ≡ pass e → e .0 .changes ≡ d .changes + 1
+
 -- E: what is kept is what was typed, reduced
-pub record Kept-as-typed (d : Desk) (o : Draft) (e : Effect) : Type 0 where
+pub record KeptAsTyped (d : Desk) (o : Draft) (e : Effect) : Type 0 where
   pub effect : e ≡ keepIn d (o .slot) (closed o)
   pub kept : Kept (closed o)
   pub acts : (w v : Word) → T (isWord (o .shape) w) → image (o .rows) w ≡ some v → image (closed o .rows) w ≡ some v
 
 -- F, I and K: the plan that is kept in slot c, from what the slots held before
-pub record Kept-in (d : Desk) (c : ℕ) (e : Effect) (p : Plan) : Type 0 where
+pub record KeptIn (d : Desk) (c : ℕ) (e : Effect) (p : Plan) : Type 0 where
   pub effect : e ≡ keepIn d (slotNumber c) p
   pub kept : Kept p
 
 -- Demand 2: plans accepted exactly when both columns are bases, operations those of G(n,r), a listing read back is the same plan.
 pub record Demand2 : Type 0 where
   pub accepted : (d : Desk) (o : Draft) → IsDesk d → d .draft ≡ some o → ((e : Effect) × (operation d E ≡ pass e)) ↔ (Bases (o .shape) (o .rows) × (d .changes < maxChanges))
-  pub typed : (d : Desk) (o : Draft) (e : Effect) → IsDesk d → d .draft ≡ some o → operation d E ≡ pass e → Kept-as-typed d o e
+  pub typed : (d : Desk) (o : Draft) (e : Effect) → IsDesk d → d .draft ≡ some o → operation d E ≡ pass e → KeptAsTyped d o e
   pub follows : (d : Desk) (a b c : ℕ) (e : Effect) → IsDesk d → operation d (F a b c) ≡ pass e
-      → (p : Plan) × (q : Plan) × (r : Plan) × (held d (slotNumber a) ≡ some p) × (held d (slotNumber b) ≡ some q) × Kept-in d c e r
+      → (p : Plan) × (q : Plan) × (r : Plan) × (held d (slotNumber a) ≡ some p) × (held d (slotNumber b) ≡ some q) × KeptIn d c e r × (p .shape ≡ q .shape) × (r .shape ≡ p .shape)
       × ((w v : Word) → T (isWord (p .shape) w) → andThen (image (p .rows)) (image (q .rows)) w ≡ some v → image (r .rows) w ≡ some v)
   pub inverts : (d : Desk) (a c : ℕ) (e : Effect) → IsDesk d → operation d (I a c) ≡ pass e
-      → (p : Plan) × (r : Plan) × (held d (slotNumber a) ≡ some p) × Kept-in d c e r
+      → (p : Plan) × (r : Plan) × (held d (slotNumber a) ≡ some p) × KeptIn d c e r × (r .shape ≡ p .shape)
       × ((w v : Word) → T (isWord (p .shape) w) → image (p .rows) w ≡ some v → image (r .rows) v ≡ some w)
   pub repeats : (d : Desk) (a c : ℕ) (k : ℤ) (e : Effect) → IsDesk d → operation d (K a k c) ≡ pass e
-      → (p : Plan) × (held d (slotNumber a) ≡ some p) × Kept-in d c e (record { shape = p .shape; rows = power (p .shape) (p .rows) k })
+      → (p : Plan) × (held d (slotNumber a) ≡ some p) × KeptIn d c e (record { shape = p .shape; rows = power (p .shape) (p .rows) k })
   pub routes : (d : Desk) (a : ℕ) (code : Bytes) (e : Effect) → operation d (W a code) ≡ pass e
       → (p : Plan) × (v : Word) × (held d (slotNumber a) ≡ some p) × (image (p .rows) (wordOf code) ≡ some v) × (e ≡ (d, okWord v))
   pub compares : (d : Desk) (a b : ℕ) (e : Effect) → IsDesk d → operation d (S a b) ≡ pass e
       → (p : Plan) × (q : Plan) × (held d (slotNumber a) ≡ some p) × (held d (slotNumber b) ≡ some q)
       × ((e ≡ (d, okNumber 1)) ⊎ (e ≡ (d, okNumber 0))) × ((e ≡ (d, okNumber 1)) ↔ ActAlike p q)
+  -- the other records, and what "changed" means
+  pub replies : RepliesExact
+  pub desk-parts : DeskParts
+  -- what E judges is what was typed, in the order in which it was typed
+  pub typed-in : TypedIn
   -- a listing typed into any desk that has no plan open and may still change keeps the same plan
   pub read-back : ListingReadBack
+
+-- All three demands, in one place.
+pub record Demands : Type 0 where
+  pub demand1 : Demand1
+  pub demand2 : Demand2
+  pub demand3 : Demand3

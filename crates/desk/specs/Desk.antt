@@ -7,7 +7,7 @@ use mathlib.Core.List.{List, [], _∷_, _++_, map}
 use mathlib.Core.Option.{Option, none, some}
 use lib.Dec.{T, leb, eqb}
 use lib.ListN.{length, getD, set, replicate}
-use Rattle.higman.specs.Words.{Shape, Word, isWord}
+use Rattle.higman.specs.Words.{Shape, Word, isWord, spell}
 use Rattle.higman.specs.Bases.{all}
 use Rattle.higman.specs.Tables.{Pair, Table, froms, tos, row, ψ}
 use Rattle.higman.specs.Normal.{joined, normal, normalForm, keep}
@@ -47,6 +47,8 @@ pub record IsDraft (o : Draft) : Type 0 where
   pub from-words : T (all (isWord (o .shape)) (froms (o .rows)))
   pub to-words : T (all (isWord (o .shape)) (tos (o .rows)))
 
+-- "The desk has slots A to H, at most one open plan, and a count of changes from 0 to 4,000,000,000." What a slot holds is a kept
+-- plan. A library call that is handed anything else says 15.
 pub record IsDesk (d : Desk) : Type 0 where
   pub eight : length (d .slots) ≡ slotCount
   pub kept : (i : ℕ) (p : Plan) → held d i ≡ some p → Kept p
@@ -80,6 +82,11 @@ isDraft (some o) = leb (o .slot + 1) slotCount && isTableOf (o .shape) (o .rows)
 
 unfoldable pub isDesk : Desk → Bool
 isDesk d = eqb (length (d .slots)) slotCount && allHeld (d .slots) && isDraft (d .draft) && leb (d .changes) maxChanges
+
+-- "A word of 16 digits passes, 17 is 4."; no digits, a wrong belt and a wrong way
+isPlanWord-example : map (isPlanWord (record { arity = 2; roots = 1 })) (replicate 16 1 ∷ replicate 17 1 ∷ [] ∷ spell 21 ∷ spell 13 ∷ []) ≡ true ∷ false ∷ false ∷ false ∷ false ∷ []
+unfolding maxDigits
+isPlanWord-example = refl
 
 -- a fresh desk; one that holds ψ in slot B; one that holds a plan that is not reduced
 isDesk-example : isDesk freshDesk ≡ true

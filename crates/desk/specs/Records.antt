@@ -82,14 +82,14 @@ spelledOut n [] = n
 spelledOut n (b ∷ l) = spelledOut (n * 10 + numeralValue b) l
 
 -- "no leading zero": a number of several digits does not begin with 0
-abbrev pub leadsWell : Bytes → Bool
-leadsWell [] = false
-leadsWell (b ∷ []) = true
-leadsWell (b ∷ c ∷ l) = leb (byte "1") b
+abbrev pub noLeadingZero : Bytes → Bool
+noLeadingZero [] = false
+noLeadingZero (b ∷ []) = true
+noLeadingZero (b ∷ c ∷ l) = leb (byte "1") b
 
 -- "one to four digits, no leading zero"
 abbrev pub numberField : Form ℕ
-numberField f = elim (all isNumeral f && leb (length f) maxNumeral && leadsWell f) [ true ↦ some (spelledOut 0 f) | false ↦ none ]
+numberField f = elim (all isNumeral f && leb (length f) maxNumeral && noLeadingZero f) [ true ↦ some (spelledOut 0 f) | false ↦ none ]
 
 abbrev pub positive : Option ℕ → Option ℤ
 positive none = none
@@ -176,6 +176,10 @@ powerField-example : map powerField (bytes "0" ∷ bytes "-1000" ∷ bytes "9999
     ≡ some (pos 0) ∷ some (negsuc 999) ∷ some (pos 9999) ∷ none ∷ none ∷ none ∷ none ∷ none ∷ none ∷ []
 unfolding maxNumeral
 powerField-example = refl
+
+-- "n and r one digit 0 to 9": whatever their range
+digitField-example : map digitField (bytes "0" ∷ bytes "9" ∷ bytes "" ∷ bytes "10" ∷ bytes "/" ∷ bytes ":" ∷ []) ≡ some 0 ∷ some 9 ∷ none ∷ none ∷ none ∷ none ∷ []
+digitField-example = refl
 
 parse-example : parse (bytes "K\tA\t-2\tz") ≡ some (K (byte "A") (negsuc 1) (byte "z"))
 unfolding parse grammar maxNumeral

@@ -4,16 +4,16 @@
 use Prim.Native.Nat.{ℕ, suc, _+_, _-_}
 use mathlib.Core.Path.{_≡_, refl}
 use mathlib.Core.Bool.{Bool, true, false, _&&_, not}
-use mathlib.Core.List.{List, [], _∷_, map}
+use mathlib.Core.List.{List, [], _∷_, _++_, map}
 use mathlib.Core.Option.{Option, none, some}
 use lib.Dec.{leb}
 use lib.IntN.{pos, natAbs}
 use lib.ListN.{length, set, replicate}
 use Rattle.higman.specs.Words.{Shape, Word, given, spell}
 use Rattle.higman.specs.Bases.{all}
-use Rattle.higman.specs.Tables.{ψ}
-use Rattle.higman.specs.Normal.{joined, normal, normalForm, keep, inverse}
-use Rattle.higman.specs.Limits.{Plan, shapeInRange, isCode, maxPairs, maxCode, maxPower}
+use Rattle.higman.specs.Tables.{Table, row, φ, ψ}
+use Rattle.higman.specs.Normal.{joined, normal, normalForm, keep, compose, inverse}
+use Rattle.higman.specs.Limits.{Plan, shapeInRange, granted, isCode, maxPairs, maxDigits, maxCode, maxPower}
 use Rattle.higman.specs.Answers.{Verdict, Accepted, InFrom, InTo, verdict, reasonNumber, Answer, Granted, Refused, PowerOutside, refusalNumber, followed, inverted, powered, Comparison, Alike, NotCompared, same, Route, Image, TooShort, NotRouted, routeNumber, routed}
 use Rattle.higman.specs.Cases.{Letter}
 use Rattle.desk.specs.Text.{Bytes, byte, bytes}
@@ -253,6 +253,21 @@ respond-example : map (λ r. respond freshDesk r .1) (T ∷ U ∷ M [] [] ∷ P 
 unfolding _>>=_ respond operation freshDesk slotCount shapeInRange maxPower
 respond-example = refl
 
+-- bytes that are no digits from 1 to 9 give digits of no word
+wordOf-example : wordOf (bytes "1290/:A") ≡ 1 ∷ 2 ∷ 9 ∷ 0 ∷ 0 ∷ 10 ∷ 17 ∷ []
+wordOf-example = refl
+
+-- "Lines hold at most 1,100 bytes": W with a code so long that the line has 1,100, and one byte more
+recordOf-example : map (λ k. recordOf (bytes "W\tA\t" ++ replicate k (byte "1"))) (1_096 ∷ 1_097 ∷ []) ≡ pass (W (byte "A") (replicate 1_096 (byte "1"))) ∷ refuse 1 none ∷ []
+unfolding parse grammar maxLine
+recordOf-example = refl
+
+-- with a plan open: any record but M and E is refused with 2
+open-example : map (λ r. respond (withDraft freshDesk (newDraft (byte "A") (record { arity = 2; roots = 1 }))) r .1) (T ∷ U ∷ P (byte "A") 2 1 ∷ L (byte "A") ∷ M (bytes "1") (bytes "1") ∷ E ∷ [])
+    ≡ refuses 2 none ∷ refuses 2 none ∷ refuses 2 none ∷ refuses 2 none ∷ silent ∷ refuses 7 (some Letter.F) ∷ []
+unfolding _>>=_ respond operation freshDesk withDraft slotCount maxPairs maxDigits verdict
+open-example = refl
+
 -- a line that is no record, and a record
 respondLine-example : map (λ l. respondLine freshDesk (bytes l) .1) ("" ∷ "T " ∷ "T" ∷ []) ≡ refuses 1 none ∷ refuses 1 none ∷ okNumber 0 ∷ []
 unfolding _>>=_ respondLine lineOperation operation parse grammar freshDesk slotCount maxLine
@@ -266,3 +281,25 @@ full-count-example : map (λ r. respond fullCount r .1) (T ∷ C (byte "A") ∷ 
     ≡ okNumber 4_000_000_000 ∷ refuses 16 none ∷ refuses 9 none ∷ refuses 16 none ∷ refuses 12 none ∷ okWord (spell 122) ∷ []
 unfolding _>>=_ respond operation slotCount maxChanges maxPower inverted inverse keep normalForm normal joined routed isCode maxCode
 full-count-example = refl
+
+-- ψ in slot A and φ in slot B
+abbrev plan21 : Table → Plan
+plan21 t = record { shape = record { arity = 2; roots = 1 }; rows = t }
+
+abbrev twoPlans : Desk
+twoPlans = record { slots = set (set (replicate slotCount none) 0 (some (plan21 ψ))) 1 (some (plan21 φ)); draft = none; changes = 2 }
+
+done-example : map (λ r. respond twoPlans r .1) (S (byte "A") (byte "A") ∷ S (byte "A") (byte "B") ∷ L (byte "B") ∷ C (byte "B") ∷ U ∷ [])
+    ≡ okNumber 1 ∷ okNumber 0 ∷ lists (byte "B") (plan21 φ) ∷ ok ∷ surveys (record { slot = 0; plan = plan21 ψ } ∷ record { slot = 1; plan = plan21 φ } ∷ []) ∷ []
+unfolding _>>=_ respond operation slotCount same maxChanges
+done-example = refl
+
+emptied-example : respond twoPlans (C (byte "B")) .0 ≡ record { slots = set (replicate slotCount none) 0 (some (plan21 ψ)); draft = none; changes = 3 }
+unfolding _>>=_ respond operation slotCount changed maxChanges
+emptied-example = refl
+
+-- "Operands are read before c is written, so letters may repeat."
+repeated-letters-example : map (λ r. held (respond twoPlans r .0) 0) (F (byte "A") (byte "A") (byte "A") ∷ F (byte "B") (byte "A") (byte "A") ∷ F (byte "A") (byte "B") (byte "A") ∷ I (byte "A") (byte "A") ∷ [])
+    ≡ some (plan21 (row 1111 11 ∷ row 1112 121 ∷ row 112 1221 ∷ row 12 1222 ∷ [])) ∷ some (plan21 (row 111 1222 ∷ row 112 1221 ∷ row 121 11 ∷ row 122 121 ∷ [])) ∷ some (plan21 (row 1111 122 ∷ row 1112 121 ∷ row 112 111 ∷ row 12 112 ∷ [])) ∷ some (plan21 (row 11 111 ∷ row 121 112 ∷ row 122 12 ∷ [])) ∷ []
+unfolding _>>=_ respond operation slotCount changed maxChanges followed inverted granted maxPairs maxDigits compose inverse keep normalForm normal joined
+repeated-letters-example = refl

@@ -3,15 +3,15 @@
 use Prim.Native.Nat.{ℕ}
 use mathlib.Core.Path.{_≡_, refl}
 use mathlib.Core.Bool.{Bool, true, false}
-use mathlib.Core.List.{[], _∷_, _++_}
+use mathlib.Core.List.{[], _∷_, _++_, map}
 use mathlib.Core.Option.{none}
 use lib.Dec.{eqb, ltb}
-use lib.ListN.{length}
+use lib.ListN.{length, replicate}
 use Rattle.higman.specs.Normal.{joined, normal, normalForm, keep, compose, inverse, identity}
 use Rattle.higman.specs.Limits.{maxPairs, maxDigits, maxCode, maxPower, shapeInRange, granted, isCode}
 use Rattle.higman.specs.Answers.{verdict, followed, inverted, raised, powered, routed}
 use Rattle.higman.specs.Listing.{lineEnd}
-use Rattle.desk.specs.Text.{Bytes, lines}
+use Rattle.desk.specs.Text.{Bytes, byte, bytes, lines}
 use Rattle.desk.specs.Limits.{slotCount, maxChanges, maxLine, maxNumeral}
 use Rattle.desk.specs.Desk.{Desk, freshDesk, changed, withDraft, dropped}
 use Rattle.desk.specs.Records.{grammar, parse}
@@ -96,6 +96,19 @@ outputInFull =
     "no\t13" ∷
     "ok\t2" ∷
     [])
+
+-- a last line without byte 10, and none behind the last byte 10
+last-line-example : (order : Order) → map (session order) (bytes "T" ∷ bytes "T\n" ∷ bytes "\nT\r" ∷ []) ≡ bytes "ok\t0\n" ∷ bytes "ok\t0\n" ∷ bytes "no\t1\nno\t1\n" ∷ []
+unfolding session finish feed feedByte replyBytes _>>=_ respondLine lineOperation operation parse grammar freshDesk dropped slotCount maxLine
+last-line-example order = refl
+
+-- behind 1,100 bytes of a line one more makes it too long: what it held is let go, and at its end it is refused
+abbrev fullLine : State
+fullLine = record { desk = freshDesk; line = replicate maxLine (byte "T"); overlong = false }
+
+overlong-example : (order : Order) → feed order fullLine (bytes "TT\nT\n") ≡ (idle freshDesk, bytes "no\t1\nok\t0\n")
+unfolding feed feedByte replyBytes _>>=_ respondLine lineOperation operation parse grammar freshDesk dropped slotCount maxLine
+overlong-example order = refl
 
 session-in-full : (order : Order) → session order inputInFull ≡ outputInFull
 unfolding session finish feed feedByte replyBytes _>>=_ respondLine lineOperation operation parse grammar freshDesk changed withDraft dropped slotCount maxChanges maxLine maxNumeral maxPairs maxDigits maxCode maxPower shapeInRange granted isCode verdict followed inverted raised powered routed keep compose inverse identity normalForm normal joined

@@ -1,6 +1,6 @@
 -- The statements, for every order of U's lines. Of one line: RefusalDrops, DeskStays, DeskTest and SurveyExact. Of a session:
--- FedInPieces (wherever its input is cut), SessionIsLines (what the state holds of a line is enough) and ListingReadBack. proofs/ has
--- one term of each.
+-- FedInPieces (wherever its input is cut), SessionIsLines (what the state holds of a line is enough), TypedIn and ListingReadBack. Of a library
+-- call: CallsExact. proofs/ has one term of each. Read Conditions.antt next.
 use Prim.Native.Nat.{ℕ, suc, _≤_, _<_}
 use mathlib.Core.Path.{_≡_, refl}
 use mathlib.Core.Logic.{_↔_}
@@ -10,14 +10,18 @@ use mathlib.Core.Option.{Option, none, some}
 use lib.Dec.{T, eqb}
 use Rattle.higman.specs.Cases.{Letter}
 use lib.ListN.{length}
+use Rattle.higman.specs.Words.{Shape}
+use Rattle.higman.specs.Tables.{Table}
 use Rattle.higman.specs.Limits.{Plan, Kept}
-use Rattle.higman.specs.Listing.{lineEnd, joinLines}
+use Rattle.higman.specs.Answers.{isTableOf}
+use Rattle.higman.specs.Listing.{lineEnd, openRecord, pairRecords, joinLines}
 use Rattle.desk.specs.Text.{Bytes, bytes}
 use Rattle.desk.specs.Limits.{maxChanges}
-use Rattle.desk.specs.Desk.{Desk, held, IsDesk, isDesk, freshDesk, changed, dropped}
-use Rattle.desk.specs.Replies.{lists, Held, heldFrom, slotNumber, isSlot, okNumber, refuses, respondLine}
+use Rattle.desk.specs.Desk.{Desk, held, IsDesk, isDesk, freshDesk, changed, withDraft, dropped}
+use Rattle.desk.specs.Replies.{refuse, pass, Effect, lists, Held, heldFrom, slotNumber, isSlot, okNumber, refuses, respondLine}
 use Rattle.desk.specs.Bytes.{heldLine, Order, IsOrder, replyBytes}
 use Rattle.desk.specs.Session.{State, idle, feed, session}
+use Rattle.desk.specs.Buffers.{Work, overwritten, lentCall, plainCall}
 
 -- "Any refusal drops an open plan and changes nothing else."
 abbrev pub RefusalDrops : Type 0
@@ -73,6 +77,30 @@ SessionIsLines = (order : Order) (input : Bytes) → session order input ≡ rep
 linesFrom-example : linesFrom [] (bytes "T\n\nU") ≡ bytes "T" ∷ [] ∷ bytes "U" ∷ []
 linesFrom-example = refl
 
+-- What is typed is what the lines say: P and M records of words within the limits, typed into a desk with no open plan, get no reply
+-- and open just the plan that they spell, in their order. Whatever follows, E first of all, meets that plan.
+abbrev pub TypedIn : Type 0
+TypedIn = (order : Order) (d : Desk) → d .draft ≡ none → (b : ℕ) → T (isSlot b) → (s : Shape) (t : Table) → T (isTableOf s t) → (rest : Bytes) → feed order (idle d) (openRecord b s ++ (joinLines (pairRecords t) ++ rest)) ≡ feed order (idle (withDraft d (record { slot = slotNumber b; shape = s; rows = t }))) rest
+
 -- What L replies, read back on a desk with no open plan and room for a change, keeps the plan in the slot that the listing names.
 abbrev pub ListingReadBack : Type 0
 ListingReadBack = (order : Order) (d : Desk) → d .draft ≡ none → d .changes < maxChanges → (b : ℕ) → T (isSlot b) → (p : Plan) → Kept p → feed order (idle d) (replyBytes order (lists b p)) ≡ (idle (changed d (slotNumber b) (some p)), replyBytes order (okNumber (length (p .rows))))
+
+-- Library calls: 15 first, then the refusals of the work itself, 14 last; what is lent and the desk after each of them.
+pub record CallsExact : Type 0 where
+  -- no desk: 15, and everything is left as it came
+  pub no-desk : (order : Order) (d : Desk) (work : Work) (buffer : Bytes) → (IsDesk d → ⊥) → lentCall order d work buffer ≡ (d, record { buffer = buffer; answer = refuse 15 none })
+  -- a desk: a refusal of the work comes before 14
+  pub refused : (order : Order) (d : Desk) (work : Work) (buffer : Bytes) (n : ℕ) (c : Option Letter) → IsDesk d → work d ≡ refuse n c → lentCall order d work buffer ≡ (dropped d, record { buffer = buffer; answer = refuse n c })
+  -- 14: "the lent buffer is shorter than the output"
+  pub no-room : (order : Order) (d : Desk) (work : Work) (buffer : Bytes) (e : Effect) → IsDesk d → work d ≡ pass e → length buffer < length (replyBytes order (e .1)) → lentCall order d work buffer ≡ (dropped d, record { buffer = buffer; answer = refuse 14 none })
+  -- otherwise the work is done, and "only the bytes of the output change"
+  pub written : (order : Order) (d : Desk) (work : Work) (buffer : Bytes) (e : Effect) → IsDesk d → work d ≡ pass e → length (replyBytes order (e .1)) ≤ length buffer
+      → lentCall order d work buffer ≡ (e .0, record { buffer = overwritten buffer (replyBytes order (e .1)); answer = pass (length (replyBytes order (e .1))) })
+  -- "a lent buffer then holds what it held before", at any refusal; and a buffer keeps its length at any answer
+  pub buffer-held : (order : Order) (d : Desk) (work : Work) (buffer : Bytes) (n : ℕ) (c : Option Letter) → lentCall order d work buffer .1 .answer ≡ refuse n c → lentCall order d work buffer .1 .buffer ≡ buffer
+  pub buffer-length : (order : Order) (d : Desk) (work : Work) (buffer : Bytes) → length (lentCall order d work buffer .1 .buffer) ≡ length buffer
+  -- a call that is lent nothing
+  pub plain-no-desk : (d : Desk) (work : Work) → (IsDesk d → ⊥) → plainCall d work ≡ (d, refuse 15 none)
+  pub plain-refused : (d : Desk) (work : Work) (n : ℕ) (c : Option Letter) → IsDesk d → work d ≡ refuse n c → plainCall d work ≡ (dropped d, refuse n c)
+  pub plain-done : (d : Desk) (work : Work) (e : Effect) → IsDesk d → work d ≡ pass e → plainCall d work ≡ (e .0, pass (e .1))

@@ -178,3 +178,21 @@ power-refused a k = (to, from)
 pub powered-zero : (a : Plan) → powered a (pos 0) ≡ Granted (record { shape = a .shape; rows = identity (a .shape) })
 unfolding raised
 powered-zero a = powered-is a (pos 0) (leb·zero maxPower) (some (identity (a .shape))) refl
+
+raised-one : (s : Shape) (b u : Table) → compose s (identity s) b ≡ u → T (granted u) → raised s b 1 ≡ some u
+unfolding raised
+raised-one s b u e g =
+    raised-some s b (identity s) 0 refl
+    ∙ ap {B = Option Table} (λ t. elim (granted t) as (λ _. Option Table) [ true ↦ some t | false ↦ none ]) e
+    ∙ ap {B = Option Table} (λ x. elim x as (λ _. Option Table) [ true ↦ some u | false ↦ none ]) (so (granted u) g)
+
+one-inside : leb 1 maxPower ≡ true
+unfolding maxPower
+one-inside = refl
+
+-- the first power of a plan, and of its inverse
+pub powered-one : (a : Plan) (u : Table) → compose (a .shape) (identity (a .shape)) (a .rows) ≡ u → T (granted u) → powered a (pos 1) ≡ Granted (record { shape = a .shape; rows = u })
+powered-one a u e g = powered-is a (pos 1) one-inside (some u) (raised-one (a .shape) (a .rows) u e g)
+
+pub powered-minus-one : (a : Plan) (u : Table) → compose (a .shape) (identity (a .shape)) (inverse (a .shape) (a .rows)) ≡ u → T (granted u) → powered a (negsuc 0) ≡ Granted (record { shape = a .shape; rows = u })
+powered-minus-one a u e g = powered-is a (negsuc 0) one-inside (some u) (raised-one (a .shape) (inverse (a .shape) (a .rows)) u e g)

@@ -3,6 +3,7 @@
 use Prim.Native.Nat.{ℕ, zero, suc, _+_, _≤_}
 use mathlib.Core.Path.{_≡_, refl, sym, _∙_, ap, ap₂, subst}
 use mathlib.Core.Logic.{_↔_}
+use mathlib.Core.Bool.{Bool, true, false}
 use mathlib.Core.List.{[], _∷_, List·Memᴰ, Memᴰ·of-map}
 use native.Mathlib.Nat.{le-refl, le-trans}
 use native.Mathlib.Omega.{arith}
@@ -24,8 +25,8 @@ use Rattle.higman.proofs.Elements.{Element, element-action, element-swa
 use Rattle.higman.proofs.Group.{Member, member-path, compose-member, inverse-member, identity-member, compose-assoc, compose-identity-left, compose-identity-right, compose-inverse-left, compose-inverse-right}
 use Rattle.higman.proofs.Smallest.{keep-granted}
 use Rattle.higman.proofs.KeptPlans.{in-range, arity-of-range, member-of-kept, kept-of-member}
-use Rattle.higman.proofs.Powers.{GroupLaws, pow-in, pow-sum, pow-product, power-is-pow}
-use Rattle.higman.proofs.Answers.{followed-is, followed-cases, grant-of, inverted-cases, powered-cases, powered-zero}
+use Rattle.higman.proofs.Powers.{GroupLaws, pow-in, pow-sum, pow-neg, pow-product, inv-unique, power-is-pow}
+use Rattle.higman.proofs.Answers.{followed-is, followed-cases, grant-of, inverted-cases, powered-cases, powered-zero, powered-one, powered-minus-one}
 use Rattle.higman.proofs.Listing.{listing-faithful}
 
 -- the group of one shape, for the laws of powers
@@ -218,6 +219,54 @@ power-zero : (a : Plan) → Kept a → powered a (pos 0) ≡ Granted (identityPl
 unfolding identityPlan
 power-zero a A = powered-zero a
 
+power-one : (a : Plan) → Kept a → powered a (pos 1) ≡ Granted a
+power-one a A = powered-one a (a .rows) (compose-identity-left (a .shape) (arity-of-range (a .shape) (A .in-range)) (a .rows) (member-of-kept a A)) (A .within)
+
+power-minus-one : (a : Plan) → Kept a → powered a (negsuc 0) ≡ inverted a
+unfolding inverted
+power-minus-one a A =
+    let n = arity-of-range (a .shape) (A .in-range) in
+    let E = member-of-kept a A .element in
+    powered-minus-one a (inverse (a .shape) (a .rows)) (compose-identity-left (a .shape) n (inverse (a .shape) (a .rows)) (inverse-member (a .shape) n (a .rows) E)) (inverse-granted (a .shape) n (a .rows) E (A .within))
+
+-- two tests that imply each other
+same-test : (b c : Bool) → (T b → T c) → (T c → T b) → b ≡ c
+same-test true true f g = refl
+same-test true false f g = absurd (f tt)
+same-test false true f g = absurd (g tt)
+same-test false false f g = refl
+
+-- power −j is the inverse of power j
+repeated-inverse : (s : Shape) → 1 ≤ s .arity → (a : Table) → Member s a → (j : ℕ) → inverse s (repeated s a j) ≡ repeated s (inverse s a) j
+unfolding power repeated
+repeated-inverse s n a A zero = ap (inverse s) (power-is-pow s a (pos 0)) ∙ pow-neg (group-laws s n) a A (pos 0) ∙ sym (power-is-pow s a (pos 0))
+repeated-inverse s n a A (suc j) = ap (inverse s) (power-is-pow s a (pos (suc j))) ∙ pow-neg (group-laws s n) a A (pos (suc j)) ∙ sym (power-is-pow s a (negsuc j))
+
+inverse-twice : (s : Shape) → 1 ≤ s .arity → (a : Table) → Member s a → inverse s (inverse s a) ≡ a
+inverse-twice s n a A = inv-unique (group-laws s n) (inverse s a) a (inverse-member s n a (A .element)) A (compose-inverse-left s n a A)
+
+pub power-below : (a : Plan) → Kept a → (j : ℕ) → granted (repeated (a .shape) (inverse (a .shape) (a .rows)) j) ≡ granted (repeated (a .shape) (a .rows) j)
+unfolding power
+power-below a A j = ap granted (sym (repeated-inverse s n (a .rows) M j)) ∙ same-test (granted (inverse s t)) (granted t) back (inverse-granted s n t (R .element))
+  where
+    s : Shape
+    s = a .shape
+
+    n : 1 ≤ s .arity
+    n = arity-of-range s (A .in-range)
+
+    M : Member s (a .rows)
+    M = member-of-kept a A
+
+    t : Table
+    t = repeated s (a .rows) j
+
+    R : Member s t
+    R = power-member s n (a .rows) M (pos j)
+
+    back : T (granted (inverse s t)) → T (granted t)
+    back g = subst (λ u. T (granted u)) (inverse-twice s n t R) (inverse-granted s n (inverse s t) (inverse-member s n t (R .element) .element) g)
+
 -- Demand 3, undivided.
 pub demand3 : Demand3
 demand3 =
@@ -227,6 +276,8 @@ demand3 =
       powered-kept = kept-powered;
       associative = associative;
       power-zero = power-zero;
+      power-one = power-one;
+      power-minus-one = power-minus-one;
       identity-left = identity-left;
       identity-right = identity-right;
       inverse-left = inverse-left;

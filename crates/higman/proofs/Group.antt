@@ -1,6 +1,6 @@
 -- The laws of a group, over tables of any size that have bases for columns and are their own normal forms. No limit appears here.
 -- Each law says that two actions do the same to every long word; the lemma of Actions.antt then makes the tables equal.
-use Prim.Native.Nat.{ℕ, suc, _+_, _≤_, zero-le}
+use Prim.Native.Nat.{ℕ, zero, suc, _+_, _≤_, zero-le}
 use mathlib.Core.Path.{_≡_, refl, sym, _∙_, ap, ap₂, subst}
 use mathlib.Core.List.{_++_}
 use mathlib.Core.Option.{some, Option·some-injective}
@@ -8,7 +8,7 @@ use native.Mathlib.Nat.{le-of-eq}
 use Rattle.higman.specs.Words.{Shape, Word}
 use Rattle.higman.specs.Bases.{longest}
 use Rattle.higman.specs.Tables.{Table, BlockMap, froms, swapped, image}
-use Rattle.higman.specs.Normal.{normalForm, normal, keep, andThen, compose, inverse, identity}
+use Rattle.higman.specs.Normal.{normalForm, normal, keep, andThen, times, compose, inverse, identity, repeated}
 use Rattle.higman.proofs.Tests.{IsWord}
 use Rattle.higman.proofs.Actions.{Action, Same, normal-form-unique, image-normal-form, and-then-some, and-then-cases, and-then-action}
 use Rattle.higman.proofs.Elements.{Element, Mutual, element-action, element-swapped, element-mutual, and-then-mutual, normal-form-element}
@@ -115,6 +115,19 @@ module _ (s : Shape) (n : 1 ≤ s .arity) where
   pub identity-acts : (w : Word) → IsWord s w → image (identity s) w ≡ some w
   unfolding nothing
   identity-acts w y = ap (λ t. image t w) identity-is ∙ image-normal-form s (λ u. some u) nothing 0 zero-le w w y refl
+
+  -- repetitions: elements, which act so many times in a row
+  pub repeated-element : (a : Table) → Element s a → (k : ℕ) → Element s (repeated s a k)
+  unfolding repeated
+  repeated-element a A zero = identity-member .element
+  repeated-element a A (suc k) = compose-member (repeated s a k) a (repeated-element a A k) A .element
+
+  pub repeated-acts : (a : Table) → Element s a → (k : ℕ) (w v : Word) → IsWord s w → times k (image a) w ≡ some v → image (repeated s a k) w ≡ some v
+  unfolding repeated
+  repeated-acts a A zero w v y e = identity-acts w y ∙ e
+  repeated-acts a A (suc k) w v y e =
+      let (u, p, q) = and-then-cases (times k (image a)) (image a) w v e in
+      compose-acts (repeated s a k) a (repeated-element a A k) A w v y (and-then-some (image (repeated s a k)) (image a) w u (repeated-acts a A k w u y p) ∙ q)
 
   -- two members with the same action wherever a third map, total on long words, is defined
   pub by-common : (a b : Table) → Member s a → Member s b → (f : BlockMap) (F : Action s f) → ((w v : Word) → IsWord s w → f w ≡ some v → (image a w ≡ some v) × (image b w ≡ some v)) → a ≡ b

@@ -96,7 +96,7 @@ element-of-join s n j E =
       to-proper = column-join s (λ p. p .to) (j .root′) (j .ways′) n refl refl (j .taken) (j .put) (E .to-proper);
     }
 
-element-of-perm : (s : Shape) {t u : Table} → List·Permᴰ t u → Element s t → Element s u
+pub element-of-perm : (s : Shape) {t u : Table} → List·Permᴰ t u → Element s t → Element s u
 element-of-perm s p E =
     record { from-proper = proper-of-perm s (Permᴰ·map (λ r. r .from) p) (E .from-proper); to-proper = proper-of-perm s (Permᴰ·map (λ r. r .to) p) (E .to-proper) }
 

@@ -20,6 +20,7 @@ pub mod Answers
 pub mod Powers
 pub mod Listing
 pub mod Joins
+pub mod Reached
 pub mod Demand3
 pub mod Statements
 pub mod Cases

@@ -70,7 +70,7 @@ module _ {A : Type 0} {E : A → Type 0} {op : A → A → A} {e : A} {inv : A �
       regroup k b q = sym (g .assoc _ _ b (pow-in a h j) (pow-in a h k) q)
 
   -- an element that undoes another is its inverse
-  inv-unique : (a b : A) → E a → E b → op a b ≡ e → inv a ≡ b
+  pub inv-unique : (a b : A) → E a → E b → op a b ≡ e → inv a ≡ b
   inv-unique a b p q r =
       let i = g .inv-in a p in
       sym (g .unit-right (inv a) i) ∙ ap (op (inv a)) (sym r) ∙ sym (g .assoc (inv a) a b i p q) ∙ ap (λ x. op x b) (g .inv-left a p) ∙ g .unit-left b q

@@ -185,7 +185,7 @@ image-in-part n (p ∷ t) h i x =
     go (some u) e = ap (sent (after u x)) e
 
 -- no from-word is empty, so the block itself has no image
-image-of-block : (n : ℕ) (t : Table) → Headed n t → image t [] ≡ none
+pub image-of-block : (n : ℕ) (t : Table) → Headed n t → image t [] ≡ none
 image-of-block n [] h = refl
 image-of-block n (p ∷ t) h = let r = h p (List·Memᴰ·head refl) in rw (r .3, image, after) (image-of-block n t (headed-tail h))
 
@@ -261,7 +261,7 @@ settled-in-part n d t c h i l =
       no-join = λ w b v j. c .no-join (i ∷ w) b v (λ e m. mem-of-in-part i t _ (j e m));
     }
 
-normal-of-whole : (n d : ℕ) (t : Table) (v : Word) → t ≡ whole v → normal n d (image t) ≡ t
+pub normal-of-whole : (n d : ℕ) (t : Table) (v : Word) → t ≡ whole v → normal n d (image t) ≡ t
 normal-of-whole n d t v e = normal-whole n d (image t) v (ap (λ u. image u []) e ∙ ap some (append-nil v)) ∙ sym e
 
 normal-own : (n d : ℕ) (t : Table) → Settled n d t → normal n d (image t) ≡ t
@@ -280,6 +280,20 @@ normal-own n (suc d) t c = go (block-or-parts n t (c .sorted) (c .ways)) (λ i k
         ∙ ap (joined n) (parts-own n n d t h (c .sorted) (λ i l. rest i (settled-in-part n d t c h i l)))
         ∙ joined-no-join n t (c .no-join)
 
+-- the from-words of a proper table start with belts, and below each of these it covers what it covers
+pub heads-of-proper : (s : Shape) (t : Table) → Proper s (froms t) → Headed (s .roots) t
+heads-of-proper s t p q m = starts (q .from) (p .words (q .from) (Memᴰ·map (λ r. r .from) m))
+  where
+    starts : (w : Word) → IsWord s w → (i : ℕ) × (u : Word) × Digit (s .roots) i × (w ≡ i ∷ u)
+    starts [] k = absurd k
+    starts (i ∷ u) k = (i, u, k .0, refl)
+
+pub covers-of-deep : (s : Shape) (t : Table) → Proper s (froms t) → Deep s (suc (longest (froms t))) (froms t) → (a : ℕ) → Digit (s .roots) a → Covers (s .arity) (longest (froms t)) (inPart a t)
+covers-of-deep s t p c a l x k e =
+    let (u, y, m, f) = c (a ∷ x) (l, k) (omega arith) in
+    let (q, i, g) = Memᴰ·of-map (λ q. q .from) t m in
+    covers-in-part (s .roots) t (heads-of-proper s t p) a x q y i (f ∙ ap (λ w. w ++ y) (sym g))
+
 -- a proper table that is reduced and in order is its own normal form
 pub keep-of-reduced : (s : Shape) (t : Table) → 1 ≤ s .arity → Proper s (froms t) → Deep s (suc (longest (froms t))) (froms t)
     → Reduced (s .arity) t → ordered (froms t) ≡ true → keep s t ≡ t
@@ -290,24 +304,14 @@ keep-of-reduced s t h p c r o =
     sorted : Sorted (froms t)
     sorted = sorted-of-test (froms t) o
 
-    starts : (w : Word) → IsWord s w → (i : ℕ) × (u : Word) × Digit (s .roots) i × (w ≡ i ∷ u)
-    starts [] k = absurd k
-    starts (i ∷ u) k = (i, u, k .0, refl)
-
     heads : Headed (s .roots) t
-    heads q m = starts (q .from) (p .words (q .from) (Memᴰ·map (λ r. r .from) m))
-
-    covers : (a : ℕ) → Digit (s .roots) a → Covers (s .arity) (longest (froms t)) (inPart a t)
-    covers a l x k e =
-        let (u, y, m, f) = c (a ∷ x) (l, k) (omega arith) in
-        let (q, i, g) = Memᴰ·of-map (λ q. q .from) t m in
-        covers-in-part (s .roots) t heads a x q y i (f ∙ ap (λ w. w ++ y) (sym g))
+    heads = heads-of-proper s t p
 
     settled : (a : ℕ) → Digit (s .roots) a → Settled (s .arity) (longest (froms t)) (inPart a t)
     settled a l =
         record {
           sorted = sorted-in-part a t sorted;
           ways = λ q m. p .words (a ∷ q .from) (Memᴰ·map (λ r. r .from) (mem-of-in-part a t q m)) .1;
-          covers = covers a l;
+          covers = covers-of-deep s t p c a l;
           no-join = λ w b v j. r a b w v (λ i m. mem-of-in-part a t _ (j i m));
         }

@@ -1,5 +1,5 @@
 -- The statements of specs/Theorems.antt on the normal form, the group's actions and the answers, each as one term.
-use Prim.Native.Nat.{ℕ, _≤_}
+use Prim.Native.Nat.{ℕ, suc, _≤_}
 use mathlib.Core.Path.{_≡_, refl, sym, _∙_, ap, subst}
 use mathlib.Core.Logic.{inl, inr, _↔_}
 use mathlib.Core.Bool.{Bool, true, false, _&&_}
@@ -11,7 +11,7 @@ use lib.ListN.{length, length-append}
 use Rattle.higman.specs.Words.{Shape, Word, isWord}
 use Rattle.higman.specs.Bases.{Basis, Column, all, overlap, gap}
 use Rattle.higman.specs.Tables.{Pair, Table, froms, tos, image, sameTable}
-use Rattle.higman.specs.Normal.{keep, compose, inverse, Reduced, ordered}
+use Rattle.higman.specs.Normal.{keep, compose, inverse, identity, power, Reduced, ordered}
 use Rattle.higman.specs.Limits.{Plan, Bases, Kept, shapeInRange, granted, isCode, maxCode}
 use Rattle.higman.specs.Answers.{Reason, Overlap, Gap, Verdict, Accepted, InFrom, InTo, fault, verdict, accepts, isTableOf, isKept, same, Alike, NotCompared, Comparison, sameShape, Route, Image, TooShort, NotRouted, routed}
 use Rattle.higman.specs.Theorems.{NormalForm, GroupActs, AnswersExact, ActAlike}
@@ -20,12 +20,13 @@ use Rattle.higman.proofs.Proper.{Proper}
 use Rattle.higman.proofs.Images.{row-of-image, image-of-row}
 use Rattle.higman.proofs.Expansions.{same-of-apart}
 use Rattle.higman.proofs.Columns.{Comparable, comparable-of-proper, column-is-basis}
-use Rattle.higman.proofs.Group.{keep-acts, keep-member, compose-acts, compose-member, inverse-acts, inverse-member}
+use Rattle.higman.proofs.Group.{keep-acts, keep-member, compose-acts, compose-member, inverse-acts, inverse-member, identity-acts, identity-member, repeated-acts}
 use Rattle.higman.proofs.Smallest.{keep-granted}
 use Rattle.higman.proofs.KeptPlans.{element-of-bases, bases-of-element, keep-reduced, keep-ordered, own-of-reduced, arity-of-range, member-of-kept, kept-of-member}
 use Rattle.higman.proofs.Joins.{any-joins}
+use Rattle.higman.proofs.Reached.{reached}
 use Rattle.higman.proofs.Answers.{powered-cases, power-refused, same-shape-refl}
-use Rattle.higman.proofs.Demand3.{alike-rows}
+use Rattle.higman.proofs.Demand3.{alike-rows, power-below}
 
 pub normal-form : NormalForm
 normal-form =
@@ -38,16 +39,22 @@ normal-form =
         λ h. own-of-reduced s t n (element-of-bases s t n b) (h .0) (h .1),
         λ e. (subst (Reduced (s .arity)) e (keep-reduced s t n), subst (λ u. ordered (froms u) ≡ true) e (keep-ordered s t)),
       );
+      reached = reached;
       any-joins = any-joins;
     }
 
 pub group-acts : GroupActs
+unfolding power
 group-acts =
     record {
       compose-acts = λ s n a b A B w v y e. compose-acts s n a b (element-of-bases s a n A) (element-of-bases s b n B) w v (word-of-test s w y) e;
       compose-bases = λ s n a b A B. bases-of-element s (compose s a b) n (compose-member s n a b (element-of-bases s a n A) (element-of-bases s b n B) .element);
       inverse-acts = λ s n a A w v y e. inverse-acts s n a (element-of-bases s a n A) w v (word-of-test s w y) e;
       inverse-bases = λ s n a A. bases-of-element s (inverse s a) n (inverse-member s n a (element-of-bases s a n A) .element);
+      identity-acts = λ s n w y. identity-acts s n w (word-of-test s w y);
+      identity-bases = λ s n. bases-of-element s (identity s) n (identity-member s n .element);
+      power-acts = λ s n a A k w v y e. repeated-acts s n a (element-of-bases s a n A) k w v (word-of-test s w y) e;
+      power-acts-below = λ s n a A k w v y e. repeated-acts s n (inverse s a) (inverse-member s n a (element-of-bases s a n A) .element) (suc k) w v (word-of-test s w y) e;
     }
 
 -- a column of words in which nothing is at fault is a column, and the other way round
@@ -249,6 +256,7 @@ answers-exact =
       keeps = keeps;
       kept-test = λ p. (kept-of-test p, test-of-kept p);
       power-refused = power-refused;
+      power-below = power-below;
       power-granted = λ a b k e. powered-cases a b k e .0;
       too-short = too-short;
       alike = alike;

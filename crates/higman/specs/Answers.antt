@@ -79,7 +79,7 @@ unfoldable pub followed : Plan → Plan → Answer
 followed a b =
     elim (sameShape (a .shape) (b .shape)) [ true ↦ grant (a .shape) (compose (a .shape) (a .rows) (b .rows)) | false ↦ Refused ShapesDiffer ]
 
--- I
+-- I: "keeps the inverse"; "I: then 8; 9; 16", and so nothing more to refuse
 unfoldable pub inverted : Plan → Answer
 inverted a = Granted (record { shape = a .shape; rows = inverse (a .shape) (a .rows) })
 
@@ -137,12 +137,16 @@ routed a c =
       | false ↦ NotRouted BadCode
     ]
 
+-- a plan of shape (2,1), for examples
+abbrev plan21 : Table → Plan
+plan21 t = record { shape = record { arity = 2; roots = 1 }; rows = t }
+
 verdict-example : verdict (record { arity = 2; roots = 1 }) (row 11 11 ∷ row 121 121 ∷ row 122 1221 ∷ []) ≡ InTo Gap
 unfolding verdict
 verdict-example = refl
 
 -- ψ; and the plan that moves nothing on two pairs, which is not reduced
-isKept-example : map isKept (record { shape = record { arity = 2; roots = 1 }; rows = ψ } ∷ record { shape = record { arity = 2; roots = 1 }; rows = row 11 11 ∷ row 12 12 ∷ [] } ∷ []) ≡ true ∷ false ∷ []
+isKept-example : map isKept (plan21 ψ ∷ plan21 (row 11 11 ∷ row 12 12 ∷ []) ∷ []) ≡ true ∷ false ∷ []
 unfolding isKept shapeInRange granted maxPairs maxDigits verdict keep normalForm normal joined
 isKept-example = refl
 
@@ -151,15 +155,25 @@ verdict-order-example : verdict (record { arity = 2; roots = 2 }) (row 11 1 ∷ 
 unfolding verdict
 verdict-order-example = refl
 
-routed-example : map (routed (record { shape = record { arity = 2; roots = 1 }; rows = ψ })) (spell 1122 ∷ spell 11 ∷ spell 13 ∷ []) ≡ Image (spell 1212) ∷ TooShort ∷ NotRouted BadCode ∷ []
+routed-example : map (routed (plan21 ψ)) (spell 1122 ∷ spell 11 ∷ spell 13 ∷ []) ≡ Image (spell 1212) ∷ TooShort ∷ NotRouted BadCode ∷ []
 unfolding routed isCode maxCode
 routed-example = refl
 
--- "k = 1000 passes the check of k, 1001 is 12"
-powered-example : map (powered (record { shape = record { arity = 2; roots = 1 }; rows = φ })) (negsuc 0 ∷ pos 1001 ∷ []) ≡ inverted (record { shape = record { arity = 2; roots = 1 }; rows = φ }) ∷ Refused PowerOutside ∷ []
+-- "k = 1000 passes the check of k, 1001 is 12"; φ to the fourth moves nothing, and so does φ to the 1000th
+powered-example : map (powered (plan21 φ)) (negsuc 0 ∷ pos 1000 ∷ pos 1001 ∷ negsuc 1000 ∷ []) ≡ inverted (plan21 φ) ∷ Granted (plan21 (row 1 1 ∷ [])) ∷ Refused PowerOutside ∷ Refused PowerOutside ∷ []
 unfolding powered raised inverted granted maxPairs maxDigits maxPower compose inverse keep identity normalForm normal joined
 powered-example = refl
 
-same-example : same (record { shape = record { arity = 2; roots = 1 }; rows = φ }) (record { shape = record { arity = 2; roots = 1 }; rows = ψ }) ≡ Alike false
-unfolding same
+-- "ψ .. to the 15th is 11", and to the −15th
+limit-example : map (powered (plan21 ψ)) (pos 15 ∷ negsuc 14 ∷ []) ≡ Refused LimitBroken ∷ Refused LimitBroken ∷ []
+unfolding powered raised granted maxPairs maxDigits maxPower compose inverse keep identity normalForm normal joined
+limit-example = refl
+
+-- φ then ψ, ψ then ψ, and a plan of another shape
+followed-example : map (λ p. followed p (plan21 ψ)) (plan21 φ ∷ plan21 ψ ∷ identityPlan (record { arity = 3; roots = 1 }) ∷ []) ≡ Granted (plan21 (row 111 1222 ∷ row 112 1221 ∷ row 121 11 ∷ row 122 121 ∷ [])) ∷ Granted (plan21 (row 1111 11 ∷ row 1112 121 ∷ row 112 1221 ∷ row 12 1222 ∷ [])) ∷ Refused ShapesDiffer ∷ []
+unfolding followed identityPlan granted maxPairs maxDigits compose normalForm normal joined
+followed-example = refl
+
+same-example : map (same (plan21 φ)) (plan21 φ ∷ plan21 ψ ∷ identityPlan (record { arity = 3; roots = 1 }) ∷ []) ≡ Alike true ∷ Alike false ∷ NotCompared ShapesDiffer ∷ []
+unfolding same identityPlan
 same-example = refl

@@ -79,5 +79,9 @@ covered-example = refl
 gap-example : gap (record { arity = 2; roots = 1 }) (spell 11 ∷ spell 121 ∷ spell 1221 ∷ []) ≡ true
 gap-example = refl
 
+-- the same column without the gap
+no-gap-example : gap (record { arity = 2; roots = 1 }) (spell 11 ∷ spell 121 ∷ spell 122 ∷ []) ≡ false
+no-gap-example = refl
+
 overlap-example : map overlap ((spell 1 ∷ spell 11 ∷ []) ∷ (spell 11 ∷ spell 11 ∷ []) ∷ (spell 12 ∷ spell 11 ∷ []) ∷ []) ≡ true ∷ true ∷ false ∷ []
 overlap-example = refl

@@ -36,11 +36,11 @@ pub data Case : Type 0 where
   _gives_ : Question → Reply → Case
 
 -- "Shape (2,1)."
-abbrev pub hall : Shape
-hall = record { arity = 2; roots = 1 }
+abbrev pub shape21 : Shape
+shape21 = record { arity = 2; roots = 1 }
 
 abbrev pub kept : Table → Reply
-kept t = keeps (record { shape = hall; rows = t })
+kept t = keeps (record { shape = shape21; rows = t })
 
 abbrev pub answered : Answer → Reply
 answered (Granted p) = keeps p
@@ -67,7 +67,7 @@ onKept (refuses n) call = refuses n
 onKept (refusesColumn n c) call = refusesColumn n c
 
 abbrev pub replyTo : Question → Reply
-replyTo (typed t) = closed hall t
+replyTo (typed t) = closed shape21 t
 replyTo (inTurn a b) = onKept (replyTo a) (λ p. onKept (replyTo b) (λ q. answered (followed p q)))
 replyTo (inverseOf a) = onKept (replyTo a) (λ p. answered (inverted p))
 replyTo (powerOf a k) = onKept (replyTo a) (λ p. answered (powered p k))

@@ -5,10 +5,10 @@ use mathlib.Core.Path.{_≡_, refl}
 use mathlib.Core.Bool.{Bool, true, false, _&&_}
 use mathlib.Core.List.{[], _∷_, map}
 use lib.Dec.{T, leb}
-use lib.ListN.{length}
+use lib.ListN.{length, replicate}
 use Rattle.higman.specs.Words.{Shape, Word, isWord}
 use Rattle.higman.specs.Bases.{Basis, all}
-use Rattle.higman.specs.Tables.{Pair, Table, froms, tos, ψ}
+use Rattle.higman.specs.Tables.{Pair, Table, froms, tos, row, ψ}
 use Rattle.higman.specs.Normal.{Reduced, ordered}
 
 -- "n ways at every switch, 2 to 9, and r belts, 1 to 9"
@@ -63,9 +63,19 @@ pub record Kept (p : Plan) : Type 0 where
   pub reduced : Reduced (p .shape .arity) (p .rows)
   pub in-order : ordered (froms (p .rows)) ≡ true
 
-granted-example : granted ψ ≡ true
+-- a table of one pair, whose from-word has so many digits
+abbrev digitsOf : ℕ → Table
+digitsOf k = record { from = replicate k 1; to = replicate 1 1 } ∷ []
+
+-- ψ; a word of 16 digits and one of 17; 128 pairs and 129
+granted-example : map granted (ψ ∷ digitsOf 16 ∷ digitsOf 17 ∷ replicate 128 (row 1 1) ∷ replicate 129 (row 1 1) ∷ []) ≡ true ∷ true ∷ false ∷ true ∷ false ∷ []
 unfolding granted maxPairs maxDigits
 granted-example = refl
+
+-- a code of 1,024 digits and one of 1,025
+isCode-example : map (isCode (record { arity = 2; roots = 1 })) (replicate 1024 1 ∷ replicate 1025 1 ∷ []) ≡ true ∷ false ∷ []
+unfolding isCode maxCode
+isCode-example = refl
 
 shapeInRange-example : map shapeInRange (record { arity = 2; roots = 1 } ∷ record { arity = 1; roots = 1 } ∷ record { arity = 9; roots = 0 } ∷ []) ≡ true ∷ false ∷ false ∷ []
 unfolding shapeInRange

@@ -64,10 +64,16 @@ keep s t = normalForm s (longest (froms t)) (image t)
 abbrev pub andThen : BlockMap → BlockMap → BlockMap
 andThen f g w = elim (f w) [ none ↦ none | some v ↦ g v ]
 
+-- a map some times in a row
+abbrev pub times : ℕ → BlockMap → BlockMap
+times zero f w = some w
+times (suc k) f w = andThen (times k f) f w
+
 -- "*a then b* applies a first"
 unfoldable pub compose : Shape → Table → Table → Table
 compose s a b = normalForm s (longest (froms a) + longest (froms b)) (andThen (image a) (image b))
 
+-- "I⇥a⇥c keeps the inverse": the columns change places, and what comes of it is reduced and ordered
 unfoldable pub inverse : Shape → Table → Table
 inverse s a = keep s (swapped a)
 
@@ -138,6 +144,28 @@ inverse-example = refl
 power-example : power shape21 ψ (pos 2) ≡ row 1111 11 ∷ row 1112 121 ∷ row 112 1221 ∷ row 12 1222 ∷ []
 unfolding power repeated identity compose normalForm normal joined
 power-example = refl
+
+-- "below zero, the power −k of the inverse": ψ to the −2, the pairs above with their columns swapped
+power-below-example : power shape21 ψ (negsuc 1) ≡ row 11 1111 ∷ row 121 1112 ∷ row 1221 112 ∷ row 1222 12 ∷ []
+unfolding power repeated identity compose inverse keep normalForm normal joined
+power-below-example = refl
+
+identity-example : identity (record { arity = 2; roots = 3 }) ≡ row 1 1 ∷ row 2 2 ∷ row 3 3 ∷ []
+unfolding identity
+identity-example = refl
+
+-- two parts with images in the same order join; with images in another order, or with no word above the images, they do not
+joined-example : map (joined 2) ((row 1 121 ∷ row 2 122 ∷ []) ∷ (row 1 122 ∷ row 2 121 ∷ []) ∷ (row 1 1 ∷ row 2 2 ∷ []) ∷ []) ≡ whole (spell 12) ∷ (row 1 122 ∷ row 2 121 ∷ []) ∷ (row 1 1 ∷ row 2 2 ∷ []) ∷ []
+unfolding joined
+joined-example = refl
+
+-- belts are not joined
+belts-example : keep (record { arity = 2; roots = 2 }) (row 1 1 ∷ row 2 2 ∷ []) ≡ row 1 1 ∷ row 2 2 ∷ []
+unfolding keep normalForm normal joined
+belts-example = refl
+
+times-example : times 2 (image ψ) (spell 112) ≡ some (spell 1221)
+times-example = refl
 
 ordered-example : map ordered ((spell 111 ∷ spell 112 ∷ spell 12 ∷ []) ∷ (spell 12 ∷ spell 11 ∷ []) ∷ []) ≡ true ∷ false ∷ []
 ordered-example = refl

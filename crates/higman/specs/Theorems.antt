@@ -1,6 +1,6 @@
 -- The statements. proofs/ has one term of each: ColumnIsBasis and BasisSize (what "accepted exactly when both columns are bases"
 -- rests on), NormalForm, GroupActs, AnswersExact, Demand3 and ListingFaithful. They hold for every arity and number of roots.
-use Prim.Native.Nat.{ℕ, _+_, _*_, _-_, _≤_}
+use Prim.Native.Nat.{ℕ, suc, _+_, _*_, _-_, _≤_}
 use mathlib.Core.Path.{_≡_}
 use mathlib.Core.Logic.{_↔_}
 use mathlib.Core.Bool.{true, false}
@@ -8,11 +8,11 @@ use mathlib.Core.List.{List, _∷_, _++_, List·Memᴰ}
 use mathlib.Core.Option.{some}
 use lib.Dec.{T, leb}
 use lib.ListN.{length}
-use lib.IntN.{ℤ, pos, natAbs, _+ℤ_, _*ℤ_}
+use lib.IntN.{ℤ, pos, negsuc, natAbs, _+ℤ_, _*ℤ_}
 use Rattle.higman.specs.Words.{Shape, Word, isWord}
 use Rattle.higman.specs.Bases.{Basis, Column, all}
 use Rattle.higman.specs.Tables.{Pair, Table, froms, tos, image, longEnough}
-use Rattle.higman.specs.Normal.{keep, andThen, compose, inverse, repeated, power, Reduced, ordered, Joins}
+use Rattle.higman.specs.Normal.{keep, andThen, times, compose, inverse, identity, repeated, power, Reduced, ordered, Joins}
 use Rattle.higman.specs.Limits.{Plan, Bases, Kept, shapeInRange, granted, isCode, maxPower}
 use Rattle.higman.specs.Answers.{verdict, Accepted, isKept, Granted, Refused, LimitBroken, followed, inverted, powered, repeatable, identityPlan, same, Alike, routed, TooShort}
 use Rattle.higman.specs.Listing.{pairRecords, joinLines, listing}
@@ -34,15 +34,23 @@ pub record NormalForm : Type 0 where
   pub in-order : (s : Shape) → 1 ≤ s .arity → (t : Table) → Bases s t → ordered (froms (keep s t)) ≡ true
   -- a table with bases for columns is reduced and ordered exactly when it is its own normal form
   pub own : (s : Shape) → 1 ≤ s .arity → (t : Table) → Bases s t → (Reduced (s .arity) t × (ordered (froms t) ≡ true)) ↔ (keep s t ≡ t)
+  -- it is reached from the table by joins, and the pairs listed in order
+  pub reached : (s : Shape) → 1 ≤ s .arity → (t : Table) → Bases s t → Joins (s .arity) t (keep s t)
   -- Lemma 4.3: "it doesn't depend on which join came first"
   pub any-joins : (s : Shape) → 1 ≤ s .arity → (t u : Table) → Bases s t → Joins (s .arity) t u → Reduced (s .arity) u → ordered (froms u) ≡ true → u ≡ keep s t
 
--- Compositions and inverses act as those of the group G(n,r), on blocks and so on codes of any length, and have bases for columns.
+-- Compositions, inverses and powers act as those of the group G(n,r), on blocks and so on codes of any length, and have bases for
+-- columns.
 pub record GroupActs : Type 0 where
   pub compose-acts : (s : Shape) → 1 ≤ s .arity → (a b : Table) → Bases s a → Bases s b → (w v : Word) → T (isWord s w) → andThen (image a) (image b) w ≡ some v → image (compose s a b) w ≡ some v
   pub compose-bases : (s : Shape) → 1 ≤ s .arity → (a b : Table) → Bases s a → Bases s b → Bases s (compose s a b)
   pub inverse-acts : (s : Shape) → 1 ≤ s .arity → (a : Table) → Bases s a → (w v : Word) → T (isWord s w) → image a w ≡ some v → image (inverse s a) v ≡ some w
   pub inverse-bases : (s : Shape) → 1 ≤ s .arity → (a : Table) → Bases s a → Bases s (inverse s a)
+  pub identity-acts : (s : Shape) → 1 ≤ s .arity → (w : Word) → T (isWord s w) → image (identity s) w ≡ some w
+  pub identity-bases : (s : Shape) → 1 ≤ s .arity → Bases s (identity s)
+  -- "for k above zero, k times in a row; .. below zero, the power −k of the inverse" (negsuc k is −(k + 1))
+  pub power-acts : (s : Shape) → 1 ≤ s .arity → (a : Table) → Bases s a → (k : ℕ) (w v : Word) → T (isWord s w) → times k (image a) w ≡ some v → image (power s a (pos k)) w ≡ some v
+  pub power-acts-below : (s : Shape) → 1 ≤ s .arity → (a : Table) → Bases s a → (k : ℕ) (w v : Word) → T (isWord s w) → times (suc k) (image (inverse s a)) w ≡ some v → image (power s a (negsuc k)) w ≡ some v
 
 -- "Two plans send it to the same place if its two images agree in length and in every digit": every code that is long enough for both,
 -- whatever its length.
@@ -58,6 +66,8 @@ pub record AnswersExact : Type 0 where
   pub kept-test : (p : Plan) → T (isKept p) ↔ Kept p
   -- 11 of a power: "some reduced power from 1 up to the size of k breaks a limit"
   pub power-refused : (a : Plan) (k : ℤ) → (powered a k ≡ Refused LimitBroken) ↔ (T (leb (natAbs k) maxPower) × ((j : ℕ) × (1 ≤ j) × (j ≤ natAbs k) × (granted (repeated (a .shape) (repeatable a k) j) ≡ false)))
+  -- below zero: power −j is the inverse of power j, so it breaks a limit exactly where power j does
+  pub power-below : (a : Plan) → Kept a → (j : ℕ) → granted (repeated (a .shape) (inverse (a .shape) (a .rows)) j) ≡ granted (repeated (a .shape) (a .rows) j)
   -- where a power is granted, it is the power
   pub power-granted : (a b : Plan) (k : ℤ) → powered a k ≡ Granted b → b ≡ record { shape = a .shape; rows = power (a .shape) (a .rows) k }
   -- 13: "the code is a proper beginning of a from-word"
@@ -77,6 +87,9 @@ pub record Demand3 : Type 0 where
   pub power-zero : (a : Plan) → Kept a → powered a (pos 0) ≡ Granted (identityPlan (a .shape))
   pub identity-left : (a : Plan) → Kept a → followed (identityPlan (a .shape)) a ≡ Granted a
   pub identity-right : (a : Plan) → Kept a → followed a (identityPlan (a .shape)) ≡ Granted a
+  -- power 1 is the plan itself, and power −1 its inverse
+  pub power-one : (a : Plan) → Kept a → powered a (pos 1) ≡ Granted a
+  pub power-minus-one : (a : Plan) → Kept a → powered a (negsuc 0) ≡ inverted a
   -- the inverse, on both sides
   pub inverse-left : (a b : Plan) → Kept a → inverted a ≡ Granted b → followed b a ≡ Granted (identityPlan (a .shape))
   pub inverse-right : (a b : Plan) → Kept a → inverted a ≡ Granted b → followed a b ≡ Granted (identityPlan (a .shape))

@@ -73,7 +73,7 @@ spell-example = refl
 isWord-example : isWord (record { arity = 2; roots = 1 }) (spell 1121) ≡ true
 isWord-example = refl
 
--- a second belt in a hall of one, a third way at a switch of two, and no digit at all
+-- a second belt in a shape of one, a third way at a switch of two, and no digit at all
 not-isWord-example : map (isWord (record { arity = 2; roots = 1 })) (spell 21 ∷ spell 13 ∷ [] ∷ []) ≡ false ∷ false ∷ false ∷ []
 not-isWord-example = refl
 

@@ -1,0 +1,126 @@
+-- What P, M, C, L, T and U do when they are not refused, which records change slots and count, and what a change is.
+use Prim.Native.Nat.{ℕ, zero, suc, _+_, _<_}
+use native.Mathlib.Omega.{arith}
+use mathlib.Core.Path.{_≡_, refl, sym, ap, subst}
+use mathlib.Core.Bool.{Bool, true, false}
+use mathlib.Core.List.{List, [], _∷_}
+use mathlib.Core.Option.{Option, none, some}
+use lib.ListN.{length, getD, set}
+use Rattle.higman.specs.Words.{given}
+use Rattle.higman.specs.Limits.{Plan}
+use Rattle.higman.proofs.Tests.{clash}
+use Rattle.desk.specs.Text.{Bytes}
+use Rattle.desk.specs.Limits.{slotCount}
+use Rattle.desk.specs.Desk.{Draft, Desk, held, changed, withDraft, withPair, dropped}
+use Rattle.desk.specs.Records.{Record, P, M, E, F, I, K, S, W, L, C, T, U}
+use Rattle.desk.specs.Replies.{Outcome, pass, _when_, Effect, silent, ok, okNumber, lists, surveys, isOpen, heldFrom, slotNumber, wordOf, newDraft, operation}
+use Rattle.desk.specs.Demands.{isChange, RepliesExact, DeskParts}
+use Rattle.desk.proofs.Outcomes.{Passes, stops, passes, passes-then, any-then, passed, test-failed, plan-held, plan-open}
+
+-- no plan is open where the test says so
+not-open : (d : Desk) → isOpen d ≡ false → d .draft ≡ none
+not-open d e = go (d .draft) e
+  where
+    go : (x : Option Draft) → given x ≡ false → x ≡ none
+    go none h = refl
+    go (some o) h = absurd (clash refl h)
+
+abbrev Opens : Desk → ℕ → ℕ → ℕ → Effect → Type 0
+Opens d a n r e = (d .draft ≡ none) × (e ≡ (withDraft d (newDraft a (record { arity = n; roots = r })), silent))
+
+open-steps : (d : Desk) (a n r : ℕ) → Passes (Opens d a n r) (operation d (P a n r))
+unfolding operation
+open-steps d a n r = passes-then (test-failed 2 (isOpen d)) (λ _ x. any-then _ (λ _. any-then _ (λ _. passes (not-open d x, refl))))
+
+abbrev Adds : Desk → Bytes → Bytes → Effect → Type 0
+Adds d from to e = (o : Draft) × (d .draft ≡ some o) × (e ≡ (withDraft d (withPair o (record { from = wordOf from; to = wordOf to })), silent))
+
+add-steps : (d : Desk) (from to : Bytes) → Passes (Adds d from to) (operation d (M from to))
+unfolding operation
+add-steps d from to = passes-then (plan-open d) (λ o x. any-then _ (λ _. any-then _ (λ _. passes (o, x, refl))))
+
+abbrev Empties : Desk → ℕ → Effect → Type 0
+Empties d a e = (p : Plan) × (held d (slotNumber a) ≡ some p) × (e ≡ (changed d (slotNumber a) none, ok))
+
+empty-steps : (d : Desk) (a : ℕ) → Passes (Empties d a) (operation d (C a))
+unfolding operation
+empty-steps d a = any-then _ (λ _. any-then _ (λ _. passes-then (plan-held d a) (λ p x. any-then _ (λ _. passes (p, x, refl)))))
+
+abbrev Shows : Desk → ℕ → Effect → Type 0
+Shows d a e = (p : Plan) × (held d (slotNumber a) ≡ some p) × (e ≡ (d, lists a p))
+
+show-steps : (d : Desk) (a : ℕ) → Passes (Shows d a) (operation d (L a))
+unfolding operation
+show-steps d a = any-then _ (λ _. any-then _ (λ _. passes-then (plan-held d a) (λ p x. passes (p, x, refl))))
+
+count-steps : (d : Desk) → Passes (λ e. e ≡ (d, okNumber (d .changes))) (operation d T)
+unfolding operation
+count-steps d = any-then _ (λ _. passes refl)
+
+find-steps : (d : Desk) → Passes (λ e. e ≡ (d, surveys (heldFrom 0 (d .slots)))) (operation d U)
+unfolding operation
+find-steps d = any-then _ (λ _. passes refl)
+
+-- slots and count: as they were, or the count one higher
+abbrev Unchanged : Desk → Effect → Type 0
+Unchanged d e = (e .0 .slots ≡ d .slots) × (e .0 .changes ≡ d .changes)
+
+abbrev Raised : Desk → Effect → Type 0
+Raised d e = e .0 .changes ≡ d .changes + 1
+
+abbrev Counts : Bool → Desk → Effect → Type 0
+Counts true d e = Raised d e
+Counts false d e = Unchanged d e
+
+count-of : (d : Desk) (r : Record) → Passes (Counts (isChange r) d) (operation d r)
+unfolding operation isChange changed withDraft
+count-of d (P a n r) = any-then _ (λ _. any-then _ (λ _. any-then _ (λ _. passes (refl, refl))))
+count-of d (M from to) = any-then _ (λ _. any-then _ (λ _. any-then _ (λ _. passes (refl, refl))))
+count-of d E = any-then _ (λ _. any-then _ (λ _. any-then _ (λ _. passes refl)))
+count-of d (F a b c) = any-then _ (λ _. any-then _ (λ _. any-then _ (λ _. any-then _ (λ _. any-then _ (λ _. any-then _ (λ _. passes refl))))))
+count-of d (I a c) = any-then _ (λ _. any-then _ (λ _. any-then _ (λ _. any-then _ (λ _. any-then _ (λ _. passes refl)))))
+count-of d (K a k c) = any-then _ (λ _. any-then _ (λ _. any-then _ (λ _. any-then _ (λ _. any-then _ (λ _. any-then _ (λ _. passes refl))))))
+count-of d (S a b) = any-then _ (λ _. any-then _ (λ _. any-then _ (λ _. any-then _ (λ _. any-then _ (λ _. passes (refl, refl))))))
+count-of d (W a code) = any-then _ (λ _. any-then _ (λ _. any-then _ (λ _. any-then _ (λ _. passes (refl, refl)))))
+count-of d (L a) = any-then _ (λ _. any-then _ (λ _. any-then _ (λ _. passes (refl, refl))))
+count-of d (C a) = any-then _ (λ _. any-then _ (λ _. any-then _ (λ _. any-then _ (λ _. passes refl))))
+count-of d T = any-then _ (λ _. passes (refl, refl))
+count-of d U = any-then _ (λ _. passes (refl, refl))
+
+pub replies-exact : RepliesExact
+replies-exact =
+    record {
+      opens = λ d a n r e h. passed (open-steps d a n r) e h;
+      adds = λ d from to e h. passed (add-steps d from to) e h;
+      empties = λ d a e h. passed (empty-steps d a) e h;
+      lists = λ d a e h. passed (show-steps d a) e h;
+      counts = λ d e h. passed (count-steps d) e h;
+      surveys = λ d e h. passed (find-steps d) e h;
+      only-changes = λ d r e b h. subst (λ x. Counts x d e) b (passed (count-of d r) e h);
+      raises = λ d r e b h. subst (λ x. Counts x d e) b (passed (count-of d r) e h);
+    }
+
+-- a list with one place written
+set-here : (l : List (Option Plan)) (i : ℕ) (x : Option Plan) → i < length l → getD (set l i x) i none ≡ x
+set-here [] i x h = absurd (omega arith)
+set-here (y ∷ l) zero x h = refl
+set-here (y ∷ l) (suc i) x h = set-here l i x (omega arith)
+
+set-elsewhere : (l : List (Option Plan)) (i j : ℕ) (x : Option Plan) → (i ≡ j → ⊥) → getD (set l i x) j none ≡ getD l j none
+set-elsewhere [] i j x h = refl
+set-elsewhere (y ∷ l) zero zero x h = absurd (h refl)
+set-elsewhere (y ∷ l) zero (suc j) x h = refl
+set-elsewhere (y ∷ l) (suc i) zero x h = refl
+set-elsewhere (y ∷ l) (suc i) (suc j) x h = set-elsewhere l i j x (λ e. h (ap suc e))
+
+pub desk-parts : DeskParts
+unfolding changed withDraft dropped
+desk-parts =
+    record {
+      changed-here = λ d i x e h. set-here (d .slots) i x (subst (λ n. i < n) (sym e) h);
+      changed-elsewhere = λ d i j x h. set-elsewhere (d .slots) i j x h;
+      changed-count = λ d i x. refl;
+      changed-open = λ d i x. refl;
+      drafted = λ d o. (refl, refl, refl);
+      dropped-parts = λ d. (refl, refl, refl);
+    }
