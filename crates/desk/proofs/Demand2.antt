@@ -4,6 +4,7 @@ use Prim.Native.Nat.{ℕ, _<_}
 use mathlib.Core.Path.{_≡_, refl, sym, _∙_, ap, subst}
 use mathlib.Core.Logic.{_⊎_, inl, inr, _↔_}
 use mathlib.Core.Bool.{Bool, true, false}
+use mathlib.Core.List.{List, [], _∷_, List·Memᴰ, List·Memᴰ·head, List·Memᴰ·tail}
 use mathlib.Core.Option.{Option, none, some, Option·some-injective, Option·none-ne-some}
 use native.Mathlib.Omega.{arith}
 use lib.Dec.{T}
@@ -15,19 +16,21 @@ use Rattle.higman.specs.Normal.{andThen, power}
 use Rattle.higman.specs.Limits.{Plan, Bases, Kept, isCode}
 use Rattle.higman.specs.Answers.{Verdict, Accepted, InFrom, InTo, verdict, Answer, Granted, Refused, followed, inverted, powered, Comparison, Alike, NotCompared, same, sameShape, Route, Image, TooShort, NotRouted, BadCode, ShapesDiffer, routed}
 use Rattle.higman.specs.Theorems.{ActAlike}
-use Rattle.higman.proofs.Tests.{T-of}
+use Rattle.higman.specs.Bases.{all}
+use Rattle.higman.proofs.Tests.{T-of, all-at}
 use Rattle.higman.proofs.KeptPlans.{arity-of-range}
 use Rattle.higman.proofs.Answers.{followed-cases, inverted-cases, shape-path}
 use Rattle.higman.proofs.Demand3.{demand3}
 use Rattle.higman.proofs.Statements.{normal-form, group-acts, answers-exact}
 use Rattle.desk.specs.Text.{Bytes}
-use Rattle.desk.specs.Limits.{maxChanges}
+use Rattle.desk.specs.Limits.{slotCount, maxChanges}
 use Rattle.desk.specs.Desk.{Draft, Desk, held, IsDraft, IsDesk}
 use Rattle.desk.specs.Records.{E, F, I, K, S, W}
-use Rattle.desk.specs.Replies.{Outcome, refuse, pass, _>>=_, _when_, Effect, Reply, silent, ok, okNumber, okWord, lists, surveys, refuses, slotNumber, wordOf, bit, openPlan, planIn, ofVerdict, ofAnswer, ofComparison, ofRoute, atLimit, keepIn, closed, operation}
+use Rattle.desk.specs.Replies.{Outcome, refuse, pass, _>>=_, _when_, Effect, Reply, silent, ok, okNumber, okWord, lists, surveys, refuses, slotNumber, isSlot, wordOf, bit, openPlan, planIn, ofVerdict, ofAnswer, ofComparison, ofRoute, atLimit, keepIn, closed, operation}
 use Rattle.desk.specs.Demands.{KeptAsTyped, KeptIn, Demand2, Demands}
 use Rattle.desk.proofs.ReadBack.{typed-in, listing-read-back}
 use Rattle.desk.proofs.Outcomes.{Passes, stops, passes, passes-then, any-then, passed, test-failed, plan-held, plan-open}
+use Rattle.desk.proofs.Stays.{test-held, slot-below}
 use Rattle.desk.proofs.Replies.{replies-exact, desk-parts}
 use Rattle.desk.proofs.Demand1.{demand1}
 
@@ -90,31 +93,41 @@ accepted d o h x = (to, from)
     from : Bases (o .shape) (o .rows) × (d .changes < maxChanges) → (e : Effect) × (operation d E ≡ pass e)
     from (b, l) = (keepIn d (o .slot) (closed o), closing d o x (draft-verdict o (h .drafted o x) .1 b) (lt-leb maxChanges (d .changes) l))
 
+-- what is kept in a slot is there afterwards
+kept-there : (d : Desk) (i : ℕ) (e : Effect) (p : Plan) → IsDesk d → i < slotCount → e ≡ keepIn d i p → held (e .0) i ≡ some p
+kept-there d i e p h l f = subst (λ z. held (z .0) i ≡ some p) (sym f) (desk-parts .changed-here d i (some p) (h .eight) l)
+
+-- a slot that a record names is one of the eight
+named : (bs : List ℕ) (c : ℕ) → List·Memᴰ c bs → T (all isSlot bs) → slotNumber c < slotCount
+named bs c m h = slot-below c (all-at isSlot bs h c m)
+
 typed : (d : Desk) (o : Draft) (e : Effect) → IsDesk d → d .draft ≡ some o → operation d E ≡ pass e → KeptAsTyped d o e
 typed d o e h x p =
     let (o′, y, v, l, q) = passed (closes d) e p in
     let k = h .drafted o x in
     let b = accepted d o h x .0 (e, p) .0 in
+    let f = q ∙ ap (λ z. keepIn d (z .slot) (closed z)) (one-draft d o o′ x y) in
     record {
-      effect = q ∙ ap (λ z. keepIn d (z .slot) (closed z)) (one-draft d o o′ x y);
+      effect = f;
+      there = kept-there d (o .slot) e (closed o) h (k .slot-named) f;
       kept = answers-exact .keeps (o .shape) (k .in-range) (o .rows) b (k .within);
       acts = normal-form .acts (o .shape) (arity-of-range (o .shape) (k .in-range)) (o .rows) b;
     }
 
 -- F
 abbrev Follows : Desk → ℕ → ℕ → ℕ → Effect → Type 0
-Follows d a b c e = (p : Plan) × (q : Plan) × (r : Plan) × (held d (slotNumber a) ≡ some p) × (held d (slotNumber b) ≡ some q) × (followed p q ≡ Granted r) × (e ≡ keepIn d (slotNumber c) r)
+Follows d a b c e = (p : Plan) × (q : Plan) × (r : Plan) × (held d (slotNumber a) ≡ some p) × (held d (slotNumber b) ≡ some q) × (followed p q ≡ Granted r) × (e ≡ keepIn d (slotNumber c) r) × (slotNumber c < slotCount)
 
 follow-steps : (d : Desk) (a b c : ℕ) → Passes (Follows d a b c) (operation d (F a b c))
 unfolding operation
 follow-steps d a b c =
-    any-then _ (λ _. any-then _ (λ _. passes-then (plan-held d a) (λ p x. passes-then (plan-held d b) (λ q y. passes-then (answer-granted (followed p q)) (λ r g. any-then _ (λ _. passes (p, q, r, x, y, g, refl)))))))
+    any-then _ (λ _. passes-then (test-held 8 (all isSlot (a ∷ b ∷ c ∷ []))) (λ _ s. passes-then (plan-held d a) (λ p x. passes-then (plan-held d b) (λ q y. passes-then (answer-granted (followed p q)) (λ r g. any-then _ (λ _. passes (p, q, r, x, y, g, refl, named (a ∷ b ∷ c ∷ []) c (List·Memᴰ·tail (List·Memᴰ·tail (List·Memᴰ·head refl))) s)))))))
 
 follows : (d : Desk) (a b c : ℕ) (e : Effect) → IsDesk d → operation d (F a b c) ≡ pass e
     → (p : Plan) × (q : Plan) × (r : Plan) × (held d (slotNumber a) ≡ some p) × (held d (slotNumber b) ≡ some q) × KeptIn d c e r × (p .shape ≡ q .shape) × (r .shape ≡ p .shape)
     × ((w v : Word) → T (isWord (p .shape) w) → andThen (image (p .rows)) (image (q .rows)) w ≡ some v → image (r .rows) w ≡ some v)
 follows d a b c e h o =
-    let (p, q, r, x, y, g, f) = passed (follow-steps d a b c) e o in
+    let (p, q, r, x, y, g, f, l′) = passed (follow-steps d a b c) e o in
     let P = h .kept (slotNumber a) p x in
     let Q = h .kept (slotNumber b) q y in
     let (s, l, u) = followed-cases p q r g in (
@@ -123,7 +136,7 @@ follows d a b c e h o =
       r,
       x,
       y,
-      record { effect = f; kept = demand3 .followed-kept p q r P Q g },
+      record { effect = f; there = kept-there d (slotNumber c) e r h l′ f; kept = demand3 .followed-kept p q r P Q g },
       s,
       ap (λ z. z .shape) u,
       λ w v i j.
@@ -133,23 +146,23 @@ follows d a b c e h o =
 
 -- I
 abbrev Inverts : Desk → ℕ → ℕ → Effect → Type 0
-Inverts d a c e = (p : Plan) × (r : Plan) × (held d (slotNumber a) ≡ some p) × (inverted p ≡ Granted r) × (e ≡ keepIn d (slotNumber c) r)
+Inverts d a c e = (p : Plan) × (r : Plan) × (held d (slotNumber a) ≡ some p) × (inverted p ≡ Granted r) × (e ≡ keepIn d (slotNumber c) r) × (slotNumber c < slotCount)
 
 invert-steps : (d : Desk) (a c : ℕ) → Passes (Inverts d a c) (operation d (I a c))
 unfolding operation
 invert-steps d a c =
-    any-then _ (λ _. any-then _ (λ _. passes-then (plan-held d a) (λ p x. passes-then (answer-granted (inverted p)) (λ r g. any-then _ (λ _. passes (p, r, x, g, refl))))))
+    any-then _ (λ _. passes-then (test-held 8 (all isSlot (a ∷ c ∷ []))) (λ _ s. passes-then (plan-held d a) (λ p x. passes-then (answer-granted (inverted p)) (λ r g. any-then _ (λ _. passes (p, r, x, g, refl, named (a ∷ c ∷ []) c (List·Memᴰ·tail (List·Memᴰ·head refl)) s))))))
 
 inverts : (d : Desk) (a c : ℕ) (e : Effect) → IsDesk d → operation d (I a c) ≡ pass e
     → (p : Plan) × (r : Plan) × (held d (slotNumber a) ≡ some p) × KeptIn d c e r × (r .shape ≡ p .shape)
     × ((w v : Word) → T (isWord (p .shape) w) → image (p .rows) w ≡ some v → image (r .rows) v ≡ some w)
 inverts d a c e h o =
-    let (p, r, x, g, f) = passed (invert-steps d a c) e o in
+    let (p, r, x, g, f, l) = passed (invert-steps d a c) e o in
     let P = h .kept (slotNumber a) p x in (
       p,
       r,
       x,
-      record { effect = f; kept = demand3 .inverted-kept p r P g },
+      record { effect = f; there = kept-there d (slotNumber c) e r h l f; kept = demand3 .inverted-kept p r P g },
       ap (λ z. z .shape) (inverted-cases p r g),
       λ w v i j.
           subst (λ z. image (z .rows) v ≡ some w) (sym (inverted-cases p r g))
@@ -158,19 +171,20 @@ inverts d a c e h o =
 
 -- K
 abbrev Repeats : Desk → ℕ → ℤ → ℕ → Effect → Type 0
-Repeats d a k c e = (p : Plan) × (r : Plan) × (held d (slotNumber a) ≡ some p) × (powered p k ≡ Granted r) × (e ≡ keepIn d (slotNumber c) r)
+Repeats d a k c e = (p : Plan) × (r : Plan) × (held d (slotNumber a) ≡ some p) × (powered p k ≡ Granted r) × (e ≡ keepIn d (slotNumber c) r) × (slotNumber c < slotCount)
 
 repeat-steps : (d : Desk) (a c : ℕ) (k : ℤ) → Passes (Repeats d a k c) (operation d (K a k c))
 unfolding operation
 repeat-steps d a c k =
-    any-then _ (λ _. any-then _ (λ _. any-then _ (λ _. passes-then (plan-held d a) (λ p x. passes-then (answer-granted (powered p k)) (λ r g. any-then _ (λ _. passes (p, r, x, g, refl)))))))
+    any-then _ (λ _. passes-then (test-held 8 (all isSlot (a ∷ c ∷ []))) (λ _ s. any-then _ (λ _. passes-then (plan-held d a) (λ p x. passes-then (answer-granted (powered p k)) (λ r g. any-then _ (λ _. passes (p, r, x, g, refl, named (a ∷ c ∷ []) c (List·Memᴰ·tail (List·Memᴰ·head refl)) s)))))))
 
 repeats : (d : Desk) (a c : ℕ) (k : ℤ) (e : Effect) → IsDesk d → operation d (K a k c) ≡ pass e
     → (p : Plan) × (held d (slotNumber a) ≡ some p) × KeptIn d c e (record { shape = p .shape; rows = power (p .shape) (p .rows) k })
 repeats d a c k e h o =
-    let (p, r, x, g, f) = passed (repeat-steps d a c k) e o in
+    let (p, r, x, g, f, l) = passed (repeat-steps d a c k) e o in
     let u = answers-exact .power-granted p r k g in
-    (p, x, record { effect = f ∙ ap (keepIn d (slotNumber c)) u; kept = subst Kept u (demand3 .powered-kept p r k (h .kept (slotNumber a) p x) g) })
+    let f′ = f ∙ ap (keepIn d (slotNumber c)) u in
+    (p, x, record { effect = f′; there = kept-there d (slotNumber c) e _ h l f′; kept = subst Kept u (demand3 .powered-kept p r k (h .kept (slotNumber a) p x) g) })
 
 -- W
 abbrev Routes : Desk → ℕ → Bytes → Effect → Type 0

@@ -78,7 +78,7 @@ test-failed : (n : ℕ) (t : Bool) → Passes (λ _. t ≡ false) (n when t)
 test-failed n true = stops
 test-failed n false = passes refl
 
-test-held : (n : ℕ) (t : Bool) → Passes (λ _. T t) (n when not t)
+pub test-held : (n : ℕ) (t : Bool) → Passes (λ _. T t) (n when not t)
 test-held n true = passes tt
 test-held n false = stops
 
@@ -105,7 +105,7 @@ accepted Accepted = passes refl
 accepted (InFrom r) = stops
 accepted (InTo r) = stops
 
-slot-below : (a : ℕ) → T (isSlot a) → slotNumber a < slotCount
+pub slot-below : (a : ℕ) → T (isSlot a) → slotNumber a < slotCount
 slot-below a h =
     let low : byte "A" ≤ a = leb→le (byte "A") a (and-left (leb (byte "A") a) (leb (suc a) (slotByte slotCount)) h) in
     let high : suc a ≤ slotByte slotCount = leb→le (suc a) (slotByte slotCount) (and-right (leb (byte "A") a) (leb (suc a) (slotByte slotCount)) h) in

@@ -20,7 +20,7 @@ use Rattle.desk.specs.Text.{Bytes}
 use Rattle.desk.specs.Limits.{slotCount, maxChanges}
 use Rattle.desk.specs.Desk.{Draft, Desk, held, IsDesk, changed, withDraft, withPair, dropped}
 use Rattle.desk.specs.Records.{Record, P, M, E, F, I, K, S, W, L, C, T as Tᴿ, U}
-use Rattle.desk.specs.Replies.{refuse, pass, Effect, silent, ok, okNumber, okWord, lists, surveys, refuses, heldFrom, operation, lineOperation, respondLine, recordOf, keepIn, newDraft, closed, slotNumber, wordOf}
+use Rattle.desk.specs.Replies.{refuse, pass, Effect, silent, ok, okNumber, okWord, lists, surveys, refuses, heldFrom, operation, lineOperation, respondLine, recordOf, newDraft, closed, slotNumber, wordOf}
 use Rattle.desk.specs.Bytes.{Order, replyBytes}
 use Rattle.desk.specs.Conditions.{conditions, firstOf, refusalOf}
 use Rattle.desk.specs.Theorems.{RefusalDrops, DeskStays, TypedIn, ListingReadBack}
@@ -95,13 +95,15 @@ pub record RepliesExact : Type 0 where
 
 -- E: what is kept is what was typed, reduced
 pub record KeptAsTyped (d : Desk) (o : Draft) (e : Effect) : Type 0 where
-  pub effect : e ≡ keepIn d (o .slot) (closed o)
+  pub effect : e ≡ (changed d (o .slot) (some (closed o)), okNumber (length (closed o .rows)))
+  pub there : held (e .0) (o .slot) ≡ some (closed o)
   pub kept : Kept (closed o)
   pub acts : (w v : Word) → T (isWord (o .shape) w) → image (o .rows) w ≡ some v → image (closed o .rows) w ≡ some v
 
 -- F, I and K: the plan that is kept in slot c, from what the slots held before
 pub record KeptIn (d : Desk) (c : ℕ) (e : Effect) (p : Plan) : Type 0 where
-  pub effect : e ≡ keepIn d (slotNumber c) p
+  pub effect : e ≡ (changed d (slotNumber c) (some p), okNumber (length (p .rows)))
+  pub there : held (e .0) (slotNumber c) ≡ some p
   pub kept : Kept p
 
 -- Demand 2: plans accepted exactly when both columns are bases, operations those of G(n,r), a listing read back is the same plan.

@@ -35,7 +35,7 @@ module _ (f : ℕ → Bool) (a n : ℕ) where
   pub all-pass : a ≤ n → f a ≡ true → all f (count a (n + 1 - a)) ≡ all f (count (a + 1) (n + 1 - (a + 1)))
   all-pass h e = ap (all f) (count-step a n h) ∙ rw (e, all) refl
 
-all-same : (f g : ℕ → Bool) → ((i : ℕ) → f i ≡ g i) → (l : List ℕ) → all f l ≡ all g l
+pub all-same : (f g : ℕ → Bool) → ((i : ℕ) → f i ≡ g i) → (l : List ℕ) → all f l ≡ all g l
 all-same f g h [] = refl
 all-same f g h (a ∷ l) = ap₂ (λ t r. elim t as (λ _. Bool) [ true ↦ r | false ↦ false ]) (h a) (all-same f g h l)
 

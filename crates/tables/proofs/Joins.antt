@@ -148,7 +148,8 @@ module _ {f t : List ℕ} {start end w n : ℕ} {front b : Table} (x : Laid f t 
         → rows (start + 1) (set f start w) (set t start v) ≡ front ++ prefixed (unpack w) (joined n b)
     all-parts k r q e =
         let same : b ≡ parts n (unpack v) =
-        prefixed-injective (unpack w) b (parts n (unpack v)) (sym block ∙ same-table (rowsAt start n f t) (prefixed (unpack w) (parts n (unpack v))) (T-of (sym q ∙ not-false r e))) in
+        prefixed-injective (unpack w) b (parts n (unpack v))
+        (sym block ∙ same-table (rowsAt start n f t) (prefixed (unpack w) (parts n (unpack v))) (T-of (sym q ∙ not-false r e))) in
         let one : joined n b ≡ whole (unpack v) =
         ap (joined n) same ∙ joined-parts n (unpack v) (x .some-part) (λ z. k (unpack-injective v 0 (z ∙ sym unpack-zero))) in
         rows-set start f t w v (omega (arith, x .some-part)) (omega (arith, x .some-part))

@@ -1,5 +1,4 @@
--- The order by which columns are sorted: what `inOrder` means, that of two words one may stand before the other, and that it carries
--- on. A sorted column whose words do not begin one another is in the order of document 01, `ordered`.
+-- The order by which columns are sorted is total: of two words one may stand before the other. A sorted column whose words do not begin one another is in the order of document 01, `ordered`.
 use Prim.Native.Nat.{ℕ, _<_}
 use mathlib.Core.Path.{_≡_, refl, sym, _∙_, ap}
 use mathlib.Core.Logic.{_⊎_, inl, inr}
@@ -7,20 +6,15 @@ use mathlib.Core.Bool.{true, false, _||_}
 use mathlib.Core.List.{List, [], _∷_, List·Memᴰ, List·Memᴰ·cases-cons, List·Memᴰ·not-nil}
 use native.Mathlib.Omega.{arith}
 use lib.Dec.{eqb, ltb}
-use borrow.Author.Tests.{ltb-true, ltb-false, eqb-true, eqb-false, lt-ltb, le-ltb, eq-eqb, ne-eqb}
-use Rattle.higman.specs.Words.{Word, after, begins}
+use borrow.Author.Tests.{ltb-true, ltb-false, eqb-true, eqb-false}
+use Rattle.higman.specs.Words.{Word, begins}
 use Rattle.higman.specs.Bases.{all, meets, overlap}
 use Rattle.higman.specs.Normal.{before, ordered}
 use Rattle.higman.proofs.Tests.{passes, so, T-of, clash, and-left, and-right, and-intro, or-cases, or-left-false, or-right-false, all-at, all-of}
 use Rattle.higman.proofs.Prefixes.{tail-of-begins}
 use Rattle.higman.proofs.Proper.{Apart}
 use Rattle.tables.specs.Packed.{inOrder, sorted}
-
--- at the first digit that differs the first word has the smaller one, or it has no digit there
-abbrev pub InOrder : Word → Word → Type 0
-InOrder [] v = Unit {0}
-InOrder (a ∷ u) [] = ⊥
-InOrder (a ∷ u) (b ∷ v) = (a < b) ⊎ ((a ≡ b) × InOrder u v)
+use Rattle.tables.proofs.InOrder.{InOrder, in-order-of-test, test-of-in-order, in-order-trans}
 
 -- one number is less than another, equal to it or more
 three-ways : (a b : ℕ) → (a < b) ⊎ ((a ≡ b) ⊎ (b < a))
@@ -30,35 +24,6 @@ three-ways a b = go (passes (ltb a b)) (passes (eqb a b))
     go (inl l) e = inl (ltb-true a b l)
     go (inr l) (inl e) = inr (inl (eqb-true a b e))
     go (inr l) (inr e) = inr (inr (omega (arith, ltb-false a b l, eqb-false a b e)))
-
-module _ (a b : ℕ) (u v : Word) where
-  in-order-less : a < b → inOrder (a ∷ u) (b ∷ v) ≡ true
-  in-order-less l = rw (lt-ltb a b l)
-
-  in-order-same : a ≡ b → inOrder (a ∷ u) (b ∷ v) ≡ inOrder u v
-  in-order-same e = rw (le-ltb a b (omega arith), eq-eqb a b e, after)
-
-  in-order-more : b < a → inOrder (a ∷ u) (b ∷ v) ≡ false
-  in-order-more l = rw (le-ltb a b (omega arith), ne-eqb a b (λ e. absurd (omega arith)), after)
-
-pub in-order-of-test : (u v : Word) → inOrder u v ≡ true → InOrder u v
-in-order-of-test [] v e = tt
-in-order-of-test (a ∷ u) [] e = T-of e
-in-order-of-test (a ∷ u) (b ∷ v) e = go (three-ways a b) (λ k. in-order-of-test u v k)
-  where
-    go : (a < b) ⊎ ((a ≡ b) ⊎ (b < a)) → (inOrder u v ≡ true → InOrder u v) → InOrder (a ∷ u) (b ∷ v)
-    go (inl l) rest = inl l
-    go (inr (inl q)) rest = inr (q, rest (sym (in-order-same a b u v q) ∙ e))
-    go (inr (inr l)) rest = absurd (clash e (in-order-more a b u v l))
-
-pub test-of-in-order : (u v : Word) → InOrder u v → inOrder u v ≡ true
-test-of-in-order [] v h = refl
-test-of-in-order (a ∷ u) [] h = absurd h
-test-of-in-order (a ∷ u) (b ∷ v) h = go h (λ k. test-of-in-order u v k)
-  where
-    go : (a < b) ⊎ ((a ≡ b) × InOrder u v) → (InOrder u v → inOrder u v ≡ true) → inOrder (a ∷ u) (b ∷ v) ≡ true
-    go (inl l) rest = in-order-less a b u v l
-    go (inr (q, k)) rest = in-order-same a b u v q ∙ rest k
 
 total : (u v : Word) → InOrder u v ⊎ InOrder v u
 total [] v = inl tt
@@ -71,18 +36,6 @@ total (a ∷ u) (b ∷ v) = go (three-ways a b) (total u v)
     go (inr (inl q)) (inr h) = inr (inr (sym q, h))
     go (inr (inr l)) rest = inr (inl l)
 
-transitive : (u v w : Word) → InOrder u v → InOrder v w → InOrder u w
-transitive [] v w h k = tt
-transitive (a ∷ u) [] w h k = absurd h
-transitive (a ∷ u) (b ∷ v) [] h k = k
-transitive (a ∷ u) (b ∷ v) (d ∷ w) h k = go h k (λ p q. transitive u v w p q)
-  where
-    go : (a < b) ⊎ ((a ≡ b) × InOrder u v) → (b < d) ⊎ ((b ≡ d) × InOrder v w) → (InOrder u v → InOrder v w → InOrder u w) → InOrder (a ∷ u) (d ∷ w)
-    go (inl l) (inl r) rest = inl (omega arith)
-    go (inl l) (inr (q, r)) rest = inl (omega arith)
-    go (inr (p, l)) (inl r) rest = inl (omega arith)
-    go (inr (p, l)) (inr (q, r)) rest = inr (p ∙ q, rest l r)
-
 -- two words that are not in order are in order the other way round
 pub in-order-total : (u v : Word) → inOrder u v ≡ false → inOrder v u ≡ true
 in-order-total u v e = go (total u v)
@@ -93,7 +46,7 @@ in-order-total u v e = go (total u v)
 
 pub in-order-transitive : (u v w : Word) → inOrder u v ≡ true → inOrder v w ≡ true → inOrder u w ≡ true
 in-order-transitive u v w h k =
-    test-of-in-order u w (transitive u v w (in-order-of-test u v h) (in-order-of-test v w k))
+    test-of-in-order u w (in-order-trans u v w (in-order-of-test u v h) (in-order-of-test v w k))
 
 -- no word of the column begins a later one
 abbrev Unbegun : List Word → Type 0

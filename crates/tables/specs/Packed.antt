@@ -6,7 +6,7 @@ use mathlib.Core.Bool.{Bool, true, false, _&&_, _||_}
 use mathlib.Core.List.{List, [], _∷_, map}
 use Rattle.higman.specs.Words.{Word, begins, spell}
 use Rattle.higman.specs.Bases.{all}
-use Rattle.higman.specs.Tables.{Pair, Table, row}
+use Rattle.higman.specs.Tables.{Table, row}
 use Rattle.higman.specs.Normal.{before}
 use Rattle.words.specs.Packed.{unpackIn, unpack}
 

@@ -99,3 +99,7 @@ prefixed-example = refl
 rowsAt-example : rowsAt 1 1 (0x11 ∷ 0x12 ∷ []) (0x12 ∷ 0x11 ∷ []) ≡ row 12 11 ∷ []
 unfolding unpack unpackIn
 rowsAt-example = refl
+
+-- document 01, "Plans to try": 11→11, 12→12
+reducible-example : Reducible (record { arity = 2; roots = 1 }) (row 11 11 ∷ row 12 12 ∷ [])
+reducible-example = record { in-order = refl; column = record { words = tt; apart = refl; covers = refl }; to-words = tt }

@@ -1,9 +1,8 @@
 -- The pairs of *a then b* before reduction (document 01, "Plans": "Following of two plans may need up to 254 pairs .. before
 -- reduction"). A pair of a gives one pair where b sends its to-word whole, and otherwise one for each pair of b below that word.
-use Prim.Native.Nat.{ℕ}
 use mathlib.Core.Path.{_≡_, refl}
-use mathlib.Core.List.{List, [], _∷_, _++_}
-use mathlib.Core.Option.{Option, none, some}
+use mathlib.Core.List.{[], _∷_, _++_}
+use mathlib.Core.Option.{none, some}
 use Rattle.higman.specs.Words.{Word, after}
 use Rattle.higman.specs.Tables.{Pair, Table, image, row, φ, ψ}
 

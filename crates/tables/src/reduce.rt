@@ -79,8 +79,7 @@ fn join(from: &mut [u64], to: &mut [u64], start: usize, end: usize, w: u64, arit
     start + 1
 }
 
-// Reduces the block w, whose pairs stand at the place read and cut it into parts at most `left` ways below. The reduced pairs are
-// written from the place write on.
+// Reduces the block w, whose pairs stand at the cursor and cut it into parts at most `left` ways below.
 fn reduce_block(
     from: &[u64],
     to: &[u64],
@@ -89,37 +88,28 @@ fn reduce_block(
     w: u64,
     left: u8,
     arity: u8,
-    read: usize,
-    write: usize,
+    at: Cursor,
 ) -> Cursor
-    requires { ⌜ Places (state (now from) (now to) (now «out_from») (now «out_to») read write) × (1 ≤ arity) × (arity ≤ 9)
-        × (length (unpack w) + left ≤ maxDigits) × Block arity left (unpack w) (drop read (table (now from) (now to))) ⌝ }
+    requires { ⌜ Places (state (now from) (now to) (now «out_from») (now «out_to») (at .read) (at .write)) × (1 ≤ arity) × (arity ≤ 9)
+        × (length (unpack w) + left ≤ maxDigits) × Block arity left (unpack w) (drop (at .read) (table (now from) (now to))) ⌝ }
     ensures places { λ r. ⌜ Places (state (now (from .entry)) (now (to .entry)) (now («out_from» .exit)) (now («out_to» .exit)) (r .read) (r .write)) ⌝ }
     ensures reduces { λ r. ⌜ ReducesBlock arity left (unpack w)
-        (state (now (from .entry)) (now (to .entry)) (now («out_from» .entry)) (now («out_to» .entry)) read write)
+        (state (now (from .entry)) (now (to .entry)) (now («out_from» .entry)) (now («out_to» .entry)) (at .read) (at .write))
         (state (now (from .entry)) (now (to .entry)) (now («out_from» .exit)) (now («out_to» .exit)) (r .read) (r .write)) ⌝ }
 {
+    let read = at.read;
+    let write = at.write;
     if from[read] == w {
         out_from[write] = w;
         out_to[write] = to[read];
+        let next = read + 1;
+        let end = write + 1;
         return Cursor {
-            read: read + 1,
-            write: write + 1,
+            read: next,
+            write: end,
         };
     }
-    let c = reduce_ways(
-        from,
-        to,
-        out_from,
-        out_to,
-        w,
-        1,
-        arity,
-        left - 1,
-        arity,
-        read,
-        write,
-    );
+    let c = reduce_ways(from, to, out_from, out_to, w, 1, arity, left - 1, arity, at);
     let next = c.read;
     let end = c.write;
     let joined = join(out_from, out_to, write, end, w, arity);
@@ -140,40 +130,22 @@ fn reduce_ways(
     last: u8,
     left: u8,
     arity: u8,
-    read: usize,
-    write: usize,
+    at: Cursor,
 ) -> Cursor
-    requires { ⌜ Places (state (now from) (now to) (now «out_from») (now «out_to») read write) × (1 ≤ arity) × (arity ≤ 9)
+    requires { ⌜ Places (state (now from) (now to) (now «out_from») (now «out_to») (at .read) (at .write)) × (1 ≤ arity) × (arity ≤ 9)
         × (length (unpack w) + left < maxDigits) × (1 ≤ i) × (i ≤ last + 1) × (last ≤ 9)
-        × Parts arity left (unpack w) i (last + 1 - i) (drop read (table (now from) (now to))) ⌝ }
+        × Parts arity left (unpack w) i (last + 1 - i) (drop (at .read) (table (now from) (now to))) ⌝ }
     ensures places { λ r. ⌜ Places (state (now (from .entry)) (now (to .entry)) (now («out_from» .exit)) (now («out_to» .exit)) (r .read) (r .write)) ⌝ }
     ensures reduces { λ r. ⌜ ReducesParts arity left (unpack w) i (last + 1 - i)
-        (state (now (from .entry)) (now (to .entry)) (now («out_from» .entry)) (now («out_to» .entry)) read write)
+        (state (now (from .entry)) (now (to .entry)) (now («out_from» .entry)) (now («out_to» .entry)) (at .read) (at .write))
         (state (now (from .entry)) (now (to .entry)) (now («out_from» .exit)) (now («out_to» .exit)) (r .read) (r .write)) ⌝ }
 {
     if last < i {
-        return Cursor {
-            read: read,
-            write: write,
-        };
+        return at;
     }
     let part = words::child(w, i);
-    let c = reduce_block(from, to, out_from, out_to, part, left, arity, read, write);
-    let next = c.read;
-    let end = c.write;
-    reduce_ways(
-        from,
-        to,
-        out_from,
-        out_to,
-        w,
-        i + 1,
-        last,
-        left,
-        arity,
-        next,
-        end,
-    )
+    let c = reduce_block(from, to, out_from, out_to, part, left, arity, at);
+    reduce_ways(from, to, out_from, out_to, w, i + 1, last, left, arity, c)
 }
 
 // Writes the reduced table of the columns from and to into the lent columns, from their first place on, and returns the number of its
@@ -191,6 +163,7 @@ pub fn reduce(
     ensures within { λ r. ⌜ r ≤ length (now (from .entry)) ⌝ }
     ensures keeps { λ r. ⌜ rows r (now («out_from» .exit)) (now («out_to» .exit)) ≡ keep (shape arity roots) (table (now (from .entry)) (now (to .entry))) ⌝ }
 {
+    let start = Cursor { read: 0, write: 0 };
     let c = reduce_ways(
         from,
         to,
@@ -201,8 +174,7 @@ pub fn reduce(
         roots,
         MAX_WAYS,
         arity,
-        0,
-        0,
+        start,
     );
     c.write
 }

@@ -1,6 +1,6 @@
 -- The proof of the cycle of calls {reduce_block, reduce_ways}. The measure is 16 for each way left below the block, and for the
 -- parts of a block one more and one for each part still to do: a block has at most 9 parts.
-use Prim.Native.Nat.{ℕ, _+_, _-_, _*_, _<_}
+use Prim.Native.Nat.{ℕ, _+_, _-_, _*_, _≤_, _<_}
 use mathlib.Core.Path.{refl, _∙_, ap}
 use native.Mathlib.Omega.{arith}
 use lib.ListN.{length, length-set}
@@ -50,7 +50,7 @@ ways-calls t = (child-reads.Asked, child-reads.Learnt, block-below t, reduce-blo
 
 -- the states at the start of a block, behind its parts, and at the start of the parts
 abbrev block-state : (t : ℕ) → reduce-block-lts.Start (block-calls t) (block-at t) reduce-block.Post → State
-block-state t c = let a = c .args in state (a .from .now) (a .to .now) (a .out-from .now) (a .out-to .now) (a .read) (a .write)
+block-state t c = let a = c .args in state (a .from .now) (a .to .now) (a .out-from .now) (a .out-to .now) (a .at .read) (a .at .write)
 
 abbrev ways-state : (t : ℕ) → reduce-block-lts.After-reduce-ways (block-calls t) (block-at t) reduce-block.Post → State
 ways-state t c =
@@ -59,10 +59,10 @@ ways-state t c =
     state (a .from .now) (a .to .now) (w .last .1 .1 .0) (w .last .1 .1 .1 .0) (w .result .read) (w .result .write)
 
 abbrev start-state : (t : ℕ) → reduce-ways-lts.Start (ways-calls t) (ways-at t) reduce-ways.Post → State
-start-state t c = let a = c .args in state (a .from .now) (a .to .now) (a .out-from .now) (a .out-to .now) (a .read) (a .write)
+start-state t c = let a = c .args in state (a .from .now) (a .to .now) (a .out-from .now) (a .out-to .now) (a .at .read) (a .at .write)
 
 -- a block has a pair to read
-place : (t : ℕ) (c : reduce-block-lts.Start (block-calls t) (block-at t) reduce-block.Post) → c .args .read < length (c .args .from .now)
+place : (t : ℕ) (c : reduce-block-lts.Start (block-calls t) (block-at t) reduce-block.Post) → c .args .at .read < length (c .args .from .now)
 place t c =
     let a = c .args in
     block-place (a .arity) (a .left) (unpack (a .w)) (block-state t c) (c .pre .1 .1) (c .pre .1 .0 .paired) (c .pre .1 .4)
@@ -88,7 +88,8 @@ abbrev part-at : (t : ℕ) (c : reduce-ways-lts.After-child (ways-calls t) (ways
 part-at t c =
     let z = c .before .before .before .before .before .before in
     let a = z .args in
-    part (a .arity) (a .left) (unpack (a .w)) (a .i) (a .last) (c .before .if1 .left) (unpack (c .child .result)) (c .child .ensures) (ahead (start-state t z)) (z .pre .1 .7)
+    part (a .arity) (a .left) (unpack (a .w)) (a .i) (a .last) (c .before .if1 .left) (unpack (c .child .result)) (c .child .ensures)
+    (ahead (start-state t z)) (z .pre .1 .7)
 
 block-mul-if1 : (t : ℕ) → reduce-block-lts.Need-mul-if1 (block-calls t) (block-at t) reduce-block.Post
 block-mul-if1 t c = let z = c .before .before .before .before in let p = place t z in omega arith
@@ -114,11 +115,11 @@ block-mul-out-to-2 t c = let z = c .before .before .before .before .before .befo
 block-slice-write-out-to : (t : ℕ) → reduce-block-lts.Need-slice-write-out-to (block-calls t) (block-at t) reduce-block.Post
 block-slice-write-out-to t c = let z = c .before .before .before .before .before .before .before in let p = place t z in omega arith
 
-block-add-t18 : (t : ℕ) → reduce-block-lts.Need-add-t18 (block-calls t) (block-at t) reduce-block.Post
-block-add-t18 t c = let z = c .before .before .before .before .before .before .before in let p = place t z in omega arith
+block-add-next : (t : ℕ) → reduce-block-lts.Need-add-next (block-calls t) (block-at t) reduce-block.Post
+block-add-next t c = let z = c .before .before .before .before .before .before .before in let p = place t z in omega arith
 
-block-add-t22 : (t : ℕ) → reduce-block-lts.Need-add-t22 (block-calls t) (block-at t) reduce-block.Post
-block-add-t22 t c = let z = c .before .before .before .before .before .before .before in let p = place t z in omega arith
+block-add-end : (t : ℕ) → reduce-block-lts.Need-add-end (block-calls t) (block-at t) reduce-block.Post
+block-add-end t c = let z = c .before .before .before .before .before .before .before in let p = place t z in omega arith
 
 block-same-length : (t : ℕ) → reduce-block-lts.Need-same-length (block-calls t) (block-at t) reduce-block.Post
 block-same-length t c = simp length-set
@@ -153,15 +154,19 @@ block-join-requires t c κs =
     (z .pre .1 .1, z .pre .1 .2, g, omega (arith, p .from-room, p .within, p .behind), omega (arith, p .to-room, p .within, p .behind))
 
 block-same-length-3 : (t : ℕ) → reduce-block-lts.Need-same-length-3 (block-calls t) (block-at t) reduce-block.Post
-block-same-length-3 t c = c .before .before .before .before .join .kept .0 ∙ c .before .before .before .before .before .before .before .before .before .before .before .reduce-ways .kept .1 .1 .0
+block-same-length-3 t c =
+    let j = c .before .before .before .before in
+    j .join .kept .0 ∙ j .before .before .before .before .before .before .before .reduce-ways .kept .1 .1 .0
 
 block-same-length-4 : (t : ℕ) → reduce-block-lts.Need-same-length-4 (block-calls t) (block-at t) reduce-block.Post
-block-same-length-4 t c = c .before .before .before .before .join .kept .1 .0 ∙ c .before .before .before .before .before .before .before .before .before .before .before .reduce-ways .kept .1 .1 .1 .0
+block-same-length-4 t c =
+    let j = c .before .before .before .before in
+    j .join .kept .1 .0 ∙ j .before .before .before .before .before .before .before .reduce-ways .kept .1 .1 .1 .0
 
 block-returns-2 : (t : ℕ) → reduce-block-lts.Need-returns-2 (block-calls t) (block-at t) reduce-block.Post
 block-returns-2 t c =
     let r = c .before .before .before .before .before .before .before .before .before .before .before in
-    let z = c .before .before .before .before .before .before .before .before .before .before .before .before .before .before .before .before .before .before .before .before in
+    let z = r .before .before .before .before .before .before .before .before .before in
     let a = z .args in
     let w = r .reduce-ways in
     let n = c .before .before .before .before .join in (
@@ -188,7 +193,10 @@ ways-reduce-block-requires t c κs =
     (omega (arith, z .pre .0), (p .0, p .1, p .2, omega (arith, p .3, ap length (k .child .ensures), length-child (unpack (a .w)) (a .i)), part-at t k))
 
 ways-add-reduce-ways : (t : ℕ) → reduce-ways-lts.Need-add-reduce-ways (ways-calls t) (ways-at t) reduce-ways.Post
-ways-add-reduce-ways t c = let z = c .before .before .before .before .before .before .before .before .before .before .before .before .before .before .before in omega (arith, z .pre .1 .6, c .before .before .before .before .before .before .before .before .before .before .if1 .left)
+ways-add-reduce-ways t c =
+    let k = c .before .before .before .before .before .before .before .before .before .before in
+    let z = k .before .before .before .before .before in
+    omega (arith, z .pre .1 .6, k .if1 .left)
 
 ways-reduce-ways-requires : (t : ℕ) → reduce-ways-lts.Need-reduce-ways-requires (ways-calls t) (ways-at t) reduce-ways.Post
 ways-reduce-ways-requires t c κs =
@@ -207,22 +215,27 @@ ways-reduce-ways-requires t c κs =
         omega arith,
         omega (arith, h),
         p .6,
-        behind (a .arity) (a .left) (unpack (a .w)) (a .i) (a .last) h (unpack (k .child .result)) (k .child .ensures) (ahead (start-state t z)) (p .7) _ (r .reduce-block .ensures .1 (part-at t k) .remains),
+        behind (a .arity) (a .left) (unpack (a .w)) (a .i) (a .last) h (unpack (k .child .result)) (k .child .ensures) (ahead (start-state t z)) (p .7) _
+            (r .reduce-block .ensures .1 (part-at t k) .remains),
       ),
     )
 
 ways-same-length : (t : ℕ) → reduce-ways-lts.Need-same-length (ways-calls t) (ways-at t) reduce-ways.Post
-ways-same-length t c = c .before .before .before .before .reduce-ways .kept .1 .1 .0 ∙ c .before .before .before .before .before .before .before .before .before .before .before .reduce-block .kept .1 .1 .0
+ways-same-length t c =
+    let j = c .before .before .before .before in
+    j .reduce-ways .kept .1 .1 .0 ∙ j .before .before .before .before .before .before .before .reduce-block .kept .1 .1 .0
 
 ways-same-length-2 : (t : ℕ) → reduce-ways-lts.Need-same-length-2 (ways-calls t) (ways-at t) reduce-ways.Post
-ways-same-length-2 t c = c .before .before .before .before .reduce-ways .kept .1 .1 .1 .0 ∙ c .before .before .before .before .before .before .before .before .before .before .before .reduce-block .kept .1 .1 .1 .0
+ways-same-length-2 t c =
+    let j = c .before .before .before .before in
+    j .reduce-ways .kept .1 .1 .1 .0 ∙ j .before .before .before .before .before .before .before .reduce-block .kept .1 .1 .1 .0
 
 ways-returns-2 : (t : ℕ) → reduce-ways-lts.Need-returns-2 (ways-calls t) (ways-at t) reduce-ways.Post
 ways-returns-2 t c =
     let w = c .before .before .before .before .reduce-ways in
     let n = c .before .before .before .before .before .before .before .before .before .before .before .reduce-block in
     let k = c .before .before .before .before .before .before .before .before .before .before .before .before .before .before in
-    let z = c .before .before .before .before .before .before .before .before .before .before .before .before .before .before .before .before .before .before .before .before in
+    let z = k .before .before .before .before .before .before in
     let a = z .args in (
       w .ensures .0,
       followed (a .arity) (a .left) (unpack (a .w)) (a .i) (a .last) (k .before .if1 .left) (unpack (k .child .result)) (k .child .ensures) (start-state t z)
@@ -236,5 +249,32 @@ pub +reduce-block+reduce-ways-spec : {M : Type 1} → statement M
     close
     μ-block
     μ-ways
-    (λ t. reduce-block-lts.spec (block-calls t) (block-at t) reduce-block.Post (block-mul-if1 t) (block-shared-slice-read-if1 t) (block-mul-out-from t) (block-slice-write-out-from t) (block-mul-out-to t) (block-shared-slice-read-out-to t) (block-mul-out-to-2 t) (block-slice-write-out-to t) (block-add-t18 t) (block-add-t22 t) (block-same-length t) (block-same-length-2 t) (block-returns t) (block-sub-reduce-ways t) (block-reduce-ways-requires t) (block-join-requires t) (block-same-length-3 t) (block-same-length-4 t) (block-returns-2 t))
-    (λ t. reduce-ways-lts.spec (ways-calls t) (ways-at t) reduce-ways.Post (ways-returns t) (ways-child-requires t) (ways-reduce-block-requires t) (ways-add-reduce-ways t) (ways-reduce-ways-requires t) (ways-same-length t) (ways-same-length-2 t) (ways-returns-2 t))
+    (λ t. reduce-block-lts.spec (block-calls t) (block-at t) reduce-block.Post
+    (block-mul-if1 t)
+    (block-shared-slice-read-if1 t)
+    (block-mul-out-from t)
+    (block-slice-write-out-from t)
+    (block-mul-out-to t)
+    (block-shared-slice-read-out-to t)
+    (block-mul-out-to-2 t)
+    (block-slice-write-out-to t)
+    (block-add-next t)
+    (block-add-end t)
+    (block-same-length t)
+    (block-same-length-2 t)
+    (block-returns t)
+    (block-sub-reduce-ways t)
+    (block-reduce-ways-requires t)
+    (block-join-requires t)
+    (block-same-length-3 t)
+    (block-same-length-4 t)
+    (block-returns-2 t))
+    (λ t. reduce-ways-lts.spec (ways-calls t) (ways-at t) reduce-ways.Post
+    (ways-returns t)
+    (ways-child-requires t)
+    (ways-reduce-block-requires t)
+    (ways-add-reduce-ways t)
+    (ways-reduce-ways-requires t)
+    (ways-same-length t)
+    (ways-same-length-2 t)
+    (ways-returns-2 t))

@@ -34,7 +34,8 @@ blocks c =
     let z = c .before in
     let a = z .args in
     let all : a .roots + 1 - 1 ≡ a .roots = omega arith in
-    root-parts (shape (a .arity) (a .roots)) (table (a .from .now) (a .to .now)) (arity-of-range (shape (a .arity) (a .roots)) (z .pre .3)) (z .pre .4) 15 (deep c) (unpack 0) (a .roots + 1 - 1) unpack-zero all
+    let s = shape (a .arity) (a .roots) in
+    root-parts s (table (a .from .now) (a .to .now)) (arity-of-range s (z .pre .3)) (z .pre .4) 15 (deep c) (unpack 0) (a .roots + 1 - 1) unpack-zero all
 
 abbrev KeptBlocks : tie.After-shared-slice-known → Type 0
 KeptBlocks c =
@@ -49,7 +50,8 @@ kept c =
     let z = c .before in
     let a = z .args in
     let all : a .roots + 1 - 1 ≡ a .roots = omega arith in
-    keep-of-roots (shape (a .arity) (a .roots)) (table (a .from .now) (a .to .now)) (arity-of-range (shape (a .arity) (a .roots)) (z .pre .3)) (z .pre .4) 15 (deep c) (unpack 0) (a .roots + 1 - 1) unpack-zero all
+    let s = shape (a .arity) (a .roots) in
+    keep-of-roots s (table (a .from .now) (a .to .now)) (arity-of-range s (z .pre .3)) (z .pre .4) 15 (deep c) (unpack 0) (a .roots + 1 - 1) unpack-zero all
 
 reduce-ways-requires : tie.Need-reduce-ways-requires
 unfolding maxDigits
