@@ -1,0 +1,220 @@
+-- What an accepted draft is, what is kept of it, and when a value is a kept plan: exactly when it is accepted and keeping it gives it
+-- back. What I makes of a plan is what is kept of its columns exchanged.
+use Prim.Native.Nat.{ℕ, _≤_}
+use mathlib.Core.Path.{_≡_, refl, sym, _∙_, ap, subst}
+use mathlib.Core.Logic.{_↔_, _⊎_, inl, inr}
+use mathlib.Core.Bool.{Bool, true, false, _&&_}
+use mathlib.Core.List.{List, [], _∷_}
+use native.Mathlib.Omega.{arith}
+use lib.Dec.{T}
+use lib.ListN.{length, take}
+use types.Run.{OneOf}
+use denote.Enum.Declared.{tagOf}
+use Rattle.higman.specs.Words.{Shape}
+use Rattle.higman.specs.Tables.{Table, swapped, sameTable}
+use Rattle.higman.specs.Normal.{keep}
+use Rattle.higman.specs.Limits.{Bases, Kept, maxPairs, shapeInRange}
+use Rattle.higman.specs.Answers as Of
+use Rattle.higman.proofs.Tests.{passes, so, T-of, and-left, and-right, and-intro, same-table, same-table-refl}
+use Rattle.higman.proofs.Elements.{element-swapped}
+use Rattle.higman.proofs.Group.{keep-member}
+use Rattle.higman.proofs.KeptPlans.{arity-of-range, element-of-bases, bases-of-element}
+use Rattle.higman.proofs.Statements.{table-of, answers-exact}
+use Rattle.words.specs.Packed.{unpack}
+use Rattle.plans.specs.declared.Plan.{Plan}
+use Rattle.plans.specs.declared.Judgement.{Judgement}
+use Rattle.plans.specs.declared.Judgement.the-variants.{NotADraft, Accepted, InFrom, InTo}
+use Rattle.plans.specs.declared.Keeping.{Keeping}
+use Rattle.plans.specs.declared.Answer.the-variants.{Granted}
+use Rattle.plans.specs.declared.Making.{Making}
+use Rattle.tables.specs.Packed.{table}
+use Rattle.tables.specs.Reduction.{rows}
+use Rattle.plans.specs.Plans.{shapeOf, rowsOf, planOf, inTable, isDraft, isPlan, packed, blank}
+use Rattle.plans.specs.Answers.{judgementOf, judged, keptOf, keeping, noPlan, inverting}
+use Rattle.plans.specs.Keeping.{sameValue}
+use Rattle.plans.proofs.Judgement.{the-type}
+use Rattle.plans.proofs.Values.{in-table, packed-plan-of, rows-of-packed, same-value}
+
+abbrev IsAccepted : Judgement → Type 0
+IsAccepted NotADraft = ⊥
+IsAccepted Accepted = Unit {0}
+IsAccepted (InFrom r) = ⊥
+IsAccepted (InTo r) = ⊥
+
+-- the other arms of a match on a judgement
+pub not-accepted : (j : Judgement) → OneOf (0 ∷ 2 ∷ 3 ∷ []) (tagOf the-type j) → j ≡ Accepted → ⊥
+not-accepted j k e = go (tagOf the-type j) k (ap (tagOf the-type) e)
+  where
+    go : (x : ℕ) → OneOf (0 ∷ 2 ∷ 3 ∷ []) x → x ≡ 1 → ⊥
+    go x (inl p) q = omega arith
+    go x (inr (inl p)) q = omega arith
+    go x (inr (inr p)) q = omega arith
+
+-- an accepted draft
+pub record Approved (p : Plan) : Type 0 where
+  pub within : T (inTable p)
+  pub few : p .pairs ≤ maxPairs
+  pub draft : T (Of.isTableOf (shapeOf p) (rowsOf p))
+  pub in-range : T (shapeInRange (shapeOf p))
+  pub verdict : Of.verdict (shapeOf p) (rowsOf p) ≡ Of.Accepted
+  pub bases : Bases (shapeOf p) (rowsOf p)
+
+accepted-cases : (b : Bool) (v : Of.Verdict) → elim b as (λ _. Judgement) [ true ↦ judgementOf v | false ↦ NotADraft ] ≡ Accepted → (b ≡ true) × (v ≡ Of.Accepted)
+accepted-cases false v e = absurd (subst IsAccepted (sym e) tt)
+accepted-cases true Of.Accepted e = (refl, refl)
+accepted-cases true (Of.InFrom r) e = absurd (subst IsAccepted (sym e) tt)
+accepted-cases true (Of.InTo r) e = absurd (subst IsAccepted (sym e) tt)
+
+module _ (p : Plan) where
+  abbrev s : Shape
+  s = shapeOf p
+
+  abbrev t : Table
+  t = rowsOf p
+
+  pub approved : judged p ≡ Accepted → Approved p
+  unfolding judged isDraft
+  approved e =
+      let (d, v) = accepted-cases (isDraft p) (Of.verdict s t) e in
+      let draft = and-right (inTable p) (Of.isTableOf s t) (T-of d) in
+      let words = table-of s t draft in
+      let within = and-left (inTable p) (Of.isTableOf s t) (T-of d) in
+      record {
+        within = within;
+        few = in-table p within .few;
+        draft = draft;
+        in-range = words .in-range;
+        verdict = v;
+        bases = answers-exact .accepted s (arity-of-range s (words .in-range)) t (words .from-words) (words .to-words) .0 v;
+      }
+
+  judged-approved : T (inTable p) → T (Of.isTableOf s t) → Of.verdict s t ≡ Of.Accepted → judged p ≡ Accepted
+  unfolding judged isDraft
+  judged-approved w d v = rw (so (isDraft p) (and-intro (inTable p) (Of.isTableOf s t) w d), v, judged)
+
+-- what keeping answers, by the judgement
+pub keeping-of : (p : Plan) (j : Judgement) (q : Plan) → j ≡ judged p → q ≡ keptOf p j → _≡_ {A = Keeping} (record { judgement = j; plan = q }) (keeping p)
+unfolding keeping
+keeping-of p j q e f =
+    ap {B = Keeping} (λ x. record { judgement = j; plan = x }) f ∙ ap {B = Keeping} (λ x. record { judgement = x; plan = keptOf p x }) e
+
+-- what is not accepted is not kept
+pub none-kept : (p : Plan) (j : Judgement) → (j ≡ Accepted → ⊥) → blank ≡ keptOf p j
+none-kept p NotADraft h = refl
+none-kept p Accepted h = absurd (h refl)
+none-kept p (InFrom r) h = refl
+none-kept p (InTo r) h = refl
+
+-- a kept plan is a value in a table that holds one
+pub kept-plan : (p : Plan) → T (isPlan p) → T (inTable p) × Kept (planOf p)
+unfolding isPlan
+kept-plan p h = (and-left (inTable p) (Of.isKept (planOf p)) h, answers-exact .kept-test (planOf p) .0 (and-right (inTable p) (Of.isKept (planOf p)) h))
+
+judged-plan : (p : Plan) → T (isPlan p) → judged p ≡ Accepted
+unfolding isPlan Rattle.higman.specs.Answers.isKept
+judged-plan p h =
+    let s = shapeOf p in
+    let t = rowsOf p in
+    let (w, k) = kept-plan p h in
+    let d = Of.isTableOf s t in
+    let v = Of.accepts (Of.verdict s t) in
+    let draft = and-left d v (and-left (d && v) (sameTable (keep s t) t) (and-right (inTable p) (Of.isKept (planOf p)) h)) in
+    let words = table-of s t draft in
+    judged-approved p w draft (answers-exact .accepted s (arity-of-range s (words .in-range)) t (words .from-words) (words .to-words) .1 (k .bases))
+
+-- it is what is kept of it
+keep-own : (p : Plan) → T (isPlan p) → keep (shapeOf p) (rowsOf p) ≡ rowsOf p
+unfolding isPlan Rattle.higman.specs.Answers.isKept
+keep-own p h =
+    let s = shapeOf p in
+    let t = rowsOf p in
+    same-table (keep s t) t (and-right (Of.isTableOf s t && Of.accepts (Of.verdict s t)) (sameTable (keep s t) t) (and-right (inTable p) (Of.isKept (planOf p)) h))
+
+-- a value that is not accepted is no plan
+pub no-plan : (p : Plan) → (judged p ≡ Accepted → ⊥) → isPlan p ≡ false
+no-plan p h = go (passes (isPlan p))
+  where
+    go : (isPlan p ≡ true) ⊎ (isPlan p ≡ false) → isPlan p ≡ false
+    go (inl e) = absurd (h (judged-plan p (T-of e)))
+    go (inr e) = e
+
+same-test : (a b : Bool) → (T a → T b) → (T b → T a) → a ≡ b
+same-test true true f g = refl
+same-test true false f g = absurd (f tt)
+same-test false true f g = absurd (g tt)
+same-test false false f g = refl
+
+-- an accepted value is a plan exactly when keeping it gives it back
+pub plan-kept : (p : Plan) → length (p .from) ≡ maxPairs → length (p .to) ≡ maxPairs → judged p ≡ Accepted → sameValue (keptOf p Accepted) p ≡ isPlan p
+unfolding isPlan Rattle.higman.specs.Answers.isKept
+plan-kept p f t e = same-test (sameValue (keptOf p Accepted) p) (isPlan p) to from
+  where
+    s : Shape
+    s = shapeOf p
+
+    a : Approved p
+    a = approved p e
+
+    -- the words of what is kept are words, so the value that holds it gives it back
+    held : rowsOf (packed (record { shape = s; rows = keep s (rowsOf p) })) ≡ keep s (rowsOf p)
+    held =
+        let n = arity-of-range s (a .in-range) in
+        rows-of-packed s (keep s (rowsOf p)) (a .in-range) (keep-member s n (rowsOf p) (element-of-bases s (rowsOf p) n (a .bases)) .element)
+
+    to : T (sameValue (keptOf p Accepted) p) → T (isPlan p)
+    to h =
+        let own : keep s (rowsOf p) ≡ rowsOf p = sym held ∙ ap rowsOf (same-value (keptOf p Accepted) p .0 h) in
+        let d = Of.isTableOf s (rowsOf p) in
+        let v = Of.accepts (Of.verdict s (rowsOf p)) in
+        and-intro (inTable p) (Of.isKept (planOf p)) (a .within)
+        (and-intro (d && v) (sameTable (keep s (rowsOf p)) (rowsOf p))
+        (and-intro d v (a .draft) (subst (λ x. T (Of.accepts x)) (sym (a .verdict)) tt))
+        (subst (λ x. T (sameTable x (rowsOf p))) (sym own) (same-table-refl (rowsOf p))))
+
+    from : T (isPlan p) → T (sameValue (keptOf p Accepted) p)
+    from h =
+        let own = keep-own p h in
+        same-value (keptOf p Accepted) p .1 (ap (λ x. packed (record { shape = s; rows = x })) own ∙ packed-plan-of p (a .within) f t)
+
+-- a value is a plan exactly when it is accepted and keeping it gives it back
+pub plan-exactly : (p : Plan) → length (p .from) ≡ maxPairs → length (p .to) ≡ maxPairs → (isPlan p ≡ true) ↔ ((judged p ≡ Accepted) × (keptOf p Accepted ≡ p))
+plan-exactly p f t = (
+  λ e. let j = judged-plan p (T-of e) in (j, same-value (keptOf p Accepted) p .0 (T-of (plan-kept p f t j ∙ e))),
+  λ (j, e). sym (plan-kept p f t j) ∙ so (sameValue (keptOf p Accepted) p) (same-value (keptOf p Accepted) p .1 e),
+)
+
+-- the table of two columns exchanged
+table-swapped : (f t : List ℕ) → table t f ≡ swapped (table f t)
+table-swapped [] [] = refl
+table-swapped [] (y ∷ t) = refl
+table-swapped (x ∷ f) [] = refl
+table-swapped (x ∷ f) (y ∷ t) = ap (λ l. record { from = unpack y; to = unpack x } ∷ l) (table-swapped f t)
+
+-- the columns of a plan, exchanged
+module _ (a : Plan) (e : isPlan a ≡ true) where
+  exchanged : rows (a .pairs) (a .to) (a .from) ≡ swapped (rowsOf a)
+  exchanged = table-swapped (take (a .pairs) (a .from)) (take (a .pairs) (a .to))
+
+  pub plan-few : a .pairs ≤ maxPairs
+  plan-few = in-table a (kept-plan a (T-of e) .0) .few
+
+  pub plan-in-range : T (shapeInRange (shapeOf a))
+  plan-in-range = kept-plan a (T-of e) .1 .in-range
+
+  pub exchanged-bases : Bases (shapeOf a) (rows (a .pairs) (a .to) (a .from))
+  exchanged-bases =
+      let s = shapeOf a in
+      let n = arity-of-range s plan-in-range in
+      let E = element-of-bases s (rowsOf a) n (kept-plan a (T-of e) .1 .bases) in
+      subst (Bases s) (sym exchanged) (bases-of-element s (swapped (rowsOf a)) n (element-swapped s (rowsOf a) E))
+
+  pub inverting-plan : (q : Plan) → q ≡ packed (record { shape = shapeOf a; rows = keep (shapeOf a) (rows (a .pairs) (a .to) (a .from)) })
+      → _≡_ {A = Making} (record { answer = Granted; plan = q }) (inverting a)
+  unfolding inverting Rattle.higman.specs.Answers.inverted Rattle.higman.specs.Normal.inverse
+  inverting-plan q h =
+      rw (e, inverting)
+      (ap {B = Making} (λ x. record { answer = Granted; plan = x }) (h ∙ ap (λ u. packed (record { shape = shapeOf a; rows = keep (shapeOf a) u })) exchanged))
+
+pub inverting-none : (a : Plan) → isPlan a ≡ false → noPlan ≡ inverting a
+unfolding inverting
+inverting-none a e = rw (e, inverting)

@@ -1,0 +1,8 @@
+-- The laws of the library of plans, each file after those it leans on; the proofs of the functions cite them.
+pub mod Sizes
+pub mod Unordered
+pub mod Checks
+pub mod DraftChecks
+pub mod Reordered
+pub mod Values
+pub mod Accepted

@@ -1,0 +1,63 @@
+-- `plans::drafts::are_zeros` meets its contract. The invariant: the column is zero exactly if what is left of it is. The measure is what
+-- is left of the column.
+use Prim.Native.Nat.{_-_, _≤_}
+use mathlib.Core.Path.{_≡_, refl, sym, _∙_}
+use borrow.Author.Tests.{eq-eqb, ne-eqb}
+use native.Mathlib.Omega.{arith}
+use lib.Dec.{eqb}
+use lib.ListN.{length, drop}
+use Rattle.plans.specs.Plans.{zeros}
+use Rattle.plans.proofs.Checks.{check-fails, check-passes, check-done}
+use Rattle.plans.proofs.drafts.are_zeros.Statement.{statement}
+use Rattle.plans.proofs.drafts.are_zeros.Tie as tie
+
+abbrev Inv-loop : tie.InvT-loop
+Inv-loop column i₀ i = (i ≤ length column) × (zeros column ≡ zeros (drop i column))
+
+abbrev μ-loop : tie.MeasureT-loop
+μ-loop column i₀ i = length column - i
+
+loop-holds : tie.Need-loop-holds Inv-loop μ-loop
+loop-holds c = (omega arith, refl)
+
+mul-if1 : tie.Need-mul-if1 Inv-loop μ-loop
+mul-if1 c = omega arith
+
+shared-slice-read-if1 : tie.Need-shared-slice-read-if1 Inv-loop μ-loop
+shared-slice-read-if1 c = omega arith
+
+returns : tie.Need-returns Inv-loop μ-loop
+returns c =
+    let l = c .before .before .before in
+    sym (l .loop .inv .1 ∙ check-fails (λ x. eqb x 0) (l .before .args .column .now) (l .loop .i) (c .before .before .loop-test .taken) (ne-eqb _ 0 (c .if1 .taken)))
+
+add-i : tie.Need-add-i Inv-loop μ-loop
+add-i c = omega arith
+
+loop-less : tie.Need-loop-less Inv-loop μ-loop
+loop-less c = omega arith
+
+loop-again : tie.Need-loop-again Inv-loop μ-loop
+loop-again c =
+    let l = c .before .before .before in
+    (omega arith, l .loop .inv .1 ∙ check-passes (λ x. eqb x 0) (l .before .args .column .now) (l .loop .i) (c .before .before .loop-test .taken) (eq-eqb _ 0 (c .if1 .left)))
+
+returns-2 : tie.Need-returns-2 Inv-loop μ-loop
+returns-2 c =
+    let l = c .before in
+    sym (l .loop .inv .1 ∙ check-done (λ x. eqb x 0) (l .before .args .column .now) (l .loop .i) (c .loop-test .left))
+
+pub are-zeros-spec : {M : Type 1} → statement M
+are-zeros-spec =
+    tie.close
+    (tie.spec
+    Inv-loop
+    μ-loop
+    loop-holds
+    mul-if1
+    shared-slice-read-if1
+    returns
+    add-i
+    loop-less
+    loop-again
+    returns-2)

@@ -1,0 +1,42 @@
+-- `plans::kept::keep` meets its contract: an accepted draft has bases for columns, and of any other judgement nothing is kept.
+use mathlib.Core.Path.{sym, _∙_, ap}
+use borrow.Author.Needs.{needs}
+use Rattle.higman.specs.Limits.{maxPairs}
+use Rattle.plans.specs.Answers.{keptOf}
+use Rattle.plans.proofs.Accepted.{not-accepted, approved, keeping-of, none-kept}
+use Rattle.plans.proofs.kept.keep.Statement.{statement}
+use Rattle.plans.proofs.kept.keep.Tie as tie
+
+verdict-requires : tie.Need-verdict-requires
+verdict-requires c κs = search needs
+
+enum-told : tie.Need-enum-told
+enum-told c = search needs
+
+kept-requires : tie.Need-kept-requires
+unfolding maxPairs
+kept-requires c κs =
+    let v = c .before .before .before .before in
+    let p = v .before .args .draft in
+    let a = approved p (sym (v .verdict .ensures) ∙ c .before .before .enum-told .given .1) in
+    (a .few, a .in-range, a .bases)
+
+blank-requires : tie.Need-blank-requires
+blank-requires c κs = search needs
+
+returns : tie.Need-returns
+returns c =
+    let v = c .before .before .before .before .before in
+    let p = v .before .args .draft in
+    keeping-of p (v .verdict .result) (c .kept .result) (v .verdict .ensures)
+    (c .kept .ensures ∙ ap (keptOf p) (sym (c .before .before .before .enum-told .given .1)))
+
+returns-2 : tie.Need-returns-2
+returns-2 c =
+    let v = c .before .before in
+    let p = v .before .args .draft in
+    keeping-of p (v .verdict .result) (c .blank .result) (v .verdict .ensures)
+    (c .blank .ensures ∙ none-kept p (v .verdict .result) (not-accepted (v .verdict .result) (c .before .match .keys2)))
+
+pub keep-spec : {M : Type 1} → statement M
+keep-spec = tie.close (tie.spec verdict-requires enum-told kept-requires blank-requires returns returns-2)

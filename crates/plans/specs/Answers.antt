@@ -1,0 +1,78 @@
+-- What the calls on plans answer: the answers of higman, with 15 before them for a value that is no draft or plan. Where a call refuses,
+-- the plan beside the answer is the blank one.
+use Prim.Native.Nat.{ℕ}
+use mathlib.Core.Bool.{Bool, true, false, _&&_}
+use mathlib.Core.Option.{Option, none, some}
+use lib.IntN.{ℤ}
+use Rattle.higman.specs.Normal.{keep}
+use Rattle.higman.specs.Limits.{Plan as PlanOf}
+use Rattle.higman.specs.Answers as Of
+use Rattle.plans.specs.declared.Plan.{Plan}
+use Rattle.plans.specs.declared.Reason.{Reason}
+use Rattle.plans.specs.declared.Reason.the-variants.{Overlap, Gap}
+use Rattle.plans.specs.declared.Fault.{Fault}
+use Rattle.plans.specs.declared.Fault.the-variants.{Sound, Faulty}
+use Rattle.plans.specs.declared.Judgement.{Judgement}
+use Rattle.plans.specs.declared.Judgement.the-variants.{NotADraft, Accepted, InFrom, InTo}
+use Rattle.plans.specs.declared.Keeping.{Keeping}
+use Rattle.plans.specs.declared.Answer.{Answer}
+use Rattle.plans.specs.declared.Answer.the-variants.{Granted, Refused}
+use Rattle.plans.specs.declared.Making.{Making}
+use Rattle.plans.specs.Plans.{shapeOf, rowsOf, planOf, isDraft, isPlan, packed, blank}
+
+abbrev pub reasonOf : Of.Reason → Reason
+reasonOf Of.Overlap = Overlap
+reasonOf Of.Gap = Gap
+
+-- the verdict on one column
+abbrev pub faultOf : Option Of.Reason → Fault
+faultOf none = Sound
+faultOf (some r) = Faulty (reasonOf r)
+
+abbrev pub judgementOf : Of.Verdict → Judgement
+judgementOf Of.Accepted = Accepted
+judgementOf (Of.InFrom r) = InFrom (reasonOf r)
+judgementOf (Of.InTo r) = InTo (reasonOf r)
+
+-- the verdict on a draft: 15, and then "from: 6, 7, to: 6, 7"
+unfoldable pub judged : Plan → Judgement
+judged p = elim (isDraft p) [ true ↦ judgementOf (Of.verdict (shapeOf p) (rowsOf p)) | false ↦ NotADraft ]
+
+-- the number that a judgement is refused with; 0 where it is not
+abbrev pub judgementNumber : Judgement → ℕ
+judgementNumber NotADraft = 15
+judgementNumber Accepted = 0
+judgementNumber (InFrom Overlap) = Of.reasonNumber Of.Overlap
+judgementNumber (InFrom Gap) = Of.reasonNumber Of.Gap
+judgementNumber (InTo Overlap) = Of.reasonNumber Of.Overlap
+judgementNumber (InTo Gap) = Of.reasonNumber Of.Gap
+
+-- the plan kept of a draft, "reduce and keep"
+abbrev pub keptOf : Plan → Judgement → Plan
+keptOf p NotADraft = blank
+keptOf p Accepted = packed (record { shape = shapeOf p; rows = keep (shapeOf p) (rowsOf p) })
+keptOf p (InFrom r) = blank
+keptOf p (InTo r) = blank
+
+unfoldable pub keeping : Plan → Keeping
+keeping p = record { judgement = judged p; plan = keptOf p (judged p) }
+
+-- a granted plan, or the number of the refusal
+abbrev pub making : Of.Answer → Making
+making (Of.Granted p) = record { answer = Granted; plan = packed p }
+making (Of.Refused r) = record { answer = Refused (Of.refusalNumber r); plan = blank }
+
+abbrev pub noPlan : Making
+noPlan = record { answer = Refused 15; plan = blank }
+
+-- F: 15, 10, 11
+unfoldable pub following : Plan → Plan → Making
+following a b = elim (isPlan a && isPlan b) [ true ↦ making (Of.followed (planOf a) (planOf b)) | false ↦ noPlan ]
+
+-- I: 15
+unfoldable pub inverting : Plan → Making
+inverting a = elim (isPlan a) [ true ↦ making (Of.inverted (planOf a)) | false ↦ noPlan ]
+
+-- K: 15, 12, 11
+unfoldable pub raising : Plan → ℤ → Making
+raising a k = elim (isPlan a) [ true ↦ making (Of.powered (planOf a) k) | false ↦ noPlan ]

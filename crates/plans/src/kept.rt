@@ -1,0 +1,194 @@
+// Keeping (document 01, "Plans"): "Kept plans are reduced, with from-words in order of the first digit that differs". A draft is kept
+// by sorting its pairs, reducing them into fresh columns and clearing what joins have left behind the pairs. A value is a kept plan
+// if keeping it gives it back, and the inverse is what is kept of the columns exchanged.
+ghost use mathlib.Core.Path.{_≡_};
+ghost use mathlib.Core.List.{_++_};
+ghost use Prim.Native.Nat.{_-_, _≤_};
+ghost use lib.Dec.{T};
+ghost use lib.ListN.{length, take, replicate};
+ghost use Rattle.higman.specs.Normal.{keep};
+ghost use Rattle.higman.specs.Limits.{Bases, shapeInRange};
+ghost use Rattle.words.specs.Bytes.{shape};
+ghost use Rattle.tables.specs.Packed.{table};
+ghost use Rattle.tables.specs.Reduction.{rows};
+ghost use Rattle.plans.specs.Plans.{isPlan, packed, blank};
+ghost use Rattle.plans.specs.Answers.{keeping, inverting};
+ghost use Rattle.plans.specs.Keeping.{KeptColumns, sameColumn, sameValue};
+use super::Answer;
+use super::Judgement;
+use super::Keeping;
+use super::Making;
+use super::Plan;
+
+// The number of the refusal of a value that is no plan.
+const NOT_A_PLAN: u8 = 15;
+
+// Sets the numbers of a column to zero from a place on.
+fn clear(column: &mut [u64], place: usize)
+    requires { ⌜ place ≤ length (now column) ⌝ }
+    ensures { λ _. ⌜ now (column .exit) ≡ take place (now (column .entry)) ++ replicate (length (now (column .entry)) - place) 0 ⌝ }
+{
+    let mut i = place;
+    while i < column.len() {
+        column[i] = 0;
+        i += 1;
+    }
+}
+
+// Writes what is kept of the pairs of two columns into the lent columns, with zeros behind, and returns the number of its pairs. The
+// pairs that came are left sorted.
+fn keep_into(
+    keys: &mut [u64],
+    values: &mut [u64],
+    out_from: &mut [u64],
+    out_to: &mut [u64],
+    arity: u8,
+    roots: u8,
+) -> usize
+    requires { ⌜ (length (now keys) ≡ length (now values)) × (length (now keys) ≤ length (now «out_from»)) × (length (now keys) ≤ length (now «out_to»))
+        × T (shapeInRange (shape arity roots)) × Bases (shape arity roots) (table (now keys) (now values)) ⌝ }
+    ensures { λ r. ⌜ KeptColumns (shape arity roots) (table (now (keys .entry)) (now (values .entry))) (now («out_from» .entry)) (now («out_to» .entry))
+        (now («out_from» .exit)) (now («out_to» .exit)) r ⌝ }
+{
+    tables::sorting::sort(keys, values);
+    let pairs = tables::reduce::reduce(keys, values, out_from, out_to, arity, roots);
+    clear(out_from, pairs);
+    clear(out_to, pairs);
+    pairs
+}
+
+// The plan kept of the first n pairs of two columns, both bases.
+fn kept(from: [u64; 128], to: [u64; 128], n: usize, arity: u8, roots: u8) -> Plan
+    requires { ⌜ (n ≤ 128) × T (shapeInRange (shape arity roots)) × Bases (shape arity roots) (rows n from to) ⌝ }
+    ensures { λ r. ⌜ r ≡ packed (record { shape = shape arity roots; rows = keep (shape arity roots) (rows n from to) }) ⌝ }
+{
+    let mut keys = from;
+    let mut values = to;
+    let mut out_from = [0u64; 128];
+    let mut out_to = [0u64; 128];
+    let pairs = keep_into(
+        &mut keys[..n],
+        &mut values[..n],
+        &mut out_from,
+        &mut out_to,
+        arity,
+        roots,
+    );
+    Plan {
+        arity: arity,
+        roots: roots,
+        pairs: pairs,
+        from: out_from,
+        to: out_to,
+    }
+}
+
+// No plan: what a call that refuses hands back.
+pub fn blank() -> Plan
+    ensures { λ r. ⌜ r ≡ blank ⌝ }
+{
+    Plan {
+        arity: 0,
+        roots: 0,
+        pairs: 0,
+        from: [0u64; 128],
+        to: [0u64; 128],
+    }
+}
+
+// The verdict on a draft and, where it is Accepted, the plan kept of it.
+pub fn keep(draft: Plan) -> Keeping
+    ensures { λ r. ⌜ r ≡ keeping draft ⌝ }
+{
+    let judgement = super::drafts::verdict(draft);
+    match judgement {
+        Judgement::Accepted => {
+            let from = draft.from;
+            let to = draft.to;
+            let reduced = kept(from, to, draft.pairs, draft.arity, draft.roots);
+            Keeping {
+                judgement: judgement,
+                plan: reduced,
+            }
+        }
+        _ => {
+            let plan = blank();
+            Keeping {
+                judgement: judgement,
+                plan: plan,
+            }
+        }
+    }
+}
+
+// Whether two columns have the same number at each place.
+fn same_column(a: [u64; 128], b: [u64; 128]) -> bool
+    ensures { λ r. ⌜ r ≡ sameColumn a b ⌝ }
+{
+    let mut i = 0;
+    while i < 128 {
+        if a[i] != b[i] {
+            return false;
+        }
+        i += 1;
+    }
+    true
+}
+
+// Whether two values agree in every field.
+fn same_values(a: Plan, b: Plan) -> bool
+    ensures { λ r. ⌜ r ≡ sameValue a b ⌝ }
+{
+    if a.arity != b.arity {
+        return false;
+    }
+    if a.roots != b.roots {
+        return false;
+    }
+    if a.pairs != b.pairs {
+        return false;
+    }
+    let from = a.from;
+    let other_from = b.from;
+    if !same_column(from, other_from) {
+        return false;
+    }
+    let to = a.to;
+    let other_to = b.to;
+    same_column(to, other_to)
+}
+
+// Whether a value is a kept plan: keeping it accepts it and gives it back.
+pub fn is_plan(p: Plan) -> bool
+    ensures { λ r. ⌜ r ≡ isPlan p ⌝ }
+{
+    let keeping = keep(p);
+    let judgement = keeping.judgement;
+    match judgement {
+        Judgement::Accepted => {
+            let plan = keeping.plan;
+            same_values(plan, p)
+        }
+        _ => false,
+    }
+}
+
+// The inverse of a plan.
+pub fn inverse(a: Plan) -> Making
+    ensures { λ r. ⌜ r ≡ inverting a ⌝ }
+{
+    if !is_plan(a) {
+        let plan = blank();
+        return Making {
+            answer: Answer::Refused(NOT_A_PLAN),
+            plan: plan,
+        };
+    }
+    let from = a.from;
+    let to = a.to;
+    let plan = kept(to, from, a.pairs, a.arity, a.roots);
+    Making {
+        answer: Answer::Granted,
+        plan: plan,
+    }
+}

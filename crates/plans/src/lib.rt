@@ -1,0 +1,55 @@
+// The library of plans (document 01, "Plans"). A plan is two columns of packed words; the calls judge drafts, keep, follow, invert,
+// repeat, compare, route by and list plans. Each takes any value and refuses what is no plan: its promise is one equality with an
+// answer of the crate `higman`, through the words that the packed numbers hold.
+pub mod drafts;
+pub mod kept;
+
+// A shape and the pairs of a plan, or of a draft of one, at the first places of two columns; the other places are zero.
+pub struct Plan {
+    pub arity: u8,
+    pub roots: u8,
+    pub pairs: usize,
+    pub from: [u64; 128],
+    pub to: [u64; 128],
+}
+
+// What is wrong with a column.
+pub enum Reason {
+    // one word begins or equals another
+    Overlap,
+    // a belt isn't covered
+    Gap,
+}
+
+// The verdict on one column.
+pub enum Fault {
+    Sound,
+    Faulty(Reason),
+}
+
+// The verdict on a draft: the column and, within it, the reason.
+pub enum Judgement {
+    // not a draft: no shape, too many pairs, no words, or something behind the pairs
+    NotADraft,
+    Accepted,
+    InFrom(Reason),
+    InTo(Reason),
+}
+
+// A judgement and the plan that is kept where it is Accepted.
+pub struct Keeping {
+    pub judgement: Judgement,
+    pub plan: Plan,
+}
+
+// Whether a plan was made, or the number of the refusal.
+pub enum Answer {
+    Granted,
+    Refused(u8),
+}
+
+// An answer and the plan that was made where it is Granted.
+pub struct Making {
+    pub answer: Answer,
+    pub plan: Plan,
+}
