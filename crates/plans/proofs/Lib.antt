@@ -6,3 +6,12 @@ pub mod DraftChecks
 pub mod Reordered
 pub mod Values
 pub mod Accepted
+pub mod Filled
+pub mod KeptValues
+pub mod Composed
+pub mod SamePairs
+pub mod Answered
+pub mod Identity
+pub mod Repacked
+pub mod Raised
+pub mod Powered

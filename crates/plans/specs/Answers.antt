@@ -1,9 +1,11 @@
 -- What the calls on plans answer: the answers of higman, with 15 before them for a value that is no draft or plan. Where a call refuses,
 -- the plan beside the answer is the blank one.
-use Prim.Native.Nat.{ℕ}
+use Prim.Native.Nat.{ℕ, zero, suc}
 use mathlib.Core.Bool.{Bool, true, false, _&&_}
 use mathlib.Core.Option.{Option, none, some}
-use lib.IntN.{ℤ}
+use lib.IntN.{ℤ, pos, negsuc}
+use Rattle.higman.specs.Words.{Shape}
+use Rattle.higman.specs.Tables.{Table}
 use Rattle.higman.specs.Normal.{keep}
 use Rattle.higman.specs.Limits.{Plan as PlanOf}
 use Rattle.higman.specs.Answers as Of
@@ -18,6 +20,8 @@ use Rattle.plans.specs.declared.Keeping.{Keeping}
 use Rattle.plans.specs.declared.Answer.{Answer}
 use Rattle.plans.specs.declared.Answer.the-variants.{Granted, Refused}
 use Rattle.plans.specs.declared.Making.{Making}
+use Rattle.plans.specs.declared.Likeness.{Likeness}
+use Rattle.plans.specs.declared.Likeness.the-variants as Like
 use Rattle.plans.specs.Plans.{shapeOf, rowsOf, planOf, isDraft, isPlan, packed, blank}
 
 abbrev pub reasonOf : Of.Reason → Reason
@@ -62,17 +66,47 @@ abbrev pub making : Of.Answer → Making
 making (Of.Granted p) = record { answer = Granted; plan = packed p }
 making (Of.Refused r) = record { answer = Refused (Of.refusalNumber r); plan = blank }
 
+abbrev pub refusing : ℕ → Making
+refusing number = record { answer = Refused number; plan = blank }
+
 abbrev pub noPlan : Making
-noPlan = record { answer = Refused 15; plan = blank }
+noPlan = refusing 15
+
+-- two plans one after the other, where both are plans
+abbrev pub composing : Plan → Plan → Making
+composing a b = making (Of.followed (planOf a) (planOf b))
 
 -- F: 15, 10, 11
 unfoldable pub following : Plan → Plan → Making
-following a b = elim (isPlan a && isPlan b) [ true ↦ making (Of.followed (planOf a) (planOf b)) | false ↦ noPlan ]
+following a b = elim (isPlan a && isPlan b) [ true ↦ composing a b | false ↦ noPlan ]
 
 -- I: 15
 unfoldable pub inverting : Plan → Making
 inverting a = elim (isPlan a) [ true ↦ making (Of.inverted (planOf a)) | false ↦ noPlan ]
 
+-- n times a plan in a row, with every power on the way within the limits
+abbrev pub repeated : Option Table → Shape → Making
+repeated (some t) s = making (Of.Granted (record { shape = s; rows = t }))
+repeated none s = making (Of.Refused Of.LimitBroken)
+
+abbrev pub repeating : PlanOf → ℕ → Making
+repeating a n = repeated (Of.raised (a .shape) (a .rows) n) (a .shape)
+
+-- the number of a size, below zero or not
+abbrev pub signed : Bool → ℕ → ℤ
+signed false n = pos n
+signed true zero = pos zero
+signed true (suc n) = negsuc n
+
 -- K: 15, 12, 11
 unfoldable pub raising : Plan → ℤ → Making
 raising a k = elim (isPlan a) [ true ↦ making (Of.powered (planOf a) k) | false ↦ noPlan ]
+
+-- whether two plans act alike, or the number of the refusal
+abbrev pub likeness : Of.Comparison → Likeness
+likeness (Of.Alike b) = Like.Alike b
+likeness (Of.NotCompared r) = Like.Refused (Of.refusalNumber r)
+
+-- S: 15, 10
+unfoldable pub alike : Plan → Plan → Likeness
+alike a b = elim (isPlan a && isPlan b) [ true ↦ likeness (Of.same (planOf a) (planOf b)) | false ↦ Like.Refused 15 ]

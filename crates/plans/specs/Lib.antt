@@ -3,3 +3,4 @@
 pub mod Plans
 pub mod Answers
 pub mod Keeping
+pub mod Filled

@@ -1,7 +1,9 @@
 // The library of plans (document 01, "Plans"). A plan is two columns of packed words; the calls judge drafts, keep, follow, invert,
 // repeat, compare, route by and list plans. Each takes any value and refuses what is no plan: its promise is one equality with an
 // answer of the crate `higman`, through the words that the packed numbers hold.
+pub mod comparing;
 pub mod drafts;
+pub mod following;
 pub mod kept;
 
 // A shape and the pairs of a plan, or of a draft of one, at the first places of two columns; the other places are zero.
@@ -52,4 +54,10 @@ pub enum Answer {
 pub struct Making {
     pub answer: Answer,
     pub plan: Plan,
+}
+
+// Whether two plans act alike, or the number of the refusal.
+pub enum Likeness {
+    Alike(bool),
+    Refused(u8),
 }

@@ -1,0 +1,114 @@
+-- What the test of a kept plan says of a value: its pairs are few, its plan is kept, and its columns are those that words are looked
+-- up in, packed and in order.
+use Prim.Native.Nat.{ℕ, _≤_}
+use mathlib.Core.Path.{_≡_, refl, sym, _∙_, subst}
+use mathlib.Core.Bool.{true, false, _&&_}
+use mathlib.Core.List.{List, [], _∷_, List·Memᴰ, Memᴰ·map, Memᴰ·of-map}
+use lib.Dec.{T, leb, leb→le}
+use lib.ListN.{length, take, drop}
+use lib.Seq.{length-take-le}
+use Rattle.higman.specs.Words.{Shape, Word, isWord, begins}
+use Rattle.higman.specs.Bases.{all, overlap}
+use Rattle.higman.specs.Tables.{Pair, froms, tos}
+use Rattle.higman.specs.Normal.{before, ordered}
+use Rattle.higman.specs.Limits.{Kept, shapeInRange, granted, fits, pairFits, maxPairs}
+use Rattle.higman.specs.Answers.{isKept}
+use Rattle.higman.proofs.Tests.{so, T-of, and-left, and-right, and-intro, or-true-left, all-at, all-of}
+use Rattle.higman.proofs.Columns.{column-is-basis}
+use Rattle.higman.proofs.KeptPlans.{arity-of-range}
+use Rattle.higman.proofs.Statements.{answers-exact}
+use Rattle.words.specs.Packed.{unpack, isPacked}
+use Rattle.words.specs.Bytes.{isPlanWord}
+use Rattle.words.proofs.Packed.{packed-word}
+use Rattle.tables.specs.Packed.{wordsOf, inOrder, sorted}
+use Rattle.tables.specs.Spreading.{packedWords, Plain, Operand}
+use Rattle.tables.proofs.Rearranged.{froms-table, tos-table}
+use Rattle.plans.specs.declared.Plan.{Plan}
+use Rattle.plans.specs.Plans.{shapeOf, rowsOf, planOf, zeros, inTable, isPlan}
+
+-- the order of document 01 is the order in which columns are sorted
+sorted-of-ordered : (c : List Word) → ordered c ≡ true → sorted c ≡ true
+sorted-of-ordered [] e = refl
+sorted-of-ordered (w ∷ c) e =
+    let h = T-of e in
+    so (sorted (w ∷ c))
+    (and-intro (all (inOrder w) c) (sorted c)
+    (all-of (inOrder w) c (λ v m. T-of (or-true-left (before w v) (begins w v) (so (before w v) (all-at (before w) c (and-left (all (before w) c) (ordered c) h) v m)))))
+    (T-of (sorted-of-ordered c (so (ordered c) (and-right (all (before w) c) (ordered c) h)))))
+
+-- numbers that hold words of a shape in range are packed
+packed-column : (s : Shape) (l : List ℕ) → T (shapeInRange s) → ((w : Word) → List·Memᴰ w (wordsOf l) → T (isPlanWord s w)) → packedWords l
+packed-column s l r h = all-of isPacked l (λ x m. packed-word s x r (h (unpack x) (Memᴰ·map unpack m)))
+
+pub pair-limit : maxPairs ≡ 128
+unfolding maxPairs
+pair-limit = refl
+
+module _ (p : Plan) (h : isPlan p ≡ true) where
+  few : T (inTable p)
+  unfolding isPlan
+  few = and-left (inTable p) (isKept (planOf p)) (T-of h)
+
+  pub pairs-few : p .pairs ≤ maxPairs
+  unfolding inTable
+  pairs-few =
+      let small = leb (p .pairs) maxPairs in
+      let from = zeros (drop (p .pairs) (p .from)) in
+      let to = zeros (drop (p .pairs) (p .to)) in
+      leb→le (p .pairs) maxPairs (and-left small from (and-left (small && from) to few))
+
+  pub kept : Kept (planOf p)
+  unfolding isPlan
+  kept = answers-exact .kept-test (planOf p) .0 (and-right (inTable p) (isKept (planOf p)) (T-of h))
+
+  abbrev s : Shape
+  s = shapeOf p
+
+  arity-low : 1 ≤ s .arity
+  arity-low = arity-of-range s (kept .in-range)
+
+  row-fits : (q : Pair) → List·Memᴰ q (rowsOf p) → T (pairFits q)
+  unfolding granted
+  row-fits = all-at pairFits (rowsOf p) (and-right (leb (length (rowsOf p)) maxPairs) (all pairFits (rowsOf p)) (kept .within))
+
+  from-words : (w : Word) → List·Memᴰ w (froms (rowsOf p)) → T (isPlanWord s w)
+  unfolding isPlanWord
+  from-words w m =
+      let (q, k, e) = Memᴰ·of-map (λ r. r .from) (rowsOf p) m in
+      and-intro (isWord s w) (fits w)
+      (all-at (isWord s) (froms (rowsOf p)) (column-is-basis s arity-low (froms (rowsOf p)) .0 (kept .bases .from-basis) .words) w m)
+      (subst (λ u. T (fits u)) e (and-left (fits (q .from)) (fits (q .to)) (row-fits q k)))
+
+  to-words : (w : Word) → List·Memᴰ w (tos (rowsOf p)) → T (isPlanWord s w)
+  unfolding isPlanWord
+  to-words w m =
+      let (q, k, e) = Memᴰ·of-map (λ r. r .to) (rowsOf p) m in
+      and-intro (isWord s w) (fits w)
+      (all-at (isWord s) (tos (rowsOf p)) (column-is-basis s arity-low (tos (rowsOf p)) .0 (kept .bases .to-basis) .words) w m)
+      (subst (λ u. T (fits u)) e (and-right (fits (q .from)) (fits (q .to)) (row-fits q k)))
+
+  module _ (lf : p .pairs ≤ length (p .from)) (lt : p .pairs ≤ length (p .to)) where
+    abbrev from : List ℕ
+    from = take (p .pairs) (p .from)
+
+    abbrev to : List ℕ
+    to = take (p .pairs) (p .to)
+
+    paired : length from ≡ length to
+    paired = length-take-le (p .pairs) (p .from) lf ∙ sym (length-take-le (p .pairs) (p .to) lt)
+
+    pub plain : Plain from to
+    plain =
+        record {
+          long = paired;
+          from-packed = packed-column s from (kept .in-range) (λ w m. from-words w (subst (List·Memᴰ w) (sym (froms-table from to paired)) m));
+          to-packed = packed-column s to (kept .in-range) (λ w m. to-words w (subst (List·Memᴰ w) (sym (tos-table from to paired)) m));
+        }
+
+    pub operand : Operand from to
+    operand =
+        record {
+          plain = plain;
+          in-order = sorted-of-ordered (wordsOf from) (subst (λ c. ordered c ≡ true) (froms-table from to paired) (kept .in-order));
+          apart = subst (λ c. overlap c ≡ false) (froms-table from to paired) (column-is-basis s arity-low (froms (rowsOf p)) .0 (kept .bases .from-basis) .apart);
+        }

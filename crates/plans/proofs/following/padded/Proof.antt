@@ -1,0 +1,68 @@
+-- `plans::following::padded` meets its contract. The invariant: the first i places are the column's, and zeros stand behind them.
+-- The measure is what is left of n.
+use Prim.Native.Nat.{_≤_, _-_}
+use mathlib.Core.Path.{_≡_, _∙_, ap}
+use native.Mathlib.Omega.{arith}
+use lib.ListN.{getD, set}
+use Rattle.plans.specs.Filled.{filling}
+use Rattle.plans.proofs.Filled.{filling-start, filling-suc}
+use Rattle.plans.proofs.following.padded.Statement.{statement}
+use Rattle.plans.proofs.following.padded.Tie as tie
+
+abbrev Inv-loop : tie.InvT-loop
+Inv-loop column n places₀ i₀ places i = (i ≤ n) × (places ≡ filling i column)
+
+abbrev μ-loop : tie.MeasureT-loop
+μ-loop column n places₀ i₀ places i = n - i
+
+loop-holds : tie.Need-loop-holds Inv-loop μ-loop
+loop-holds c = (omega arith, filling-start (c .args .column .now))
+
+mul-places : tie.Need-mul-places Inv-loop μ-loop
+mul-places c = omega arith
+
+shared-slice-read-places : tie.Need-shared-slice-read-places Inv-loop μ-loop
+shared-slice-read-places c = omega arith
+
+mul-places-2 : tie.Need-mul-places-2 Inv-loop μ-loop
+mul-places-2 c = omega arith
+
+array-write-places : tie.Need-array-write-places Inv-loop μ-loop
+array-write-places c = omega arith
+
+add-i : tie.Need-add-i Inv-loop μ-loop
+add-i c = omega arith
+
+loop-less : tie.Need-loop-less Inv-loop μ-loop
+loop-less c = omega arith
+
+loop-again : tie.Need-loop-again Inv-loop μ-loop
+loop-again c =
+    let l = c .before .before in
+    let column = l .before .args .column .now in (
+      omega arith,
+      ap (λ p. set p (l .loop .i) (getD column (l .loop .i) 0)) (l .loop .inv .1)
+          ∙ filling-suc column (l .loop .i) (omega arith) (omega arith),
+    )
+
+returns : tie.Need-returns Inv-loop μ-loop
+returns c =
+    let l = c .before in
+    let done : l .loop .i ≡ l .before .args .n = omega arith in
+    l .loop .inv .1 ∙ ap (λ i. filling i (l .before .args .column .now)) done
+
+pub padded-spec : {M : Type 1} → statement M
+padded-spec =
+    tie.close
+    (tie.spec
+    Inv-loop
+    μ-loop
+    loop-holds
+    mul-places
+    shared-slice-read-places
+    mul-places-2
+    array-write-places
+    add-i
+    loop-less
+    loop-again
+    returns)

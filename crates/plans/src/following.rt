@@ -1,0 +1,183 @@
+// Following (document 01, "Plans": "*a then b* applies a first"): the pairs of a plan and then another, reduced and held to the
+// limits. The pairs before reduction are written into columns of twice the size of a plan, since two plans have at most that many.
+// A power ("for k above zero, k times in a row; 0 is the plan that moves nothing") follows the plan by itself again and again, and the
+// first power that breaks a limit ends that with 11.
+ghost use mathlib.Core.Path.{_≡_};
+ghost use mathlib.Core.Bool.{true};
+ghost use Prim.Native.Nat.{_≤_};
+ghost use lib.Dec.{T};
+ghost use lib.ListN.{length};
+ghost use Rattle.higman.specs.Limits.{shapeInRange};
+ghost use Rattle.higman.specs.Answers.{identityPlan};
+ghost use Rattle.words.specs.Bytes.{shape};
+ghost use Rattle.plans.specs.Plans.{planOf, shapeOf, isPlan, packed};
+ghost use Rattle.plans.specs.Answers.{refusing, composing, following, repeating, signed, raising};
+ghost use Rattle.plans.specs.Filled.{filling, filledPlan};
+use crate::Answer;
+use crate::Making;
+use crate::Plan;
+use crate::kept;
+use tables::spreading::Spread;
+
+// The limit of pairs in a plan.
+const MAX_PAIRS: usize = 128;
+
+// The limit of a power's size.
+const MAX_POWER: u32 = 1000;
+
+// The first n numbers of a column, and zeros behind them.
+fn padded(column: &[u64], n: usize) -> [u64; 128]
+    requires { ⌜ (n ≤ 128) × (n ≤ length (now column)) ⌝ }
+    ensures { λ r. ⌜ r ≡ filling n (now (column .entry)) ⌝ }
+{
+    let mut places = [0u64; 128];
+    let mut i = 0;
+    while i < n {
+        places[i] = column[i];
+        i += 1;
+    }
+    places
+}
+
+// The plan of the first n pairs of two columns.
+fn filled(from: &[u64], to: &[u64], n: usize, arity: u8, roots: u8) -> Plan
+    requires { ⌜ (n ≤ 128) × (n ≤ length (now from)) × (n ≤ length (now to)) ⌝ }
+    ensures { λ r. ⌜ r ≡ filledPlan arity roots n (now (from .entry)) (now (to .entry)) ⌝ }
+{
+    let from_places = padded(from, n);
+    let to_places = padded(to, n);
+    Plan {
+        arity: arity,
+        roots: roots,
+        pairs: n,
+        from: from_places,
+        to: to_places,
+    }
+}
+
+// The answer that refuses with a number.
+fn refused(number: u8) -> Making
+    ensures { λ r. ⌜ r ≡ refusing number ⌝ }
+{
+    let plan = kept::blank();
+    Making {
+        answer: Answer::Refused(number),
+        plan: plan,
+    }
+}
+
+// Two plans of one shape, one after the other.
+fn composed(a: Plan, b: Plan) -> Making
+    requires { ⌜ (isPlan a ≡ true) × (isPlan b ≡ true) × (shapeOf a ≡ shapeOf b) ⌝ }
+    ensures { λ r. ⌜ r ≡ composing a b ⌝ }
+{
+    let first = a.pairs;
+    let a_from = a.from;
+    let a_to = a.to;
+    let second = b.pairs;
+    let b_from = b.from;
+    let b_to = b.to;
+    let mut froms = [0u64; 256];
+    let mut tos = [0u64; 256];
+    let Spread::Rows(n) = tables::spreading::spread_plans(
+        &a_from[..first],
+        &a_to[..first],
+        &b_from[..second],
+        &b_to[..second],
+        &mut froms,
+        &mut tos,
+    ) else {
+        return refused(11);
+    };
+    let mut out_from = [0u64; 256];
+    let mut out_to = [0u64; 256];
+    let arity = a.arity;
+    let roots = a.roots;
+    let pairs = tables::reduce::reduce(
+        &froms[..n],
+        &tos[..n],
+        &mut out_from,
+        &mut out_to,
+        arity,
+        roots,
+    );
+    if MAX_PAIRS < pairs {
+        return refused(11);
+    }
+    let plan = filled(&out_from, &out_to, pairs, arity, roots);
+    Making {
+        answer: Answer::Granted,
+        plan: plan,
+    }
+}
+
+// The plan that moves nothing: each belt to itself.
+fn identity(arity: u8, roots: u8) -> Plan
+    requires { ⌜ T (shapeInRange (shape arity roots)) ⌝ }
+    ensures { λ r. ⌜ r ≡ packed (identityPlan (shape arity roots)) ⌝ }
+{
+    let belts: [u64; 9] = [1, 2, 3, 4, 5, 6, 7, 8, 9];
+    let n = roots as usize;
+    filled(&belts, &belts, n, arity, roots)
+}
+
+// F: "a then b applies a first". 15, 10, 11.
+pub fn follow(a: Plan, b: Plan) -> Making
+    ensures { λ r. ⌜ r ≡ following a b ⌝ }
+{
+    if !kept::is_plan(a) {
+        return refused(15);
+    }
+    if !kept::is_plan(b) {
+        return refused(15);
+    }
+    if a.arity != b.arity {
+        return refused(10);
+    }
+    if a.roots != b.roots {
+        return refused(10);
+    }
+    composed(a, b)
+}
+
+// A plan n times in a row.
+fn repeat(a: Plan, n: u32) -> Making
+    requires { ⌜ isPlan a ≡ true ⌝ }
+    ensures { λ r. ⌜ r ≡ repeating (planOf a) n ⌝ }
+{
+    let arity = a.arity;
+    let roots = a.roots;
+    let mut power = identity(arity, roots);
+    let mut i: u32 = 0;
+    while i < n {
+        let made = composed(power, a);
+        let answer = made.answer;
+        let Answer::Granted = answer else {
+            return made;
+        };
+        power = made.plan;
+        i += 1;
+    }
+    Making {
+        answer: Answer::Granted,
+        plan: power,
+    }
+}
+
+// K: a power by its size and sign; "below zero, the power −k of the inverse". 15, 12, 11.
+pub fn power(a: Plan, size: u32, below: bool) -> Making
+    ensures { λ r. ⌜ r ≡ raising a (signed below size) ⌝ }
+{
+    if !kept::is_plan(a) {
+        return refused(15);
+    }
+    if MAX_POWER < size {
+        return refused(12);
+    }
+    if below {
+        let back = kept::inverse(a);
+        let plan = back.plan;
+        return repeat(plan, size);
+    }
+    repeat(a, size)
+}
