@@ -44,7 +44,8 @@ fn apply(edit: &str, target: &Path) {
 
 /// Builds a copy of the reference, spoiled by the edit of this name if it is
 /// to be, and gives the path of its program. Here a fast build is worth more
-/// than a fast program, so it is not optimised.
+/// than a fast program, so it is not optimised; and an edit may leave a
+/// function without a use, so a warning is no error.
 fn build(name: &str, edited: bool) -> PathBuf {
     let target = PathBuf::from(env!("CARGO_TARGET_TMPDIR")).join(name);
     copy_reference(&target);
@@ -56,6 +57,7 @@ fn build(name: &str, edited: bool) -> PathBuf {
         .args(["build", "--offline", "--quiet"])
         .arg("--target-dir")
         .arg(target.join("target"))
+        .env_remove("RUSTFLAGS")
         .current_dir(&target)
         .output()
         .unwrap();
