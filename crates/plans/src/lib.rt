@@ -1,6 +1,6 @@
-// The library of plans (document 01, "Plans"). A plan is two columns of packed words; the calls judge drafts, keep, follow, invert,
-// repeat, compare, route by and list plans. Each takes any value and refuses what is no plan: its promise is one equality with an
-// answer of the crate `higman`, through the words that the packed numbers hold.
+// The library of plans (document 01, "Plans"). A plan is two columns of packed words; the calls judge drafts and keep, follow, invert,
+// repeat and compare plans. Each takes any value and refuses what is no plan: its promise is one equality with an answer of the crate
+// `higman`, through the words that the packed numbers hold.
 pub mod comparing;
 pub mod drafts;
 pub mod following;
