@@ -2,21 +2,21 @@
 -- words that its numbers hold.
 use Prim.Native.Nat.{ℕ, suc, _+_, _-_, _≤_, _<_}
 use mathlib.Core.Path.{_≡_, refl, sym, _∙_, ap, ap₂}
-use mathlib.Core.List.{List, [], _∷_, _++_, map}
+use mathlib.Core.List.{List, _++_}
 use native.Mathlib.Numerals.{add-one}
 use native.Mathlib.Omega.{arith}
 use lib.ListN.{length, getD, take, set, replicate, length-map}
 use lib.Seq.{length-take-le, take-suc, set-at, append-snoc}
 use Rattle.higman.specs.Limits.{maxPairs}
-use Rattle.words.specs.Packed.{pack, unpack}
+use Rattle.words.specs.Packed.{unpack}
 use Rattle.words.specs.Bytes.{shape}
-use Rattle.words.proofs.Packing.{pack-unpack}
 use Rattle.tables.specs.Packed.{wordsOf}
 use Rattle.tables.specs.Reduction.{rows}
 use Rattle.tables.proofs.Rows.{rows-length}
 use Rattle.tables.proofs.Rearranged.{froms-table, tos-table}
 use Rattle.plans.specs.Plans.{column, packed}
 use Rattle.plans.specs.Filled.{filling, filledPlan}
+use Rattle.plans.proofs.Values.{packed-words}
 
 pub filling-start : (l : List ℕ) → replicate 128 0 ≡ filling 0 l
 unfolding maxPairs
@@ -33,13 +33,9 @@ filling-suc l i h k =
     ∙ ap₂ (λ f m. f ++ replicate m 0) (sym (take-suc l i 0 k)) less
     ∙ ap (λ j. filling j l) (sym (add-one i))
 
-repacked : (l : List ℕ) → map pack (wordsOf l) ≡ l
-repacked [] = refl
-repacked (x ∷ l) = ap₂ _∷_ (pack-unpack x) (repacked l)
-
 -- a column of the words that n numbers hold
 column-of : (l : List ℕ) (n : ℕ) → length l ≡ n → column (wordsOf l) ≡ l ++ replicate (maxPairs - n) 0
-column-of l n e = ap₂ (λ f k. f ++ replicate (maxPairs - k) 0) (repacked l) (length-map l unpack ∙ e)
+column-of l n e = ap₂ (λ f k. f ++ replicate (maxPairs - k) 0) (packed-words l) (length-map l unpack ∙ e)
 
 pub filled-packed : (arity roots n : ℕ) (from to : List ℕ) → n ≤ length from → n ≤ length to
     → filledPlan arity roots n from to ≡ packed (record { shape = shape arity roots; rows = rows n from to })
