@@ -15,3 +15,5 @@ pub mod Identity
 pub mod Repacked
 pub mod Raised
 pub mod Powered
+pub mod Codes
+pub mod Lists

@@ -2,5 +2,7 @@
 -- what keeping writes.
 pub mod Plans
 pub mod Answers
+pub mod Routing
+pub mod Listing
 pub mod Keeping
 pub mod Filled

@@ -5,6 +5,8 @@ pub mod comparing;
 pub mod drafts;
 pub mod following;
 pub mod kept;
+pub mod listing;
+pub mod routing;
 
 // A shape and the pairs of a plan, or of a draft of one, at the first places of two columns; the other places are zero.
 pub struct Plan {
@@ -59,5 +61,21 @@ pub struct Making {
 // Whether two plans act alike, or the number of the refusal.
 pub enum Likeness {
     Alike(bool),
+    Refused(u8),
+}
+
+// "A route replies with an image, a code too short, or another refusal."
+pub enum Route {
+    // the number of bytes of the image, which stand at the front of the buffer
+    Image(usize),
+    // the code is a proper beginning of a from-word: 13
+    TooShort,
+    // the number of another refusal
+    Refused(u8),
+}
+
+// How many bytes a listing has, which stand at the front of the buffer, or the number of the refusal.
+pub enum Listed {
+    Bytes(usize),
     Refused(u8),
 }

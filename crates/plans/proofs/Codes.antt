@@ -1,0 +1,127 @@
+-- Codes under a plan: when a code is one that a plan routes, and what match and route answer, case by case: 15, 4, and then by the image
+-- of the code.
+use Prim.Native.Nat.{ℕ, _≤_, _<_}
+use mathlib.Core.Path.{_≡_, refl, sym, _∙_, ap, subst}
+use mathlib.Core.Bool.{Bool, true, false, _&&_, and-true, and-false}
+use mathlib.Core.List.{List}
+use mathlib.Core.Option.{Option, none, some}
+use borrow.Author.Tests.{le-leb, lt-leb}
+use lib.Dec.{T, leb}
+use lib.ListN.{length, take, length-map}
+use lib.Seq.{length-take-le}
+use Rattle.higman.specs.Words.{Shape, Word, isWord}
+use Rattle.higman.specs.Tables.{image, froms}
+use Rattle.higman.specs.Limits.{shapeInRange, isCode, maxCode}
+use Rattle.higman.specs.Answers as Of
+use Rattle.higman.specs.Answers.{routed}
+use Rattle.higman.specs.Listing.{wordBytes}
+use Rattle.higman.proofs.Tests.{T-of, and-left, word-of-test}
+use Rattle.higman.proofs.KeptPlans.{in-range}
+use Rattle.words.specs.Bytes.{digitOf, digitsOf, written}
+use Rattle.words.proofs.Packed.{ways-of-word, test-of-ways}
+use Rattle.tables.specs.Packed.{wordsOf}
+use Rattle.tables.specs.Routing.{IsCode, Searchable, unmatched, routedIn, routedInto}
+use Rattle.tables.specs.declared.routing.Routed.{Routed}
+use Rattle.tables.specs.declared.routing.Routed.the-variants as Table
+use Rattle.tables.proofs.Rearranged.{froms-table}
+use Rattle.plans.specs.declared.Plan.{Plan}
+use Rattle.plans.specs.declared.Route.{Route}
+use Rattle.plans.specs.declared.Route.the-variants.{Image, TooShort, Refused}
+use Rattle.plans.specs.Plans.{shapeOf, rowsOf, planOf, isPlan}
+use Rattle.plans.specs.Routing.{matching, routingIn, imageInto, routing, routedBuffer}
+use Rattle.plans.proofs.KeptValues.{kept, operand}
+
+pub code-limit : maxCode ≡ 1024
+unfolding maxCode
+code-limit = refl
+
+module _ (s : Shape) (code : List ℕ) where
+  within : Bool → Bool
+  within b = isWord s (digitsOf code) && b
+
+  pub code-long : maxCode < length code → false ≡ isCode s (digitsOf code)
+  unfolding isCode within
+  code-long h =
+      sym (ap (λ n. within (leb n maxCode)) (length-map code digitOf) ∙ ap within (lt-leb (length code) maxCode h) ∙ and-false (isWord s (digitsOf code)))
+
+  pub code-short : length code ≤ maxCode → isWord s (digitsOf code) ≡ isCode s (digitsOf code)
+  unfolding isCode within
+  code-short h =
+      sym (ap (λ n. within (leb n maxCode)) (length-map code digitOf) ∙ ap within (le-leb (length code) maxCode h) ∙ and-true (isWord s (digitsOf code)))
+
+  -- the digits of such a code are those that packed words have
+  pub digits-of-code : T (shapeInRange s) → isCode s (digitsOf code) ≡ true → IsCode code
+  unfolding isCode
+  digits-of-code r h =
+      let w = digitsOf code in
+      let range = in-range s r in
+      test-of-ways 9 w (ways-of-word s w (range .arity-high) (range .roots-high) (word-of-test s w (and-left (isWord s w) (leb (length w) maxCode) (T-of h))))
+
+-- the reply to what was found in the columns
+abbrev pub replied : Routed → Route
+replied (Table.Image n) = Image n
+replied Table.TooShort = TooShort
+replied Table.NoRoom = Refused 14
+
+abbrev found : Option Word → Of.Route
+found o = elim o [ some v ↦ Of.Image v | none ↦ Of.TooShort ]
+
+replied-is : (o : Option Word) (room : ℕ) → replied (routedIn o room) ≡ routingIn (found o) room
+replied-is none room = refl
+replied-is (some v) room = go (leb (length v) room)
+  where
+    go : (b : Bool) → replied (elim b [ true ↦ Table.Image (length v) | false ↦ Table.NoRoom ]) ≡ elim b [ true ↦ Image (length v) | false ↦ Refused 14 ]
+    go true = refl
+    go false = refl
+
+buffer-is : (o : Option Word) (out : List ℕ) → routedInto o out ≡ imageInto (found o) out
+buffer-is none out = refl
+buffer-is (some v) out = refl
+
+module _ (p : Plan) (code : List ℕ) where
+  pub matching-no-plan : isPlan p ≡ false → code ≡ matching p code
+  unfolding matching
+  matching-no-plan h = sym (rw (h, matching))
+
+  pub routing-no-plan : (out : List ℕ) → isPlan p ≡ false → (Refused 15 ≡ routing p code (length out)) × (out ≡ routedBuffer p code out)
+  unfolding routing routedBuffer
+  routing-no-plan out h = (sym (rw (h, routing)), sym (rw (h, routedBuffer)))
+
+  module _ (h : isPlan p ≡ true) where
+    pub matching-no-code : isCode (shapeOf p) (digitsOf code) ≡ false → code ≡ matching p code
+    unfolding matching
+    matching-no-code k = sym (rw (h, k, matching))
+
+    pub routing-no-code : (out : List ℕ) → isCode (shapeOf p) (digitsOf code) ≡ false → (Refused 4 ≡ routing p code (length out)) × (out ≡ routedBuffer p code out)
+    unfolding routing routedBuffer routed
+    routing-no-code out k = (sym (rw (h, k, routing, routed)), sym (rw (h, k, routedBuffer, routed)))
+
+    module _ (k : isCode (shapeOf p) (digitsOf code) ≡ true) where
+      pub code-digits : IsCode code
+      code-digits = digits-of-code (shapeOf p) code (kept p h .in-range) k
+
+      routed-is : routed (planOf p) (digitsOf code) ≡ found (image (rowsOf p) (digitsOf code))
+      unfolding routed
+      routed-is = rw (k, routed)
+
+      pub routing-found : (out : List ℕ) (r : Routed) (out′ : List ℕ) → r ≡ routedIn (image (rowsOf p) (digitsOf code)) (length out)
+          → out′ ≡ routedInto (image (rowsOf p) (digitsOf code)) out → (replied r ≡ routing p code (length out)) × (out′ ≡ routedBuffer p code out)
+      unfolding routing routedBuffer
+      routing-found out r out′ e f =
+          let o = image (rowsOf p) (digitsOf code) in (
+            ap replied e ∙ replied-is o (length out) ∙ ap (λ x. routingIn x (length out)) (sym routed-is) ∙ sym (rw (h, routing)),
+            f ∙ buffer-is o out ∙ ap (λ x. imageInto x out) (sym routed-is) ∙ sym (rw (h, routedBuffer)),
+          )
+
+      module _ (lf : p .pairs ≤ length (p .from)) (lt : p .pairs ≤ length (p .to)) where
+        abbrev from : List ℕ
+        from = take (p .pairs) (p .from)
+
+        pub searchable : Searchable from
+        searchable = let o = operand p h lf lt in record { packed = o .plain .from-packed; in-order = o .in-order; apart = o .apart }
+
+        pub matching-found : unmatched (wordsOf from) code ≡ matching p code
+        unfolding matching
+        matching-found =
+            ap (λ c. unmatched c code) (sym (froms-table from (take (p .pairs) (p .to)) (length-take-le (p .pairs) (p .from) lf ∙ sym (length-take-le (p .pairs) (p .to) lt))))
+            ∙ sym (rw (h, k, matching))

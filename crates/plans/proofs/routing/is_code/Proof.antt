@@ -1,0 +1,24 @@
+-- `plans::routing::is_code` meets its contract.
+use mathlib.Core.Path.{_∙_}
+use borrow.Author.Needs.{needs}
+use native.Mathlib.Omega.{arith}
+use Rattle.words.specs.Bytes.{shape}
+use Rattle.plans.proofs.Codes.{code-limit, code-long, code-short}
+use Rattle.plans.proofs.routing.is_code.Statement.{statement}
+use Rattle.plans.proofs.routing.is_code.Tie as tie
+
+returns : tie.Need-returns
+returns c =
+    let a = c .before .before .args in
+    code-long (shape (a .arity) (a .roots)) (a .code .now) (omega (arith, code-limit))
+
+spells-requires : tie.Need-spells-requires
+spells-requires c κs = search needs
+
+returns-2 : tie.Need-returns-2
+returns-2 c =
+    let a = c .before .before .before .args in
+    c .spells .ensures ∙ code-short (shape (a .arity) (a .roots)) (a .code .now) (omega (arith, code-limit))
+
+pub is-code-spec : {M : Type 1} → statement M
+is-code-spec = tie.close (tie.spec returns spells-requires returns-2)

@@ -1,0 +1,60 @@
+// Matching and routing a code by a plan (document 01, "Records": "W .. `ok⇥` and the image", and "Forms"). The code is judged first; the
+// work is done by the crate `tables` on the plan's columns.
+ghost use mathlib.Core.Path.{_≡_};
+ghost use lib.ListN.{length};
+ghost use Rattle.higman.specs.Limits.{isCode};
+ghost use Rattle.words.specs.Bytes.{shape, digitsOf};
+ghost use Rattle.plans.specs.Routing.{matching, routing, routedBuffer};
+use crate::Plan;
+use crate::Route;
+use crate::kept;
+use tables::routing::Routed;
+
+// The limit of digits in a routed code.
+const MAX_CODE: usize = 1024;
+
+// Whether a code is one that a plan of the shape routes.
+fn is_code(code: &[u8], arity: u8, roots: u8) -> bool
+    ensures { λ r. ⌜ r ≡ isCode (shape arity roots) (digitsOf (now (code .entry))) ⌝ }
+{
+    if MAX_CODE < code.len() {
+        return false;
+    }
+    words::spells(code, arity, roots)
+}
+
+// The unmatched tail, as a part of the parcel's code; the whole code where no from-word begins it, or 15 or 4 applies.
+pub fn unmatched<'a>(p: Plan, code: &'a [u8]) -> &'a [u8]
+    ensures { λ r. ⌜ now r ≡ matching p (now (code .entry)) ⌝ }
+{
+    if !kept::is_plan(p) {
+        return code;
+    }
+    if !is_code(code, p.arity, p.roots) {
+        return code;
+    }
+    let n = p.pairs;
+    let from = p.from;
+    tables::routing::matched(&from[..n], code)
+}
+
+// W: writes a code's image at the front of the buffer. 15, 4, 13, 14.
+pub fn route(p: Plan, code: &[u8], out: &mut [u8]) -> Route
+    ensures { λ r. ⌜ r ≡ routing p (now (code .entry)) (length (now (out .entry))) ⌝ }
+    ensures { λ _. ⌜ now (out .exit) ≡ routedBuffer p (now (code .entry)) (now (out .entry)) ⌝ }
+{
+    if !kept::is_plan(p) {
+        return Route::Refused(15);
+    }
+    if !is_code(code, p.arity, p.roots) {
+        return Route::Refused(4);
+    }
+    let n = p.pairs;
+    let from = p.from;
+    let to = p.to;
+    match tables::routing::route_into(&from[..n], &to[..n], code, out) {
+        Routed::Image(digits) => Route::Image(digits),
+        Routed::TooShort => Route::TooShort,
+        Routed::NoRoom => Route::Refused(14),
+    }
+}
