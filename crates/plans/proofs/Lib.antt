@@ -14,6 +14,7 @@ pub mod Answered
 pub mod Identity
 pub mod Repacked
 pub mod Raised
+pub mod Signs
 pub mod Powered
 pub mod Codes
 pub mod Lists

@@ -92,12 +92,6 @@ repeated none s = making (Of.Refused Of.LimitBroken)
 abbrev pub repeating : PlanOf → ℕ → Making
 repeating a n = repeated (Of.raised (a .shape) (a .rows) n) (a .shape)
 
--- the number of a size, below zero or not
-abbrev pub signed : Bool → ℕ → ℤ
-signed false n = pos n
-signed true zero = pos zero
-signed true (suc n) = negsuc n
-
 -- K: 15, 12, 11
 unfoldable pub raising : Plan → ℤ → Making
 raising a k = elim (isPlan a) [ true ↦ making (Of.powered (planOf a) k) | false ↦ noPlan ]

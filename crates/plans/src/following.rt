@@ -11,7 +11,7 @@ ghost use Rattle.higman.specs.Limits.{shapeInRange};
 ghost use Rattle.higman.specs.Answers.{identityPlan};
 ghost use Rattle.words.specs.Bytes.{shape};
 ghost use Rattle.plans.specs.Plans.{planOf, shapeOf, isPlan, packed};
-ghost use Rattle.plans.specs.Answers.{refusing, composing, following, repeating, signed, raising};
+ghost use Rattle.plans.specs.Answers.{refusing, composing, following, repeating, raising};
 ghost use Rattle.plans.specs.Filled.{filling, filledPlan};
 use crate::Answer;
 use crate::Making;
@@ -22,8 +22,10 @@ use tables::spreading::Spread;
 // The limit of pairs in a plan.
 const MAX_PAIRS: usize = 128;
 
-// The limit of a power's size.
-const MAX_POWER: u32 = 1000;
+// The limits of a power.
+const MIN_POWER: i32 = -1000;
+
+const MAX_POWER: i32 = 1000;
 
 // The first n numbers of a column, and zeros behind them.
 fn padded(column: &[u64], n: usize) -> [u64; 128]
@@ -164,20 +166,23 @@ fn repeat(a: Plan, n: u32) -> Making
     }
 }
 
-// K: a power by its size and sign; "below zero, the power −k of the inverse". 15, 12, 11.
-pub fn power(a: Plan, size: u32, below: bool) -> Making
-    ensures { λ r. ⌜ r ≡ raising a (signed below size) ⌝ }
+// K: a power; "below zero, the power −k of the inverse". 15, 12, 11.
+pub fn power(a: Plan, k: i32) -> Making
+    ensures { λ r. ⌜ r ≡ raising a k ⌝ }
 {
     if !kept::is_plan(a) {
         return refused(15);
     }
-    if MAX_POWER < size {
+    if k < MIN_POWER {
         return refused(12);
     }
-    if below {
+    if MAX_POWER < k {
+        return refused(12);
+    }
+    if k < 0 {
         let back = kept::inverse(a);
         let plan = back.plan;
-        return repeat(plan, size);
+        return repeat(plan, (-k) as u32);
     }
-    repeat(a, size)
+    repeat(a, k as u32)
 }
