@@ -1,14 +1,18 @@
 -- What the calls on plans answer: the answers of higman, with 15 before them for a value that is no draft or plan. Where a call refuses,
 -- the plan beside the answer is the blank one.
 use Prim.Native.Nat.{ℕ, zero, suc}
+use mathlib.Core.Path.{_≡_, refl}
 use mathlib.Core.Bool.{Bool, true, false, _&&_}
+use mathlib.Core.List.{[], _∷_, map}
 use mathlib.Core.Option.{Option, none, some}
 use lib.IntN.{ℤ, pos, negsuc}
 use Rattle.higman.specs.Words.{Shape}
-use Rattle.higman.specs.Tables.{Table}
-use Rattle.higman.specs.Normal.{keep}
-use Rattle.higman.specs.Limits.{Plan as PlanOf}
+use Rattle.higman.specs.Tables.{Table, row, φ, ψ}
+use Rattle.higman.specs.Normal.{joined, normal, normalForm, keep, compose, identity}
+use Rattle.higman.specs.Limits.{Plan as PlanOf, shapeInRange, granted, maxPairs, maxDigits, maxPower}
 use Rattle.higman.specs.Answers as Of
+use Rattle.words.specs.Packed.{packOn, pack, unpackIn, unpack}
+use Rattle.words.specs.Bytes.{shape}
 use Rattle.plans.specs.declared.Plan.{Plan}
 use Rattle.plans.specs.declared.Reason.{Reason}
 use Rattle.plans.specs.declared.Reason.the-variants.{Overlap, Gap}
@@ -22,7 +26,7 @@ use Rattle.plans.specs.declared.Answer.the-variants.{Granted, Refused}
 use Rattle.plans.specs.declared.Making.{Making}
 use Rattle.plans.specs.declared.Likeness.{Likeness}
 use Rattle.plans.specs.declared.Likeness.the-variants as Like
-use Rattle.plans.specs.Plans.{shapeOf, rowsOf, planOf, isDraft, isPlan, packed, blank}
+use Rattle.plans.specs.Plans.{shapeOf, rowsOf, planOf, inTable, isDraft, isPlan, packed, blank}
 
 abbrev pub reasonOf : Of.Reason → Reason
 reasonOf Of.Overlap = Overlap
@@ -42,14 +46,22 @@ judgementOf (Of.InTo r) = InTo (reasonOf r)
 unfoldable pub judged : Plan → Judgement
 judged p = elim (isDraft p) [ true ↦ judgementOf (Of.verdict (shapeOf p) (rowsOf p)) | false ↦ NotADraft ]
 
--- the number that a judgement is refused with; 0 where it is not
+-- the number that a judgement is refused with, 0 where it is not, and "those of E for a column add ⇥F or ⇥T (from, to)"
+abbrev pub reasonNumber : Reason → ℕ
+reasonNumber Overlap = Of.reasonNumber Of.Overlap
+reasonNumber Gap = Of.reasonNumber Of.Gap
+
 abbrev pub judgementNumber : Judgement → ℕ
 judgementNumber NotADraft = 15
 judgementNumber Accepted = 0
-judgementNumber (InFrom Overlap) = Of.reasonNumber Of.Overlap
-judgementNumber (InFrom Gap) = Of.reasonNumber Of.Gap
-judgementNumber (InTo Overlap) = Of.reasonNumber Of.Overlap
-judgementNumber (InTo Gap) = Of.reasonNumber Of.Gap
+judgementNumber (InFrom r) = reasonNumber r
+judgementNumber (InTo r) = reasonNumber r
+
+abbrev pub judgementColumn : Judgement → ℕ
+judgementColumn NotADraft = 0
+judgementColumn Accepted = 0
+judgementColumn (InFrom r) = 70
+judgementColumn (InTo r) = 84
 
 -- the plan kept of a draft, "reduce and keep"
 abbrev pub keptOf : Plan → Judgement → Plan
@@ -65,6 +77,11 @@ keeping p = record { judgement = judged p; plan = keptOf p (judged p) }
 abbrev pub making : Of.Answer → Making
 making (Of.Granted p) = record { answer = Granted; plan = packed p }
 making (Of.Refused r) = record { answer = Refused (Of.refusalNumber r); plan = blank }
+
+-- the number of a refusal, 0 where a plan was made
+abbrev pub answerNumber : Answer → ℕ
+answerNumber Granted = 0
+answerNumber (Refused n) = n
 
 abbrev pub refusing : ℕ → Making
 refusing number = record { answer = Refused number; plan = blank }
@@ -104,3 +121,44 @@ likeness (Of.NotCompared r) = Like.Refused (Of.refusalNumber r)
 -- S: 15, 10
 unfoldable pub alike : Plan → Plan → Likeness
 alike a b = elim (isPlan a && isPlan b) [ true ↦ likeness (Of.same (planOf a) (planOf b)) | false ↦ Like.Refused 15 ]
+
+-- the number of a refusal, 0 where plans were compared, and what the comparison found
+abbrev pub likenessNumber : Likeness → ℕ
+likenessNumber (Like.Alike b) = 0
+likenessNumber (Like.Refused n) = n
+
+abbrev pub likenessValue : Likeness → Bool
+likenessValue (Like.Alike b) = b
+likenessValue (Like.Refused n) = false
+
+-- "6, one word begins or equals another; 7, a belt isn't covered", with the column's letter
+judgementNumber-example : map judgementNumber (Accepted ∷ InFrom Overlap ∷ InTo Gap ∷ NotADraft ∷ []) ≡ 0 ∷ 6 ∷ 7 ∷ 15 ∷ []
+judgementNumber-example = refl
+
+judgementColumn-example : map judgementColumn (Accepted ∷ InFrom Overlap ∷ InTo Gap ∷ NotADraft ∷ []) ≡ 0 ∷ 70 ∷ 84 ∷ 0 ∷ []
+judgementColumn-example = refl
+
+-- a value of shape (2,1), for examples
+abbrev value21 : Table → Plan
+value21 t = packed (record { shape = shape 2 1; rows = t })
+
+-- "11→11, 12→12 is kept as 1→1, one pair"; "to column 1, 11: 6, T"; no draft
+keeping-example : map keeping (value21 (row 11 11 ∷ row 12 12 ∷ []) ∷ value21 (row 11 1 ∷ row 12 11 ∷ []) ∷ blank ∷ [])
+    ≡ record { judgement = Accepted; plan = value21 (row 1 1 ∷ []) } ∷ record { judgement = InTo Overlap; plan = blank } ∷ record { judgement = NotADraft; plan = blank } ∷ []
+unfolding keeping judged isDraft inTable shapeInRange granted maxPairs maxDigits Of.verdict keep normalForm normal joined packed blank pack packOn unpack unpackIn
+keeping-example = refl
+
+-- φ squared; φ after what is no plan
+following-example : map (λ a. following a (value21 φ)) (value21 φ ∷ blank ∷ [])
+    ≡ record { answer = Granted; plan = value21 (row 111 112 ∷ row 112 111 ∷ row 121 122 ∷ row 122 121 ∷ []) } ∷ refusing 15 ∷ []
+unfolding following isPlan inTable Of.isKept shapeInRange granted maxPairs maxDigits Of.verdict Of.followed compose keep normalForm normal joined packed blank pack packOn unpack unpackIn
+following-example = refl
+
+-- "φ to the fourth: 1→1"; 1001 is 12
+raising-example : map (raising (value21 φ)) (pos 4 ∷ pos 1001 ∷ []) ≡ record { answer = Granted; plan = value21 (row 1 1 ∷ []) } ∷ refusing 12 ∷ []
+unfolding raising isPlan inTable Of.isKept shapeInRange granted maxPairs maxDigits maxPower Of.verdict Of.powered Of.raised compose identity keep normalForm normal joined packed blank pack packOn unpack unpackIn
+raising-example = refl
+
+alike-example : map (alike (value21 φ)) (value21 φ ∷ value21 ψ ∷ blank ∷ []) ≡ Like.Alike true ∷ Like.Alike false ∷ Like.Refused 15 ∷ []
+unfolding alike isPlan inTable Of.isKept shapeInRange granted maxPairs maxDigits Of.verdict Of.same keep normalForm normal joined packed blank pack packOn unpack unpackIn
+alike-example = refl

@@ -3,20 +3,21 @@
 use Prim.Native.Nat.{ℕ}
 use mathlib.Core.Path.{_≡_, refl}
 use mathlib.Core.Bool.{true, false}
-use mathlib.Core.List.{List, [], _∷_}
+use mathlib.Core.List.{List, [], _∷_, map}
 use lib.Dec.{leb}
 use lib.ListN.{length}
-use Rattle.higman.specs.Words.{spell}
-use Rattle.higman.specs.Tables.{froms}
-use Rattle.higman.specs.Limits.{isCode}
+use Rattle.higman.specs.Tables.{froms, ψ}
+use Rattle.higman.specs.Normal.{joined, normal, normalForm, keep}
+use Rattle.higman.specs.Limits.{shapeInRange, granted, isCode, maxPairs, maxDigits, maxCode}
 use Rattle.higman.specs.Answers as Of
 use Rattle.higman.specs.Listing.{wordBytes}
-use Rattle.words.specs.Bytes.{digitsOf, written}
+use Rattle.words.specs.Packed.{packOn, pack, unpackIn, unpack}
+use Rattle.words.specs.Bytes.{shape, digitOf, digitsOf, written}
 use Rattle.tables.specs.Routing.{unmatched}
 use Rattle.plans.specs.declared.Plan.{Plan}
 use Rattle.plans.specs.declared.Route.{Route}
 use Rattle.plans.specs.declared.Route.the-variants.{Image, TooShort, Refused}
-use Rattle.plans.specs.Plans.{shapeOf, rowsOf, planOf, isPlan}
+use Rattle.plans.specs.Plans.{shapeOf, rowsOf, planOf, inTable, isPlan, packed, blank}
 
 -- "The library's match hands back the unmatched tail .. Where no from-word begins the code, or 15 or 4 applies, that part is the whole
 -- code."
@@ -54,9 +55,26 @@ routingNumber (Image n) = 0
 routingNumber TooShort = 13
 routingNumber (Refused n) = n
 
--- room for all four bytes of an image, for three of them, and a code that is too short
-routingIn-example : (routingIn (Of.Image (spell 1212)) 4 ≡ Image 4) × (routingIn (Of.Image (spell 1212)) 3 ≡ Refused 14) × (routingIn Of.TooShort 4 ≡ TooShort)
-routingIn-example = (refl, refl, refl)
+-- the number of bytes written, 0 where there is a refusal
+abbrev pub routingLength : Route → ℕ
+routingLength (Image n) = n
+routingLength TooShort = 0
+routingLength (Refused n) = 0
 
-imageInto-example : (imageInto (Of.Image (spell 12)) (7 ∷ 7 ∷ 7 ∷ []) ≡ 49 ∷ 50 ∷ 7 ∷ []) × (imageInto (Of.Image (spell 12)) (7 ∷ []) ≡ 7 ∷ [])
-imageInto-example = (refl, refl)
+-- ψ, for examples
+abbrev value : Plan
+value = packed (record { shape = shape 2 1; rows = ψ })
+
+-- 1122 behind 112; 13, which has a wrong digit; 1122 by what is no plan
+matching-example : (matching value (49 ∷ 49 ∷ 50 ∷ 50 ∷ []) ≡ 50 ∷ []) × (matching value (49 ∷ 51 ∷ []) ≡ 49 ∷ 51 ∷ []) × (matching blank (49 ∷ 49 ∷ 50 ∷ 50 ∷ []) ≡ 49 ∷ 49 ∷ 50 ∷ 50 ∷ [])
+unfolding matching isPlan inTable Of.isKept isCode maxCode shapeInRange granted maxPairs maxDigits Of.verdict keep normalForm normal joined packed blank pack packOn unpack unpackIn digitOf
+matching-example = (refl, refl, refl)
+
+-- 1122 goes to 1212, with room for all of it and for three bytes; 11 is too short, and 13 has a wrong digit
+routing-example : (routing value (49 ∷ 49 ∷ 50 ∷ 50 ∷ []) 4 ≡ Image 4) × (routing value (49 ∷ 49 ∷ 50 ∷ 50 ∷ []) 3 ≡ Refused 14) × (routing value (49 ∷ 49 ∷ []) 4 ≡ TooShort) × (routing value (49 ∷ 51 ∷ []) 4 ≡ Refused 4)
+unfolding routing Of.routed isPlan inTable Of.isKept isCode maxCode shapeInRange granted maxPairs maxDigits Of.verdict keep normalForm normal joined packed pack packOn unpack unpackIn digitOf
+routing-example = (refl, refl, refl, refl)
+
+routedBuffer-example : map (routedBuffer value (49 ∷ 49 ∷ 50 ∷ 50 ∷ [])) ((7 ∷ 7 ∷ 7 ∷ 7 ∷ 7 ∷ []) ∷ (7 ∷ 7 ∷ 7 ∷ []) ∷ []) ≡ (49 ∷ 50 ∷ 49 ∷ 50 ∷ 7 ∷ []) ∷ (7 ∷ 7 ∷ 7 ∷ []) ∷ []
+unfolding routedBuffer Of.routed isPlan inTable Of.isKept isCode maxCode shapeInRange granted maxPairs maxDigits Of.verdict keep normalForm normal joined packed pack packOn unpack unpackIn digitOf
+routedBuffer-example = refl

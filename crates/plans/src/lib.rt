@@ -1,6 +1,6 @@
-// The library of plans (document 01, "Plans"). A plan is two columns of packed words; the calls judge drafts and keep, follow, invert,
-// repeat and compare plans. Each takes any value and refuses what is no plan: its promise is one equality with an answer of the crate
-// `higman`, through the words that the packed numbers hold.
+// The library of plans (document 01, "Plans"). A plan is two columns of packed words; the calls judge drafts, keep, follow, invert,
+// repeat, compare and list plans, and route codes by them. Each takes any value and refuses what is no plan: its promise is one equality
+// with an answer of the crate `higman`, through the words that the packed numbers hold, and one with what a lent buffer then holds.
 pub mod comparing;
 pub mod drafts;
 pub mod following;
@@ -8,7 +8,9 @@ pub mod kept;
 pub mod listing;
 pub mod routing;
 
-// A shape and the pairs of a plan, or of a draft of one, at the first places of two columns; the other places are zero.
+// A shape and the pairs of a plan, or of a draft of one, at the first places of two columns; the other places are zero. Programs in C
+// and Rust hold it too (the crate `plans_c`).
+#[repr(C)]
 pub struct Plan {
     pub arity: u8,
     pub roots: u8,

@@ -1,0 +1,44 @@
+-- The answers of the crate `plans` as a C program has them: the number of a refusal, or 0, and beside it what was answered.
+use mathlib.Core.Path.{_≡_, refl}
+use Rattle.plans.specs.declared.Judgement.{Judgement}
+use Rattle.plans.specs.declared.Judgement.the-variants.{InTo}
+use Rattle.plans.specs.declared.Reason.the-variants.{Gap}
+use Rattle.plans.specs.declared.Keeping.{Keeping}
+use Rattle.plans.specs.declared.Making.{Making}
+use Rattle.plans.specs.declared.Likeness.{Likeness}
+use Rattle.plans.specs.declared.Route.{Route}
+use Rattle.plans.specs.declared.Route.the-variants.{Image, TooShort}
+use Rattle.plans.specs.declared.Listed.{Listed}
+use Rattle.plans.specs.Answers.{judgementNumber, judgementColumn, answerNumber, likenessNumber, likenessValue}
+use Rattle.plans.specs.Routing.{routingNumber, routingLength}
+use Rattle.plans.specs.Listing.{listedNumber, listedLength}
+use Rattle.plans_c.specs.declared.Verdict.{Verdict}
+use Rattle.plans_c.specs.declared.Kept.{Kept}
+use Rattle.plans_c.specs.declared.Made.{Made}
+use Rattle.plans_c.specs.declared.Compared.{Compared}
+use Rattle.plans_c.specs.declared.Written.{Written}
+
+abbrev pub verdictOf : Judgement → Verdict
+verdictOf j = record { number = judgementNumber j; column = judgementColumn j }
+
+abbrev pub keptOf : Keeping → Kept
+keptOf k = record { number = judgementNumber (k .judgement); column = judgementColumn (k .judgement); plan = k .plan }
+
+abbrev pub madeOf : Making → Made
+madeOf m = record { number = answerNumber (m .answer); plan = m .plan }
+
+abbrev pub comparedOf : Likeness → Compared
+comparedOf l = record { number = likenessNumber l; alike = likenessValue l }
+
+abbrev pub routedOf : Route → Written
+routedOf r = record { number = routingNumber r; length = routingLength r }
+
+abbrev pub listedOf : Listed → Written
+listedOf l = record { number = listedNumber l; length = listedLength l }
+
+-- a gap in the to column, an image of four digits, and a code that is too short
+verdictOf-example : verdictOf (InTo Gap) ≡ record { number = 7; column = 84 }
+verdictOf-example = refl
+
+routedOf-example : (routedOf (Image 4) ≡ record { number = 0; length = 4 }) × (routedOf TooShort ≡ record { number = 13; length = 0 })
+routedOf-example = (refl, refl)
