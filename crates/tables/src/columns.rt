@@ -18,10 +18,7 @@ const MAX_WAYS: u8 = 15;
 pub fn in_order(u: u64, v: u64) -> bool
     ensures { λ r. ⌜ r ≡ inOrder (unpack u) (unpack v) ⌝ }
 {
-    if words::before(u, v) {
-        return true;
-    }
-    words::begins(u, v)
+    words::in_order(u, v)
 }
 
 // The number of words at the front of a sorted column that are in order with w.

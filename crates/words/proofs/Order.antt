@@ -3,21 +3,21 @@
 use Prim.Native.Nat.{ℕ, _+_, _*_, _-_, _/_, _^_, _≤_, _<_}
 use mathlib.Core.Path.{_≡_, refl, sym, _∙_, ap, ap₂, subst}
 use mathlib.Core.Logic.{_⊎_, inl, inr}
-use mathlib.Core.Bool.{true, false, _&&_, _||_}
+use mathlib.Core.Bool.{true, false, _&&_, _||_, or-false}
 use mathlib.Core.List.{[], _∷_, _++_}
 use native.Mathlib.Omega.{arith}
 use lib.Arith.{digits-lt}
-use lib.Dec.{ltb, eqb}
+use lib.Dec.{leb, ltb, eqb}
 use lib.ListN.{length}
-use borrow.Author.Tests.{lt-ltb, le-ltb, ltb-true, ltb-false, eqb-true, eqb-false}
-use Rattle.higman.specs.Words.{Word}
+use borrow.Author.Tests.{lt-ltb, le-ltb, le-leb, lt-leb, ltb-true, ltb-false, eqb-true, eqb-false}
+use Rattle.higman.specs.Words.{Word, begins}
 use Rattle.higman.specs.Normal.{before}
 use Rattle.higman.proofs.Tests.{passes}
 use Rattle.words.specs.Packed.{pack, unpack}
 use Rattle.words.proofs.Packing.{pack-empty, pack-unpack}
 use Rattle.words.proofs.Sizes.{unpack-front}
 use Rattle.words.proofs.Bounds.{Nibbles, unpack-nibbles, pack-cons, pack-below}
-use Rattle.words.proofs.Prefixes.{front-length}
+use Rattle.words.proofs.Prefixes.{front-length, begins-longer, begins-shifted}
 
 -- what stands before the digits that differ does not matter
 ltb-behind : (n x y : ℕ) → ltb (n + x) (n + y) ≡ ltb x y
@@ -86,3 +86,21 @@ before-shorter u v h =
     let f = unpack-front k u (omega arith) in
     let l : length (unpack (u / 16 ^ k)) ≡ length (unpack v) = omega (arith, front-length k u (omega arith)) in
     ap (λ w. before w (unpack v)) (f .1) ∙ front-before (unpack (u / 16 ^ k)) (f .0) (unpack v) (omega arith) ∙ same-size (u / 16 ^ k) v l
+
+-- before a word or at its beginning: of the same length, at most the number
+leb-or : (x y : ℕ) → (ltb x y || eqb y x) ≡ leb x y
+leb-or x y = go (passes (ltb x y)) (passes (eqb y x))
+  where
+    go : (ltb x y ≡ true) ⊎ (ltb x y ≡ false) → (eqb y x ≡ true) ⊎ (eqb y x ≡ false) → (ltb x y || eqb y x) ≡ leb x y
+    go (inl t) e = ap (λ s. s || eqb y x) t ∙ sym (le-leb x y (omega (arith, ltb-true x y t)))
+    go (inr f) (inl e) = ap₂ _||_ f e ∙ sym (le-leb x y (omega (arith, eqb-true y x e)))
+    go (inr f) (inr n) = ap₂ _||_ f n ∙ sym (lt-leb x y (omega (arith, ltb-false x y f, eqb-false y x n)))
+
+pub in-order-longer : (u v : ℕ) → length (unpack u) ≤ length (unpack v) → (before (unpack u) (unpack v) || begins (unpack u) (unpack v)) ≡ leb u (v / 16 ^ (length (unpack v) - length (unpack u)))
+in-order-longer u v h =
+    ap₂ _||_ (before-longer u v h) (sym (begins-shifted u v h)) ∙ leb-or u (v / 16 ^ (length (unpack v) - length (unpack u)))
+
+pub in-order-shorter : (u v : ℕ) → length (unpack v) < length (unpack u) → (before (unpack u) (unpack v) || begins (unpack u) (unpack v)) ≡ ltb (u / 16 ^ (length (unpack u) - length (unpack v))) v
+in-order-shorter u v h =
+    ap₂ _||_ (before-shorter u v (omega arith)) (begins-longer (unpack u) (unpack v) h)
+    ∙ or-false (ltb (u / 16 ^ (length (unpack u) - length (unpack v))) v)
