@@ -65,14 +65,14 @@ or-true-left true b e = refl
 or-true-left false b e = absurd (clash e refl)
 
 module _ {A : Type 0} (f : A → Bool) where
-  all-head : (a : A) (l : List A) → T (all f (a ∷ l)) → T (f a)
+  pub all-head : (a : A) (l : List A) → T (all f (a ∷ l)) → T (f a)
   all-head a l t = go (f a) t
     where
       go : (b : Bool) → T (elim b [ true ↦ all f l | false ↦ false ]) → T b
       go true h = tt
       go false h = h
 
-  all-tail : (a : A) (l : List A) → T (all f (a ∷ l)) → T (all f l)
+  pub all-tail : (a : A) (l : List A) → T (all f (a ∷ l)) → T (all f l)
   all-tail a l t = go (f a) t
     where
       go : (b : Bool) → T (elim b [ true ↦ all f l | false ↦ false ]) → T (all f l)

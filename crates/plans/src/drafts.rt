@@ -97,7 +97,7 @@ pub fn is_draft(p: Plan) -> bool
 
 // What is wrong with a column, overlap before gap. It is sorted for that, together with the values, which nothing is asked about.
 fn fault_in(keys: &mut [u64], values: &mut [u64], arity: u8, roots: u8) -> Fault
-    requires { ⌜ (length (now keys) ≡ length (now values)) × T (shapeInRange (shape arity roots)) ⌝ }
+    requires { ⌜ (length (now keys) ≡ length (now values)) × T (shapeInRange (shape arity roots)) × (length (now keys) ≤ maxPairs) ⌝ }
     ensures { λ r. ⌜ r ≡ faultOf (fault (shape arity roots) (wordsOf (now (keys .entry)))) ⌝ }
 {
     sorting::sort(keys, values);

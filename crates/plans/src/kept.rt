@@ -7,7 +7,7 @@ ghost use Prim.Native.Nat.{_-_, _≤_};
 ghost use lib.Dec.{T};
 ghost use lib.ListN.{length, take, replicate};
 ghost use Rattle.higman.specs.Normal.{keep};
-ghost use Rattle.higman.specs.Limits.{Bases, shapeInRange};
+ghost use Rattle.higman.specs.Limits.{Bases, shapeInRange, maxPairs};
 ghost use Rattle.words.specs.Bytes.{shape};
 ghost use Rattle.tables.specs.Packed.{table};
 ghost use Rattle.tables.specs.Reduction.{rows};
@@ -46,7 +46,7 @@ fn keep_into(
     roots: u8,
 ) -> usize
     requires { ⌜ (length (now keys) ≡ length (now values)) × (length (now keys) ≤ length (now «out_from»)) × (length (now keys) ≤ length (now «out_to»))
-        × T (shapeInRange (shape arity roots)) × Bases (shape arity roots) (table (now keys) (now values)) ⌝ }
+        × T (shapeInRange (shape arity roots)) × Bases (shape arity roots) (table (now keys) (now values)) × (length (now keys) ≤ maxPairs) ⌝ }
     ensures { λ r. ⌜ KeptColumns (shape arity roots) (table (now (keys .entry)) (now (values .entry))) (now («out_from» .entry)) (now («out_to» .entry))
         (now («out_from» .exit)) (now («out_to» .exit)) r ⌝ }
 {

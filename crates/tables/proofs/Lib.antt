@@ -10,6 +10,7 @@ pub mod Rearranged
 pub mod Writing
 pub mod Records
 pub mod Rows
+pub mod Merging
 pub mod Cuts
 pub mod Joins
 pub mod Steps

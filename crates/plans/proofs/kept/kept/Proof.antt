@@ -39,11 +39,12 @@ slice-aggregate-keep-into-4 : tie.Need-slice-aggregate-keep-into-4
 slice-aggregate-keep-into-4 c = search needs
 
 keep-into-requires : tie.Need-keep-into-requires
+unfolding maxPairs
 keep-into-requires c κs =
     let z = c .before .before .before .before in
     let f = length-take-le (z .args .n) (z .args .from) (from-inside z) in
     let t = length-take-le (z .args .n) (z .args .to) (to-inside z) in
-    (f ∙ sym t, omega (arith, f, z .pre .0), omega (arith, f, z .pre .0), z .pre .1, z .pre .2)
+    (f ∙ sym t, omega (arith, f, z .pre .0), omega (arith, f, z .pre .0), z .pre .1, z .pre .2, omega (arith, f, z .pre .0))
 
 returns : tie.Need-returns
 unfolding maxPairs
