@@ -55,6 +55,12 @@ module _ (n : ℕ) (c : List Word) where
       let ways : n ≡ n + 1 - 1 = omega arith in
       parts d w e ∙ ap₂ (λ m k. all (λ i. covered n c m (child w i)) (count 1 k)) below ways
 
+-- a block is not covered if neither it nor, way by way, a first part is listed
+pub uncovered : (m : ℕ) (c : List Word) (P : Word → Type 0) → ((w : Word) → P w → listed w c ≡ false) → ((w : Word) → P w → P (child w 1)) → (d : ℕ) (w : Word) → P w → covered (suc m) c d w ≡ false
+uncovered m c P none down zero w h = none w h
+uncovered m c P none down (suc d) w h =
+    parts (suc m) c d w (none w h) ∙ rw (uncovered m c P none down d (child w 1) (down w h), all) refl
+
 pub child-length : (w : Word) (i : ℕ) → length (child w i) ≡ length w + 1
 child-length w i = length-append w (i ∷ [])
 
@@ -66,11 +72,10 @@ unlisted (u ∷ c) w h = or-false (sameWord w u) (listed w c) other (unlisted c 
     other : sameWord w u ≡ false
     other = ⊎-elim (λ t. absurd (omega (arith, ap length (same-word w u (T-of t))))) (λ f. f) (passes (sameWord w u))
 
--- and, where a block has a part, not covered
-uncovered : (m : ℕ) (c : List Word) (d : ℕ) (w : Word) → longest c < length w → covered (suc m) c d w ≡ false
-uncovered m c zero w h = unlisted c w h
-uncovered m c (suc d) w h =
-    parts (suc m) c d w (unlisted c w h) ∙ rw (uncovered m c d (child w 1) (omega (arith, child-length w 1)), all) refl
+-- nor is, where a block has a part, the block covered
+too-deep : (m : ℕ) (c : List Word) (d : ℕ) (w : Word) → longest c < length w → covered (suc m) c d w ≡ false
+too-deep m c d w h =
+    uncovered m c (λ v. longest c < length v) (unlisted c) (λ v k. omega (arith, child-length v 1)) d w h
 
 -- two depths that reach past the longest word
 pub covered-deep : (m : ℕ) (c : List Word) (d e : ℕ) (w : Word) → longest c ≤ length w + d → longest c ≤ length w + e → covered (suc m) c d w ≡ covered (suc m) c e w
@@ -79,12 +84,12 @@ covered-deep m c zero (suc e) w h k = go (passes (listed w c))
   where
     go : (listed w c ≡ true) ⊎ (listed w c ≡ false) → listed w c ≡ covered (suc m) c (suc e) w
     go (inl t) = t ∙ sym (covered-listed (suc m) c (suc e) w t)
-    go (inr f) = f ∙ sym (parts (suc m) c e w f ∙ rw (uncovered m c e (child w 1) (omega (arith, child-length w 1)), all) refl)
+    go (inr f) = f ∙ sym (parts (suc m) c e w f ∙ rw (too-deep m c e (child w 1) (omega (arith, child-length w 1)), all) refl)
 covered-deep m c (suc d) zero w h k = go (passes (listed w c))
   where
     go : (listed w c ≡ true) ⊎ (listed w c ≡ false) → covered (suc m) c (suc d) w ≡ listed w c
     go (inl t) = covered-listed (suc m) c (suc d) w t ∙ sym t
-    go (inr f) = parts (suc m) c d w f ∙ rw (uncovered m c d (child w 1) (omega (arith, child-length w 1)), all) (sym f)
+    go (inr f) = parts (suc m) c d w f ∙ rw (too-deep m c d (child w 1) (omega (arith, child-length w 1)), all) (sym f)
 covered-deep m c (suc d) (suc e) w h k =
     ap (λ r. elim (listed w c) as (λ _. Bool) [ true ↦ true | false ↦ r ]) (all-same (λ i. covered (suc m) c d (child w i)) (λ i. covered (suc m) c e (child w i)) (λ i. covered-deep m c d e (child w i) (omega (arith, child-length w i)) (omega (arith, child-length w i))) (digits (suc m)))
 

@@ -5,6 +5,7 @@ pub mod Places
 pub mod Neighbours
 pub mod Search
 pub mod Cover
+pub mod Walks
 pub mod Settling
 pub mod Rearranged
 pub mod Writing

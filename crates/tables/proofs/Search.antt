@@ -1,22 +1,21 @@
 -- Search in a sorted column: the turns of the binary search for the place that parts the column at a word w, and what the word
--- before that place says. It is w if w is listed, and it begins w if a word of a column without overlap does.
+-- before that place says. It begins w if a word of a column without overlap does.
 use Prim.Native.Nat.{ℕ, zero, suc, _+_, _-_, _≤_, _<_}
-use mathlib.Core.Path.{_≡_, sym, _∙_, ap, subst}
+use mathlib.Core.Path.{_≡_, _∙_, ap, subst}
 use mathlib.Core.Logic.{_⊎_, inl, inr, ⊎-elim}
 use mathlib.Core.Bool.{true, false, _||_}
 use mathlib.Core.List.{List, [], _∷_, List·Memᴰ, List·Memᴰ·cases-cons, List·Memᴰ·not-nil}
 use native.Mathlib.Omega.{arith}
-use lib.Dec.{eqb, ltb}
-use lib.ListN.{length, getD}
-use borrow.Author.Tests.{ltb-true, ltb-false, eqb-true, eq-eqb}
+use lib.Dec.{ltb}
+use lib.ListN.{length}
+use borrow.Author.Tests.{ltb-true, ltb-false}
 use Rattle.higman.specs.Words.{Word, begins}
-use Rattle.higman.specs.Bases.{listed, meets, overlap}
-use Rattle.higman.proofs.Tests.{passes, clash, or-left-false, or-right-false, listed-of-mem, mem-of-listed}
+use Rattle.higman.specs.Bases.{meets, overlap}
+use Rattle.higman.proofs.Tests.{passes, clash, or-left-false, or-right-false}
 use Rattle.words.specs.Packed.{unpack}
-use Rattle.words.proofs.Packing.{unpack-injective}
 use Rattle.tables.specs.Packed.{wordsOf, inOrder, sorted}
 use Rattle.tables.specs.Columns.{wordAt, PartedAt, BegunAt}
-use Rattle.tables.proofs.InOrder.{InOrder, in-order-of-test, test-of-in-order, in-order-refl, in-order-of-begins, in-order-trans, in-order-antisym, begins-between}
+use Rattle.tables.proofs.InOrder.{InOrder, in-order-of-test, test-of-in-order, in-order-of-begins, in-order-trans, begins-between}
 use Rattle.tables.proofs.Places.{mem-at, place-of, sorted-at}
 
 -- low and high bracket the place: all before low is in order with w, and nothing from high on
@@ -72,44 +71,9 @@ module _ (column : List ℕ) (s : sorted (wordsOf column) ≡ true) (w : ℕ) wh
         go (inl t) = ltb-true k r t
         go (inr f) = absurd (clash (test-of-in-order (wordAt column k) (unpack w) h) (p .back k (ltb-false k r f) l))
 
-    -- the word before the place, in order with w and with all words before it
-    last-in-order : 0 < r → InOrder (wordAt column (r - 1)) (unpack w)
-    last-in-order h = in-order-of-test (wordAt column (r - 1)) (unpack w) (p .front (r - 1) (omega arith))
-
+    -- the word before the place has all words before it in order with it
     up-to-last : (k : ℕ) → k < r → InOrder (wordAt column k) (wordAt column (r - 1))
     up-to-last k h = sorted-at column s k (r - 1) (omega arith) (omega (arith, p .within))
-
-    -- the place of w, if it is listed
-    listed-before : listed (unpack w) (wordsOf column) ≡ true → (k : ℕ) × (k < r) × (unpack w ≡ wordAt column k)
-    listed-before t =
-        let (k, l, e) = place-of column (unpack w) (mem-of-listed (unpack w) (wordsOf column) t) in
-        (k, before-parting k l (subst (λ u. InOrder u (unpack w)) e (in-order-refl (unpack w))), e)
-
-    pub listed-nowhere : r ≡ 0 → listed (unpack w) (wordsOf column) ≡ false
-    listed-nowhere h = go (passes (listed (unpack w) (wordsOf column)))
-      where
-        go : (listed (unpack w) (wordsOf column) ≡ true) ⊎ (listed (unpack w) (wordsOf column) ≡ false) → listed (unpack w) (wordsOf column) ≡ false
-        go (inl t) = let (k, l, e) = listed-before t in absurd (omega arith)
-        go (inr f) = f
-
-    pub listed-last : 0 < r → eqb (getD column (r - 1) 0) w ≡ listed (unpack w) (wordsOf column)
-    listed-last h = go (passes (eqb x w)) (passes (listed (unpack w) (wordsOf column)))
-      where
-        x : ℕ
-        x = getD column (r - 1) 0
-
-        -- w stands at a place up to the last word, and the last word is in order with w
-        same : listed (unpack w) (wordsOf column) ≡ true → x ≡ w
-        same t =
-            let (k, l, e) = listed-before t in
-            let up = subst (λ u. InOrder u (unpack x)) (sym e) (up-to-last k l) in
-            unpack-injective x w (in-order-antisym (unpack x) (unpack w) (last-in-order h) up)
-
-        go : (eqb x w ≡ true) ⊎ (eqb x w ≡ false) → (listed (unpack w) (wordsOf column) ≡ true) ⊎ (listed (unpack w) (wordsOf column) ≡ false) → eqb x w ≡ listed (unpack w) (wordsOf column)
-        go (inl t) o =
-            t ∙ sym (listed-of-mem (unpack w) (wordsOf column) (subst (λ y. List·Memᴰ (unpack y) (wordsOf column)) (eqb-true x w t) (mem-at column (r - 1) (omega (arith, p .within)))))
-        go (inr f) (inl t) = absurd (clash (eq-eqb x w (same t)) f)
-        go (inr f) (inr n) = f ∙ sym n
 
 -- a word that w does not meet is not begun by w, and does not begin it
 pub unmet : (w : Word) (c : List Word) → meets w c ≡ false → (u : Word) → List·Memᴰ u c → (begins w u ≡ false) × (begins u w ≡ false)
@@ -123,7 +87,7 @@ unmet w (v ∷ c) e u m =
         (ap (begins w) p ∙ or-left-false (begins w v) (begins v w) f, ap (λ x. begins x w) p ∙ or-right-false (begins w v) (begins v w) f)
     go f (inr k) rest = rest k
 
-apart-at : (column : List ℕ) → overlap (wordsOf column) ≡ false → (j k : ℕ) → j < k → k < length column → begins (wordAt column j) (wordAt column k) ≡ false
+pub apart-at : (column : List ℕ) → overlap (wordsOf column) ≡ false → (j k : ℕ) → j < k → k < length column → begins (wordAt column j) (wordAt column k) ≡ false
 apart-at [] o j k h l = absurd (omega arith)
 apart-at (x ∷ column) o j zero h l = absurd (omega arith)
 apart-at (x ∷ column) o zero (suc k) h l =

@@ -17,7 +17,7 @@ use Rattle.tables.specs.Packed.{inOrder, sorted}
 use Rattle.tables.proofs.InOrder.{InOrder, in-order-of-test, test-of-in-order, in-order-trans}
 
 -- one number is less than another, equal to it or more
-three-ways : (a b : ℕ) → (a < b) ⊎ ((a ≡ b) ⊎ (b < a))
+pub three-ways : (a b : ℕ) → (a < b) ⊎ ((a ≡ b) ⊎ (b < a))
 three-ways a b = go (passes (ltb a b)) (passes (eqb a b))
   where
     go : (ltb a b ≡ true) ⊎ (ltb a b ≡ false) → (eqb a b ≡ true) ⊎ (eqb a b ≡ false) → (a < b) ⊎ ((a ≡ b) ⊎ (b < a))

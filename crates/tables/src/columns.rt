@@ -1,18 +1,27 @@
-// Columns (document 01, "Codes"): sorted lists of packed words. What is asked of a column, whether it has a word, whether its words
-// overlap, whether a block is covered, is answered by binary search or in one pass over neighbours.
+// Columns (document 01, "Codes"): sorted lists of packed words. What is asked of a column, which word of it begins a word, whether its
+// words overlap, whether a block is covered, is answered by binary search or in one pass over the words.
 ghost use mathlib.Core.Path.{_≡_};
 ghost use mathlib.Core.Bool.{true, false};
 ghost use Prim.Native.Nat.{_+_, _-_, _≤_};
 ghost use lib.ListN.{length};
-ghost use Rattle.higman.specs.Bases.{listed, covered, gap, overlap};
+ghost use Rattle.higman.specs.Words.{child};
+ghost use Rattle.higman.specs.Bases.{covered, gap, overlap};
 ghost use Rattle.higman.specs.Limits.{maxDigits};
 ghost use Rattle.words.specs.Packed.{unpack};
 ghost use Rattle.words.specs.Bytes.{shape};
 ghost use Rattle.tables.specs.Packed.{wordsOf, inOrder, sorted};
-ghost use Rattle.tables.specs.Columns.{PartedAt, BegunAt, coveredFrom};
+ghost use Rattle.tables.specs.Columns.{PartedAt, BegunAt, AtBlock, Reached, coveredFrom, Walked};
 
 // The ways that a word has below its belt, at most.
 const MAX_WAYS: u8 = 15;
+
+// How far the words of a covered block reach.
+pub enum Cover {
+    // the block is covered, and its words stand before this place
+    UpTo(usize),
+    // the block is not covered
+    Gap,
+}
 
 // Whether one word stands before another, by the first digit that differs, or begins it.
 pub fn in_order(u: u64, v: u64) -> bool
@@ -37,18 +46,6 @@ pub fn first_after(column: &[u64], w: u64) -> usize
         }
     }
     low
-}
-
-// Whether a word is in the column.
-pub fn has(column: &[u64], w: u64) -> bool
-    requires { ⌜ sorted (wordsOf (now column)) ≡ true ⌝ }
-    ensures { λ r. ⌜ r ≡ listed (unpack w) (wordsOf (now (column .entry))) ⌝ }
-{
-    let end = first_after(column, w);
-    if end == 0 {
-        return false;
-    }
-    column[end - 1] == w
 }
 
 // The place of the word that begins w, or the column's length where none does: the last of the words in order with w, if any.
@@ -84,48 +81,77 @@ pub fn overlaps(column: &[u64]) -> bool
     false
 }
 
-// Whether a block is covered: listed, or each of its parts is covered, looked at `left` ways below it.
-pub fn covered_block(column: &[u64], arity: u8, w: u64, left: u8) -> bool
-    requires { ⌜ sorted (wordsOf (now column)) ≡ true ⌝ }
-    requires { ⌜ (arity ≤ 9) × (length (unpack w) + left ≤ maxDigits) ⌝ }
-    ensures { λ r. ⌜ r ≡ covered arity (wordsOf (now (column .entry))) left (unpack w) ⌝ }
+// The first place, from at on, whose word does not stand before the block w. Only words with a digit that the shape does not have are
+// skipped; the word at the place at is mostly w or begins with it.
+fn skip_before(column: &[u64], w: u64, at: usize) -> usize
+    requires { ⌜ AtBlock (now column) (unpack w) at ⌝ }
+    ensures { λ r. ⌜ Reached (now (column .entry)) (unpack w) r ⌝ }
 {
-    if has(column, w) {
-        return true;
+    let mut i = at;
+    while i < column.len() {
+        let word = column[i];
+        if word == w {
+            return i;
+        }
+        if !words::before(word, w) {
+            return i;
+        }
+        i += 1;
     }
-    if left == 0 {
-        return false;
-    }
-    covered_ways(column, arity, w, 1, left)
+    i
 }
 
-// Whether the parts of a block from a way on are covered, up to the first that is not.
-fn covered_ways(column: &[u64], arity: u8, w: u64, way: u8, left: u8) -> bool
-    requires { ⌜ sorted (wordsOf (now column)) ≡ true ⌝ }
-    requires { ⌜ (arity ≤ 9) × (1 ≤ way) × (way ≤ arity + 1) × (1 ≤ left) × (length (unpack w) + left ≤ maxDigits) ⌝ }
-    ensures { λ r. ⌜ r ≡ coveredFrom arity (wordsOf (now (column .entry))) (left - 1) (unpack w) way ⌝ }
+// Whether a block is covered: listed, or each of its parts is covered, looked at `left` ways below it. All words before the place at
+// stand before the block, so that its own word, if it is listed, is the first that does not.
+fn covered_block(column: &[u64], arity: u8, w: u64, left: u8, at: usize) -> Cover
+    requires { ⌜ (sorted (wordsOf (now column)) ≡ true) × (overlap (wordsOf (now column)) ≡ false) ⌝ }
+    requires { ⌜ (1 ≤ arity) × (arity ≤ 9) × (length (unpack w) + left ≤ maxDigits) × AtBlock (now column) (unpack w) at ⌝ }
+    ensures { λ r. ⌜ Walked (now (column .entry)) (unpack w) (covered arity (wordsOf (now (column .entry))) left (unpack w)) r ⌝ }
+{
+    let place = skip_before(column, w, at);
+    if column.len() <= place {
+        return Cover::Gap;
+    }
+    if column[place] == w {
+        return Cover::UpTo(place + 1);
+    }
+    if left == 0 {
+        return Cover::Gap;
+    }
+    covered_ways(column, arity, w, 1, left, place)
+}
+
+// Whether the parts of a block from a way on are covered, up to the first that is not. The words of a part stand behind those of the
+// parts before it, so that the walk goes on where it has come to.
+fn covered_ways(column: &[u64], arity: u8, w: u64, way: u8, left: u8, at: usize) -> Cover
+    requires { ⌜ (sorted (wordsOf (now column)) ≡ true) × (overlap (wordsOf (now column)) ≡ false) ⌝ }
+    requires { ⌜ (1 ≤ arity) × (arity ≤ 9) × (1 ≤ way) × (way ≤ arity + 1) × (1 ≤ left) × (length (unpack w) + left ≤ maxDigits)
+        × AtBlock (now column) (child (unpack w) way) at ⌝ }
+    ensures { λ r. ⌜ Walked (now (column .entry)) (unpack w) (coveredFrom arity (wordsOf (now (column .entry))) (left - 1) (unpack w) way) r ⌝ }
 {
     if arity < way {
-        return true;
+        return Cover::UpTo(at);
     }
-    if !covered_block(column, arity, words::child(w, way), left - 1) {
-        return false;
-    }
-    covered_ways(column, arity, w, way + 1, left)
+    let Cover::UpTo(next) = covered_block(column, arity, words::child(w, way), left - 1, at) else {
+        return Cover::Gap;
+    };
+    covered_ways(column, arity, w, way + 1, left, next)
 }
 
 // Whether a belt isn't covered. Deeper than the longest words of a plan there is nothing to look for.
 pub fn has_gap(column: &[u64], arity: u8, roots: u8) -> bool
-    requires { ⌜ sorted (wordsOf (now column)) ≡ true ⌝ }
+    requires { ⌜ (sorted (wordsOf (now column)) ≡ true) × (overlap (wordsOf (now column)) ≡ false) ⌝ }
     requires { ⌜ (1 ≤ arity) × (arity ≤ 9) × (roots ≤ 9) ⌝ }
     ensures { λ r. ⌜ r ≡ gap (shape arity roots) (wordsOf (now (column .entry))) ⌝ }
 {
+    let mut at = 0;
     let mut belt: u8 = 1;
     while belt <= roots {
-        let covered = covered_block(column, arity, words::child(0, belt), MAX_WAYS);
-        if !covered {
+        let Cover::UpTo(next) = covered_block(column, arity, words::child(0, belt), MAX_WAYS, at)
+        else {
             return true;
-        }
+        };
+        at = next;
         belt += 1;
     }
     false

@@ -41,10 +41,11 @@ returns c =
 
 has-gap-requires : tie.Need-has-gap-requires
 has-gap-requires c κs =
-    let sort = c .before .before .before .before .before .before .before .before in
+    let o = c .before .before in
+    let sort = o .before .before .before .before .before .before in
     let start = sort .before .before .before .before .before in
     let r = in-range (shape (start .args .arity) (start .args .roots)) (start .pre .1) in
-    (sort .sort .ensures .in-order, (omega (arith, r .arity-low), r .arity-high, r .roots-high))
+    ((sort .sort .ensures .in-order, sym (o .overlaps .ensures) ∙ c .before .if1 .left), (omega (arith, r .arity-low), r .arity-high, r .roots-high))
 
 same-length-3 : tie.Need-same-length-3
 same-length-3 c = search needs

@@ -1,10 +1,11 @@
--- `tables::columns::has_gap` meets its contract. The invariant: all belts are covered exactly if those from the present one on are. The
--- measure is the number of belts that are left. A word of 64 bits is no longer than the depth to which the blocks are looked at.
+-- `tables::columns::has_gap` meets its contract. The invariant: all belts are covered exactly if those from the present one on are, and
+-- the words before the cursor stand before the present belt. The measure is the number of belts that are left. A word of 64 bits is no
+-- longer than the depth to which the blocks are looked at.
 use Prim.Native.Nat.{ℕ, _+_, _-_, _≤_}
-use mathlib.Core.Path.{_≡_, sym, _∙_, ap}
+use mathlib.Core.Path.{_≡_, sym, _∙_, ap, subst}
 use mathlib.Core.Bool.{Bool, not}
 use mathlib.Core.List.{List, [], _∷_}
-use borrow.Author.Tests.{not-true, not-false}
+use borrow.Author.Needs.{needs}
 use native.Mathlib.Omega.{arith}
 use lib.ListN.{length}
 use Rattle.higman.specs.Words.{count, digits, child}
@@ -14,7 +15,11 @@ use Rattle.words.specs.Packed.{unpack}
 use Rattle.words.specs.Bytes.{shape}
 use Rattle.words.proofs.Packing.{unpack-zero}
 use Rattle.tables.specs.Packed.{wordsOf}
+use Rattle.tables.specs.Columns.{AtBlock, Walked}
+use Rattle.tables.specs.declared.columns.Cover.{Cover}
+use Rattle.tables.specs.declared.columns.Cover.the-variants.{UpTo, Gap}
 use Rattle.tables.proofs.Cover.{all-done, all-stop, all-pass, gap-deep, longest-fits}
+use Rattle.tables.proofs.Walks.{at-start, at-later, walked-same}
 use Rattle.tables.proofs.columns.has_gap.Statement.{statement}
 use Rattle.tables.proofs.columns.has_gap.Tie as tie
 
@@ -23,16 +28,20 @@ abbrev beltCovered : List ℕ → ℕ → ℕ → Bool
 beltCovered column arity a = covered arity (wordsOf column) 15 (a ∷ [])
 
 abbrev Inv-loop : tie.InvT-loop
-Inv-loop column arity roots belt₀ belt = (1 ≤ belt) × (belt ≤ roots + 1) × (all (beltCovered column arity) (digits roots) ≡ all (beltCovered column arity) (count belt (roots + 1 - belt)))
+Inv-loop column arity roots at₀ belt₀ at belt =
+    (1 ≤ belt)
+    × (belt ≤ roots + 1)
+    × (all (beltCovered column arity) (digits roots) ≡ all (beltCovered column arity) (count belt (roots + 1 - belt)))
+    × AtBlock column (belt ∷ []) at
 
 abbrev μ-loop : tie.MeasureT-loop
-μ-loop column arity roots belt₀ belt = roots + 1 - belt
+μ-loop column arity roots at₀ belt₀ at belt = roots + 1 - belt
 
 loop-holds : tie.Need-loop-holds Inv-loop μ-loop
 loop-holds c =
     let a = c .before .args in
     let n : a .roots ≡ a .roots + 1 - 1 = omega arith in
-    (omega arith, omega arith, ap (λ m. all (beltCovered (a .column .now) (a .arity)) (count 1 m)) n)
+    (omega arith, omega arith, ap (λ m. all (beltCovered (a .column .now) (a .arity)) (count 1 m)) n, at-start (a .column .now) (1 ∷ []))
 
 -- what is left to look at decides
 gap-left : (c : tie.At-loop Inv-loop μ-loop) → let a = c .before .before .args in gap (shape (a .arity) (a .roots)) (wordsOf (a .column .now)) ≡ not (all (beltCovered (a .column .now) (a .arity)) (count (c .loop .belt) (a .roots + 1 - c .loop .belt)))
@@ -47,11 +56,11 @@ gap-left c =
 belt-word : (c : tie.After-child Inv-loop μ-loop) → unpack (c .child .result) ≡ c .before .before .loop .belt ∷ []
 belt-word c = c .child .ensures ∙ ap (λ w. child w (c .before .before .loop .belt)) unpack-zero
 
-belt-test : (c : tie.After-covered-block Inv-loop μ-loop) → let l = c .before .before .before in let a = l .before .before .args in beltCovered (a .column .now) (a .arity) (l .loop .belt) ≡ c .covered-block .result
-belt-test c =
-    let l = c .before .before .before in
-    let a = l .before .before .args in
-    ap (covered (a .arity) (wordsOf (a .column .now)) 15) (sym (belt-word (c .before))) ∙ sym (c .covered-block .ensures)
+-- what the walk over the belt answers
+belt-walked : (c : tie.After-covered-block Inv-loop μ-loop) (r : Cover) → c .covered-block .result ≡ r → let l = c .before .before .before in let a = l .before .before .args in Walked (a .column .now) (l .loop .belt ∷ []) (beltCovered (a .column .now) (a .arity) (l .loop .belt)) r
+belt-walked c r e =
+    let a = c .before .before .before .before .before .args in
+    walked-same (a .column .now) (covered (a .arity) (wordsOf (a .column .now)) 15) (belt-word (c .before)) e (c .covered-block .ensures)
 
 child-requires : tie.Need-child-requires Inv-loop μ-loop
 unfolding maxDigits
@@ -59,13 +68,24 @@ child-requires c κs = omega (arith, ap length unpack-zero)
 
 covered-block-requires : tie.Need-covered-block-requires Inv-loop μ-loop
 unfolding maxDigits
-covered-block-requires c κs = (c .before .before .before .before .pre .0, (omega arith, omega (arith, ap length (belt-word c))))
+covered-block-requires c κs =
+    let l = c .before .before in
+    let start = l .before .before in
+    let a = start .args in
+    (start .pre .0, (start .pre .1 .0, start .pre .1 .1, omega (arith, ap length (belt-word c)), subst (λ w. AtBlock (a .column .now) w (l .loop .at)) (sym (belt-word c)) (l .loop .inv .3)))
+
+enum-known-next : tie.Need-enum-known-next Inv-loop μ-loop
+enum-known-next c = search needs
+
+enum-told : tie.Need-enum-told Inv-loop μ-loop
+enum-told c = search needs
 
 returns : tie.Need-returns Inv-loop μ-loop
 returns c =
-    let l = c .before .before .before .before in
+    let call = c .before .before in
+    let l = call .before .before .before in
     let a = l .before .before .args in
-    let stop = all-stop (beltCovered (a .column .now) (a .arity)) (l .loop .belt) (a .roots) (c .before .before .before .loop-test .taken) (belt-test (c .before) ∙ not-true (c .before .covered-block .result) (c .if1 .taken)) in
+    let stop = all-stop (beltCovered (a .column .now) (a .arity)) (l .loop .belt) (a .roots) (call .before .before .loop-test .taken) (belt-walked call Gap (c .enum-told .given .1)) in
     sym (gap-left l ∙ ap not stop)
 
 add-belt : tie.Need-add-belt Inv-loop μ-loop
@@ -76,10 +96,15 @@ loop-less c = omega arith
 
 loop-again : tie.Need-loop-again Inv-loop μ-loop
 loop-again c =
-    let l = c .before .before .before .before in
+    let known = c .before in
+    let call = known .before .before in
+    let l = call .before .before .before in
     let a = l .before .before .args in
-    let pass = all-pass (beltCovered (a .column .now) (a .arity)) (l .loop .belt) (a .roots) (c .before .before .before .loop-test .taken) (belt-test (c .before) ∙ not-false (c .before .covered-block .result) (c .if1 .left)) in
-    (omega arith, omega arith, l .loop .inv .2 ∙ pass)
+    let belt = l .loop .belt in
+    let next = known .next .given .0 .0 in
+    let walked = belt-walked call (UpTo next) (known .next .given .1) in
+    let pass = all-pass (beltCovered (a .column .now) (a .arity)) belt (a .roots) (call .before .before .loop-test .taken) (walked .0) in
+    (omega arith, omega arith, l .loop .inv .2 ∙ pass, at-later (a .column .now) [] next belt (belt + 1) (omega arith) (walked .1))
 
 returns-2 : tie.Need-returns-2 Inv-loop μ-loop
 returns-2 c =
@@ -96,6 +121,8 @@ has-gap-spec =
     loop-holds
     child-requires
     covered-block-requires
+    enum-known-next
+    enum-told
     returns
     add-belt
     loop-less
