@@ -1,0 +1,13 @@
+//! The library of plans compared with the second implementation. `values` and
+//! `face` are the C face, `second` answers the same calls by the reference.
+
+pub mod calls;
+pub mod face;
+pub mod packed;
+pub mod second;
+pub mod values;
+
+pub use calls::Calls;
+pub use face::Library;
+pub use second::Second;
+pub use values::{Compared, Kept, Made, Plan, Verdict, Written, PLACES};
