@@ -1,9 +1,11 @@
 //! The library of plans compared with the second implementation. `values` and
-//! `face` are the C face, `second` answers the same calls by the reference.
+//! `face` are the C face, `second` answers the same calls by the reference,
+//! `random` makes inputs for both.
 
 pub mod calls;
 pub mod face;
 pub mod packed;
+pub mod random;
 pub mod second;
 pub mod values;
 
