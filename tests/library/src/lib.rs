@@ -1,8 +1,10 @@
 //! The library of plans compared with the second implementation. `values` and
 //! `face` are the C face, `second` answers the same calls by the reference,
-//! `random` makes inputs for both.
+//! `random` makes inputs, and `checks` compares any offer of the calls with the
+//! second implementation; `tests/` runs the checks on the proved library.
 
 pub mod calls;
+pub mod checks;
 pub mod face;
 pub mod packed;
 pub mod random;

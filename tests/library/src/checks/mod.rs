@@ -1,0 +1,13 @@
+//! The checks: each compares some calls with the second implementation on many
+//! inputs, and fails too if a kind of answer never came up. They take any offer
+//! of the calls, so that a version written for speed is held to the same.
+
+pub mod buffers;
+pub mod drafts;
+pub mod laws;
+pub mod listings;
+pub mod paper;
+pub mod powers;
+pub mod products;
+pub mod routes;
+pub mod tally;
