@@ -1,0 +1,54 @@
+//! The version on arrays held to the checks of the library: what is measured
+//! must give the same answers, refusals included.
+
+use bench::arrays::Arrays;
+use library::checks::{drafts, laws, listings, paper, powers, products, routes};
+
+#[test]
+fn cases_of_the_paper() {
+    paper::of_drafts(&Arrays);
+    paper::of_refusals(&Arrays);
+    paper::of_products(&Arrays);
+    paper::of_orders(&Arrays);
+    paper::of_bytes(&Arrays);
+}
+
+#[test]
+fn drafts_and_damaged_values() {
+    drafts::of_drafts(&Arrays);
+    drafts::of_damaged_plans(&Arrays);
+    drafts::of_values(&Arrays);
+}
+
+#[test]
+fn products_of_plans() {
+    products::of_one_shape(&Arrays);
+    products::at_the_limit_of_pairs(&Arrays);
+    products::at_the_limit_of_digits(&Arrays);
+    products::refused(&Arrays);
+}
+
+#[test]
+fn powers_of_plans() {
+    powers::small(&Arrays);
+    powers::large(&Arrays);
+    powers::at_the_limits(&Arrays);
+    powers::refused(&Arrays);
+}
+
+#[test]
+fn laws_of_a_group() {
+    laws::of_triples(&Arrays);
+    laws::of_powers(&Arrays);
+    laws::of_routes(&Arrays);
+}
+
+#[test]
+fn codes_and_buffers() {
+    routes::of_plans(&Arrays);
+    routes::of_beginnings(&Arrays);
+    routes::of_damaged(&Arrays);
+    routes::of_bytes(&Arrays);
+    listings::of_plans(&Arrays);
+    listings::of_slots(&Arrays);
+}
