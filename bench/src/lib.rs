@@ -1,4 +1,6 @@
 //! The calls of the library of plans in plain Rust, written for speed: what the
-//! proved library is to be measured against.
+//! proved library is measured against. The program in `main.rs` measures.
 
 pub mod arrays;
+pub mod measure;
+pub mod work;
