@@ -145,12 +145,13 @@ fn lengthen(rng: &mut Rng, word: &mut u64) {
 }
 
 /// Puts the parts of a pair in its place, in order: still a draft, but the
-/// parts join. Nothing changes where there is no room.
+/// parts join. Nothing changes where there is no room, or where other damage
+/// has left no ways to split by.
 fn split_pair(value: &mut Plan, place: usize) {
     let ways = usize::from(value.arity);
-    let full = value.pairs + ways - 1 > PLACES;
+    let full = value.pairs + ways > PLACES + 1;
     let top = |word: u64| word >> 60 != 0;
-    if full || top(value.from[place]) || top(value.to[place]) {
+    if ways < 2 || full || top(value.from[place]) || top(value.to[place]) {
         return;
     }
     for column in [&mut value.from, &mut value.to] {
