@@ -1,7 +1,7 @@
 -- What the calls answer, case by case: 15 where a value is no plan, 10 where shapes differ.
 use mathlib.Core.Path.{_≡_, sym, _∙_, ap, subst}
 use mathlib.Core.Logic.{_⊎_, inl, inr}
-use mathlib.Core.Bool.{true, false, _&&_}
+use mathlib.Core.Bool.{true, false, _&&_, and-false}
 use lib.Dec.{eqb}
 use borrow.Author.Tests.{ne-eqb}
 use Rattle.higman.specs.Words.{Shape}
@@ -14,7 +14,6 @@ use Rattle.plans.specs.declared.Likeness.the-variants.{Alike, Refused}
 use Rattle.plans.specs.declared.Plan.{Plan}
 use Rattle.plans.specs.Plans.{shapeOf, rowsOf, planOf, isPlan}
 use Rattle.plans.specs.Answers.{noPlan, refusing, composing, following, likeness, alike}
-use Rattle.plans.proofs.SamePairs.{and-false}
 
 pub arity-differs : (s u : Shape) → (s .arity ≡ u .arity → ⊥) → sameShape s u ≡ false
 arity-differs s u h = ap (λ x. x && eqb (s .roots) (u .roots)) (ne-eqb (s .arity) (u .arity) h)

@@ -2,7 +2,7 @@
 use Prim.Native.Nat.{ℕ, _+_, _≤_, _<_}
 use mathlib.Core.Path.{_≡_, refl, sym, _∙_, ap, ap₂}
 use mathlib.Core.Logic.{_⊎_, inl, inr}
-use mathlib.Core.Bool.{Bool, true, false, _&&_}
+use mathlib.Core.Bool.{Bool, true, false, _&&_, and-false}
 use mathlib.Core.List.{List}
 use native.Mathlib.Omega.{arith}
 use lib.ListN.{length, getD, drop, drop-of-length-le}
@@ -24,10 +24,6 @@ other-number x y h = go (passes (sameWord (unpack x) (unpack y)))
     go : (sameWord (unpack x) (unpack y) ≡ true) ⊎ (sameWord (unpack x) (unpack y) ≡ false) → sameWord (unpack x) (unpack y) ≡ false
     go (inl e) = absurd (h (unpack-injective x y (same-word (unpack x) (unpack y) (T-of e))))
     go (inr e) = e
-
-pub and-false : (x : Bool) → x && false ≡ false
-and-false true = refl
-and-false false = refl
 
 -- the pairs from a place on
 abbrev pub sameFrom : List ℕ → List ℕ → List ℕ → List ℕ → ℕ → Bool

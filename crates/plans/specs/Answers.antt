@@ -74,17 +74,20 @@ unfoldable pub keeping : Plan → Keeping
 keeping p = record { judgement = judged p; plan = keptOf p (judged p) }
 
 -- a granted plan, or the number of the refusal
+abbrev pub granting : Plan → Making
+granting p = record { answer = Granted; plan = p }
+
+abbrev pub refusing : ℕ → Making
+refusing number = record { answer = Refused number; plan = blank }
+
 abbrev pub making : Of.Answer → Making
-making (Of.Granted p) = record { answer = Granted; plan = packed p }
-making (Of.Refused r) = record { answer = Refused (Of.refusalNumber r); plan = blank }
+making (Of.Granted p) = granting (packed p)
+making (Of.Refused r) = refusing (Of.refusalNumber r)
 
 -- the number of a refusal, 0 where a plan was made
 abbrev pub answerNumber : Answer → ℕ
 answerNumber Granted = 0
 answerNumber (Refused n) = n
-
-abbrev pub refusing : ℕ → Making
-refusing number = record { answer = Refused number; plan = blank }
 
 abbrev pub noPlan : Making
 noPlan = refusing 15

@@ -2,6 +2,7 @@
 // draft stand in any order, so that a column is copied and sorted before it is checked; what is asked of it does not depend on the order.
 use crate::Fault;
 use crate::Judgement;
+use crate::MAX_PAIRS;
 use crate::Plan;
 use crate::Reason;
 use tables::columns;
@@ -17,9 +18,6 @@ ghost use Rattle.words.specs.Bytes.{shape, isPlanWord};
 ghost use Rattle.tables.specs.Packed.{wordsOf};
 ghost use Rattle.plans.specs.Plans.{zeros, isColumn, isDraft};
 ghost use Rattle.plans.specs.Answers.{faultOf, judged};
-
-// The limit of pairs in a plan.
-const MAX_PAIRS: usize = 128;
 
 // Whether a shape has 2 to 9 ways at a switch and 1 to 9 belts.
 pub fn shape_in_range(arity: u8, roots: u8) -> bool

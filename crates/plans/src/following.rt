@@ -11,16 +11,14 @@ ghost use Rattle.higman.specs.Limits.{shapeInRange};
 ghost use Rattle.higman.specs.Answers.{identityPlan};
 ghost use Rattle.words.specs.Bytes.{shape};
 ghost use Rattle.plans.specs.Plans.{planOf, shapeOf, isPlan, packed};
-ghost use Rattle.plans.specs.Answers.{refusing, composing, following, repeating, raising};
+ghost use Rattle.plans.specs.Answers.{composing, following, repeating, raising};
 ghost use Rattle.plans.specs.Filled.{filling, filledPlan};
 use crate::Answer;
+use crate::MAX_PAIRS;
 use crate::Making;
 use crate::Plan;
 use crate::kept;
 use tables::spreading::Spread;
-
-// The limit of pairs in a plan.
-const MAX_PAIRS: usize = 128;
 
 // The limits of a power.
 const MIN_POWER: i32 = -1000;
@@ -57,17 +55,6 @@ fn filled(from: &[u64], to: &[u64], n: usize, arity: u8, roots: u8) -> Plan
     }
 }
 
-// The answer that refuses with a number.
-fn refused(number: u8) -> Making
-    ensures { λ r. ⌜ r ≡ refusing number ⌝ }
-{
-    let plan = kept::blank();
-    Making {
-        answer: Answer::Refused(number),
-        plan: plan,
-    }
-}
-
 // Two plans of one shape, one after the other.
 fn composed(a: Plan, b: Plan) -> Making
     requires { ⌜ (isPlan a ≡ true) × (isPlan b ≡ true) × (shapeOf a ≡ shapeOf b) ⌝ }
@@ -89,28 +76,22 @@ fn composed(a: Plan, b: Plan) -> Making
         &mut froms,
         &mut tos,
     ) else {
-        return refused(11);
+        return kept::refused(11);
     };
     let mut out_from = [0u64; 256];
     let mut out_to = [0u64; 256];
-    let arity = a.arity;
-    let roots = a.roots;
     let pairs = tables::reduce::reduce(
         &froms[..n],
         &tos[..n],
         &mut out_from,
         &mut out_to,
-        arity,
-        roots,
+        a.arity,
+        a.roots,
     );
     if MAX_PAIRS < pairs {
-        return refused(11);
+        return kept::refused(11);
     }
-    let plan = filled(&out_from, &out_to, pairs, arity, roots);
-    Making {
-        answer: Answer::Granted,
-        plan: plan,
-    }
+    kept::granted(filled(&out_from, &out_to, pairs, a.arity, a.roots))
 }
 
 // The plan that moves nothing: each belt to itself.
@@ -128,16 +109,16 @@ pub fn follow(a: Plan, b: Plan) -> Making
     ensures { λ r. ⌜ r ≡ following a b ⌝ }
 {
     if !kept::is_plan(a) {
-        return refused(15);
+        return kept::refused(15);
     }
     if !kept::is_plan(b) {
-        return refused(15);
+        return kept::refused(15);
     }
     if a.arity != b.arity {
-        return refused(10);
+        return kept::refused(10);
     }
     if a.roots != b.roots {
-        return refused(10);
+        return kept::refused(10);
     }
     composed(a, b)
 }
@@ -160,10 +141,7 @@ fn repeat(a: Plan, n: u32) -> Making
         power = made.plan;
         i += 1;
     }
-    Making {
-        answer: Answer::Granted,
-        plan: power,
-    }
+    kept::granted(power)
 }
 
 // K: a power; "below zero, the power −k of the inverse". 15, 12, 11.
@@ -171,13 +149,13 @@ pub fn power(a: Plan, k: i32) -> Making
     ensures { λ r. ⌜ r ≡ raising a k ⌝ }
 {
     if !kept::is_plan(a) {
-        return refused(15);
+        return kept::refused(15);
     }
     if k < MIN_POWER {
-        return refused(12);
+        return kept::refused(12);
     }
     if MAX_POWER < k {
-        return refused(12);
+        return kept::refused(12);
     }
     if k < 0 {
         let back = kept::inverse(a);

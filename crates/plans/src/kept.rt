@@ -12,16 +12,13 @@ ghost use Rattle.words.specs.Bytes.{shape};
 ghost use Rattle.tables.specs.Packed.{table};
 ghost use Rattle.tables.specs.Reduction.{rows};
 ghost use Rattle.plans.specs.Plans.{isPlan, packed, blank};
-ghost use Rattle.plans.specs.Answers.{keeping, inverting};
+ghost use Rattle.plans.specs.Answers.{keeping, refusing, granting, inverting};
 ghost use Rattle.plans.specs.Keeping.{KeptColumns, sameColumn, sameValue};
 use super::Answer;
 use super::Judgement;
 use super::Keeping;
 use super::Making;
 use super::Plan;
-
-// The number of the refusal of a value that is no plan.
-const NOT_A_PLAN: u8 = 15;
 
 // Sets the numbers of a column to zero from a place on.
 fn clear(column: &mut [u64], place: usize)
@@ -93,6 +90,27 @@ pub fn blank() -> Plan
         pairs: 0,
         from: [0u64; 128],
         to: [0u64; 128],
+    }
+}
+
+// The answer that refuses with a number.
+pub fn refused(number: u8) -> Making
+    ensures { λ r. ⌜ r ≡ refusing number ⌝ }
+{
+    let plan = blank();
+    Making {
+        answer: Answer::Refused(number),
+        plan: plan,
+    }
+}
+
+// The answer that grants a plan.
+pub fn granted(plan: Plan) -> Making
+    ensures { λ r. ⌜ r ≡ granting plan ⌝ }
+{
+    Making {
+        answer: Answer::Granted,
+        plan: plan,
     }
 }
 
@@ -173,22 +191,14 @@ pub fn is_plan(p: Plan) -> bool
     }
 }
 
-// The inverse of a plan.
+// I: the inverse of a plan. 15.
 pub fn inverse(a: Plan) -> Making
     ensures { λ r. ⌜ r ≡ inverting a ⌝ }
 {
     if !is_plan(a) {
-        let plan = blank();
-        return Making {
-            answer: Answer::Refused(NOT_A_PLAN),
-            plan: plan,
-        };
+        return refused(15);
     }
     let from = a.from;
     let to = a.to;
-    let plan = kept(to, from, a.pairs, a.arity, a.roots);
-    Making {
-        answer: Answer::Granted,
-        plan: plan,
-    }
+    granted(kept(to, from, a.pairs, a.arity, a.roots))
 }

@@ -8,6 +8,9 @@ pub mod kept;
 pub mod listing;
 pub mod routing;
 
+// The limit of pairs in a plan.
+pub const MAX_PAIRS: usize = 128;
+
 // A shape and the pairs of a plan, or of a draft of one, at the first places of two columns; the other places are zero. Programs in C
 // and Rust hold it too (the crate `plans_c`).
 #[repr(C)]

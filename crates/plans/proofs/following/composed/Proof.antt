@@ -16,9 +16,8 @@ use Rattle.tables.specs.Spread.{spread}
 use Rattle.tables.specs.Spreading.{Extended, Spreads}
 use Rattle.tables.specs.Reduction.{rows, Reducible}
 use Rattle.tables.proofs.Rows.{rows-length}
-use Rattle.plans.specs.declared.Answer.the-variants.{Granted}
 use Rattle.plans.specs.Plans.{shapeOf, rowsOf, planOf}
-use Rattle.plans.specs.Answers.{making}
+use Rattle.plans.specs.Answers.{granting, making}
 use Rattle.plans.proofs.Filled.{filled-packed}
 use Rattle.plans.proofs.KeptValues.{pair-limit, pairs-few, kept, plain, operand}
 use Rattle.plans.proofs.Composed.{pairs-before, reducible, too-long, too-many, within-limits}
@@ -236,14 +235,19 @@ filled-requires c κs =
     let r = c .before .before .before .before .before in
     (c .before .before .if1 .left, out-room r .0, out-room r .1)
 
+granted-requires : tie.Need-granted-requires
+granted-requires c κs = search needs
+
 returns-3 : tie.Need-returns-3
 returns-3 c =
-    let e = c .before .before .before in
+    let f = c .before in
+    let e = f .before .before .before in
     let r = e .before .before .before in
     let s = at-start r in
     let a = s .args .a in
-    let packed = c .filled .ensures ∙ filled-packed (a .arity) (a .roots) (r .reduce .result) (out-from r) (out-to r) (out-room r .0) (out-room r .1) in
-    (λ i. record { answer = Granted; plan = packed i })
+    let packed = f .filled .ensures ∙ filled-packed (a .arity) (a .roots) (r .reduce .result) (out-from r) (out-to r) (out-room r .0) (out-room r .1) in
+    c .granted .ensures
+    ∙ ap granting packed
     ∙ sym (ap making (within-limits (planOf a) (planOf (s .args .b)) (first s) (second s) (s .pre .2) (result r) (reduced r) (known (spread-by r) .0)
     (omega (arith, counted r, pair-limit, e .if1 .left))))
 
@@ -278,4 +282,5 @@ composed-spec =
     slice-aggregate-filled
     slice-aggregate-filled-2
     filled-requires
+    granted-requires
     returns-3)

@@ -63,13 +63,17 @@ loop-again c =
       omega (arith, m .before .loop-test .taken),
     )
 
+granted-requires : tie.Need-granted-requires Inv-loop μ-loop
+granted-requires c κs = search needs
+
 returns-2 : tie.Need-returns-2 Inv-loop μ-loop
 returns-2 c =
-    let l = c .before in
+    let t = c .before in
+    let l = t .before in
     let s = l .before .before in
     let (h, r, k) = l .loop .inv in
-    let done : l .loop .i ≡ s .args .n = omega (arith, c .loop-test .left) in
-    reached-all (s .args .a) h (l .loop .power) (l .loop .i) r ∙ ap (repeating (planOf (s .args .a))) done
+    let done : l .loop .i ≡ s .args .n = omega (arith, t .loop-test .left) in
+    c .granted .ensures ∙ reached-all (s .args .a) h (l .loop .power) (l .loop .i) r ∙ ap (repeating (planOf (s .args .a))) done
 
 pub repeat-spec : {M : Type 1} → statement M
 repeat-spec =
@@ -86,4 +90,5 @@ repeat-spec =
     add-i
     loop-less
     loop-again
+    granted-requires
     returns-2)

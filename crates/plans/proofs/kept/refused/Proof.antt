@@ -1,8 +1,8 @@
--- `plans::following::refused` meets its contract: the plan beside the number is blank.
+-- `plans::kept::refused` meets its contract: the plan beside the number is blank.
 use borrow.Author.Needs.{needs}
 use Rattle.plans.specs.declared.Answer.the-variants.{Refused}
-use Rattle.plans.proofs.following.refused.Statement.{statement}
-use Rattle.plans.proofs.following.refused.Tie as tie
+use Rattle.plans.proofs.kept.refused.Statement.{statement}
+use Rattle.plans.proofs.kept.refused.Tie as tie
 
 blank-requires : tie.Need-blank-requires
 blank-requires c κs = search needs
