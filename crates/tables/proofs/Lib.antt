@@ -11,6 +11,7 @@ pub mod Rearranged
 pub mod Writing
 pub mod Records
 pub mod Rows
+pub mod Halves
 pub mod Merging
 pub mod Cuts
 pub mod Joins
