@@ -2,13 +2,13 @@
 -- up in, packed and in order.
 use Prim.Native.Nat.{ℕ, _≤_}
 use mathlib.Core.Path.{_≡_, refl, sym, _∙_, subst}
-use mathlib.Core.Bool.{true, false, _&&_}
-use mathlib.Core.List.{List, [], _∷_, List·Memᴰ, Memᴰ·map, Memᴰ·of-map}
-use lib.Dec.{T, leb, leb→le}
-use lib.ListN.{length, take, drop}
+use mathlib.Core.Bool.{true, false}
+use mathlib.Core.List.{List, [], _∷_, map, List·Memᴰ, Memᴰ·map, Memᴰ·of-map}
+use lib.Dec.{T, leb}
+use lib.ListN.{length, take}
 use lib.Seq.{length-take-le}
 use Rattle.higman.specs.Words.{Shape, Word, isWord, begins}
-use Rattle.higman.specs.Bases.{all, overlap}
+use Rattle.higman.specs.Bases.{Basis, all, overlap}
 use Rattle.higman.specs.Tables.{Pair, froms, tos}
 use Rattle.higman.specs.Normal.{before, ordered}
 use Rattle.higman.specs.Limits.{Kept, shapeInRange, granted, fits, pairFits, maxPairs}
@@ -24,7 +24,8 @@ use Rattle.tables.specs.Packed.{wordsOf, inOrder, sorted}
 use Rattle.tables.specs.Spreading.{packedWords, Plain, Operand}
 use Rattle.tables.proofs.Rearranged.{froms-table, tos-table}
 use Rattle.plans.specs.declared.Plan.{Plan}
-use Rattle.plans.specs.Plans.{shapeOf, rowsOf, planOf, zeros, inTable, isPlan}
+use Rattle.plans.specs.Plans.{shapeOf, rowsOf, planOf, inTable, isPlan}
+use Rattle.plans.proofs.Values.{in-table}
 
 -- the order of document 01 is the order in which columns are sorted
 sorted-of-ordered : (c : List Word) → ordered c ≡ true → sorted c ≡ true
@@ -50,12 +51,7 @@ module _ (p : Plan) (h : isPlan p ≡ true) where
   few = and-left (inTable p) (isKept (planOf p)) (T-of h)
 
   pub pairs-few : p .pairs ≤ maxPairs
-  unfolding inTable
-  pairs-few =
-      let small = leb (p .pairs) maxPairs in
-      let from = zeros (drop (p .pairs) (p .from)) in
-      let to = zeros (drop (p .pairs) (p .to)) in
-      leb→le (p .pairs) maxPairs (and-left small from (and-left (small && from) to few))
+  pairs-few = in-table p few .few
 
   pub kept : Kept (planOf p)
   unfolding isPlan
@@ -71,21 +67,21 @@ module _ (p : Plan) (h : isPlan p ≡ true) where
   unfolding granted
   row-fits = all-at pairFits (rowsOf p) (and-right (leb (length (rowsOf p)) maxPairs) (all pairFits (rowsOf p)) (kept .within))
 
-  from-words : (w : Word) → List·Memᴰ w (froms (rowsOf p)) → T (isPlanWord s w)
+  -- the words of a column that is a basis
+  column-words : (column : Pair → Word) → ((q : Pair) → T (pairFits q) → T (fits (column q))) → Basis s (map column (rowsOf p))
+      → (w : Word) → List·Memᴰ w (map column (rowsOf p)) → T (isPlanWord s w)
   unfolding isPlanWord
-  from-words w m =
-      let (q, k, e) = Memᴰ·of-map (λ r. r .from) (rowsOf p) m in
+  column-words column fit basis w m =
+      let (q, k, e) = Memᴰ·of-map column (rowsOf p) m in
       and-intro (isWord s w) (fits w)
-      (all-at (isWord s) (froms (rowsOf p)) (column-is-basis s arity-low (froms (rowsOf p)) .0 (kept .bases .from-basis) .words) w m)
-      (subst (λ u. T (fits u)) e (and-left (fits (q .from)) (fits (q .to)) (row-fits q k)))
+      (all-at (isWord s) (map column (rowsOf p)) (column-is-basis s arity-low (map column (rowsOf p)) .0 basis .words) w m)
+      (subst (λ u. T (fits u)) e (fit q (row-fits q k)))
+
+  from-words : (w : Word) → List·Memᴰ w (froms (rowsOf p)) → T (isPlanWord s w)
+  from-words = column-words (λ q. q .from) (λ q. and-left (fits (q .from)) (fits (q .to))) (kept .bases .from-basis)
 
   to-words : (w : Word) → List·Memᴰ w (tos (rowsOf p)) → T (isPlanWord s w)
-  unfolding isPlanWord
-  to-words w m =
-      let (q, k, e) = Memᴰ·of-map (λ r. r .to) (rowsOf p) m in
-      and-intro (isWord s w) (fits w)
-      (all-at (isWord s) (tos (rowsOf p)) (column-is-basis s arity-low (tos (rowsOf p)) .0 (kept .bases .to-basis) .words) w m)
-      (subst (λ u. T (fits u)) e (and-right (fits (q .from)) (fits (q .to)) (row-fits q k)))
+  to-words = column-words (λ q. q .to) (λ q. and-right (fits (q .from)) (fits (q .to))) (kept .bases .to-basis)
 
   module _ (lf : p .pairs ≤ length (p .from)) (lt : p .pairs ≤ length (p .to)) where
     abbrev from : List ℕ
