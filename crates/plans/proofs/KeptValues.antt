@@ -4,9 +4,12 @@ use Prim.Native.Nat.{ℕ, _≤_}
 use mathlib.Core.Path.{_≡_, refl, sym, _∙_, subst}
 use mathlib.Core.Bool.{true, false}
 use mathlib.Core.List.{List, [], _∷_, map, List·Memᴰ, Memᴰ·map, Memᴰ·of-map}
+use native.Mathlib.Omega.{arith}
 use lib.Dec.{T, leb}
 use lib.ListN.{length, take}
 use lib.Seq.{length-take-le}
+use mir.Val.{Val}
+use denote.Laws.{Is}
 use Rattle.higman.specs.Words.{Shape, Word, isWord, begins}
 use Rattle.higman.specs.Bases.{Basis, all, overlap}
 use Rattle.higman.specs.Tables.{Pair, froms, tos}
@@ -25,6 +28,8 @@ use Rattle.tables.specs.Spreading.{packedWords, Plain, Operand}
 use Rattle.tables.proofs.Rearranged.{froms-table, tos-table}
 use Rattle.plans.specs.declared.Plan.{Plan}
 use Rattle.plans.specs.Plans.{shapeOf, rowsOf, planOf, inTable, isPlan}
+use Rattle.plans.proofs.Plan.{the-row}
+use Rattle.plans.proofs.Sizes.{from-long, to-long}
 use Rattle.plans.proofs.Values.{in-table}
 
 -- the order of document 01 is the order in which columns are sorted
@@ -56,6 +61,14 @@ module _ (p : Plan) (h : isPlan p ≡ true) where
   pub kept : Kept (planOf p)
   unfolding isPlan
   kept = answers-exact .kept-test (planOf p) .0 (and-right (inTable p) (isKept (planOf p)) (T-of h))
+
+  -- the pairs of a plan that is passed by value stand within its columns
+  module _ (values : List Val) (good : Is the-row p values) where
+    pub from-room : p .pairs ≤ length (p .from)
+    from-room = omega (arith, pair-limit, pairs-few, from-long p values good)
+
+    pub to-room : p .pairs ≤ length (p .to)
+    to-room = omega (arith, pair-limit, pairs-few, to-long p values good)
 
   abbrev s : Shape
   s = shapeOf p

@@ -5,14 +5,14 @@ use mathlib.Core.Bool.{true}
 use borrow.Author.Needs.{needs}
 use borrow.Author.Tests.{not-true, not-false}
 use native.Mathlib.Omega.{arith}
-use lib.ListN.{length, take, length-map}
+use lib.ListN.{length, take}
 use lib.Seq.{length-take-le}
 use Rattle.higman.specs.Tables.{sameTable}
 use Rattle.tables.specs.Packed.{table}
 use Rattle.tables.proofs.Rows.{rows-length}
 use Rattle.plans.specs.declared.Likeness.the-variants.{Alike}
 use Rattle.plans.specs.Plans.{shapeOf, rowsOf, isPlan}
-use Rattle.plans.proofs.KeptValues.{pair-limit, pairs-few}
+use Rattle.plans.proofs.KeptValues.{from-room, to-room}
 use Rattle.plans.proofs.Answered.{first-not-alike, second-not-alike, both-compared, not-compared, rows-compared, lengths-differ, arity-differs, roots-differ}
 use Rattle.plans.proofs.comparing.same.Statement.{statement}
 use Rattle.plans.proofs.comparing.same.Tie as tie
@@ -44,29 +44,17 @@ asked c = plans (c .before .before)
 abbrev start : tie.Else5 → tie.Start
 start c = called (asked c)
 
-a-from-long : (c : tie.Else5) → start c .args .a .pairs ≤ length (start c .args .a .from)
-a-from-long c =
-    let s = start c in
-    let places = sym (length-map (s .args .a .from) (λ v. v)) ∙ s .good .0 .1 .1 .1 .1 .1 .0 .1 .0 .1 in
-    omega (arith, pair-limit, pairs-few (s .args .a) (first (asked c)))
+a-from-room : (c : tie.Else5) → start c .args .a .pairs ≤ length (start c .args .a .from)
+a-from-room c = from-room (start c .args .a) (first (asked c)) _ (start c .good .0)
 
-a-to-long : (c : tie.Else5) → start c .args .a .pairs ≤ length (start c .args .a .to)
-a-to-long c =
-    let s = start c in
-    let places = sym (length-map (s .args .a .to) (λ v. v)) ∙ s .good .0 .1 .1 .1 .1 .1 .1 .0 .1 .0 .1 in
-    omega (arith, pair-limit, pairs-few (s .args .a) (first (asked c)))
+a-to-room : (c : tie.Else5) → start c .args .a .pairs ≤ length (start c .args .a .to)
+a-to-room c = to-room (start c .args .a) (first (asked c)) _ (start c .good .0)
 
-b-from-long : (c : tie.Else5) → start c .args .a .pairs ≤ length (start c .args .b .from)
-b-from-long c =
-    let s = start c in
-    let places = sym (length-map (s .args .b .from) (λ v. v)) ∙ s .good .1 .0 .1 .1 .1 .1 .1 .0 .1 .0 .1 in
-    omega (arith, pair-limit, pairs-few (s .args .a) (first (asked c)))
+b-from-room : (c : tie.Else5) → start c .args .a .pairs ≤ length (start c .args .b .from)
+b-from-room c = let few = from-room (start c .args .b) (second (asked c)) _ (start c .good .1 .0) in omega (arith, c .if5 .left)
 
-b-to-long : (c : tie.Else5) → start c .args .a .pairs ≤ length (start c .args .b .to)
-b-to-long c =
-    let s = start c in
-    let places = sym (length-map (s .args .b .to) (λ v. v)) ∙ s .good .1 .0 .1 .1 .1 .1 .1 .1 .0 .1 .0 .1 in
-    omega (arith, pair-limit, pairs-few (s .args .a) (first (asked c)))
+b-to-room : (c : tie.Else5) → start c .args .a .pairs ≤ length (start c .args .b .to)
+b-to-room c = let few = to-room (start c .args .b) (second (asked c)) _ (start c .good .1 .0) in omega (arith, c .if5 .left)
 
 is-plan-requires : tie.Need-is-plan-requires
 is-plan-requires c κs = search needs
@@ -108,58 +96,52 @@ returns-5 c =
     let s = called e in
     let a = s .args .a in
     let b = s .args .b in
-    let af = sym (length-map (a .from) (λ v. v)) ∙ s .good .0 .1 .1 .1 .1 .1 .0 .1 .0 .1 in
-    let at = sym (length-map (a .to) (λ v. v)) ∙ s .good .0 .1 .1 .1 .1 .1 .1 .0 .1 .0 .1 in
-    let bf = sym (length-map (b .from) (λ v. v)) ∙ s .good .1 .0 .1 .1 .1 .1 .1 .0 .1 .0 .1 in
-    let bt = sym (length-map (b .to) (λ v. v)) ∙ s .good .1 .0 .1 .1 .1 .1 .1 .1 .0 .1 .0 .1 in
-    let few = pairs-few a (first e) in
-    let few′ = pairs-few b (second e) in
-    let long = rows-length (a .pairs) (a .from) (a .to) (omega (arith, pair-limit)) (omega (arith, pair-limit)) in
-    let long′ = rows-length (b .pairs) (b .from) (b .to) (omega (arith, pair-limit)) (omega (arith, pair-limit)) in
+    let long = rows-length (a .pairs) (a .from) (a .to) (from-room a (first e) _ (s .good .0)) (to-room a (first e) _ (s .good .0)) in
+    let long′ = rows-length (b .pairs) (b .from) (b .to) (from-room b (second e) _ (s .good .1 .0)) (to-room b (second e) _ (s .good .1 .0)) in
     ap Alike (lengths-differ (rowsOf a) (rowsOf b) (λ l. c .if5 .taken (sym long ∙ l ∙ long′)))
     ∙ rows-compared a b (one-shape h)
     ∙ both-compared a b (first e) (second e)
 
 array-share-prefix-a-from : tie.Need-array-share-prefix-a-from
-array-share-prefix-a-from c = a-from-long (c .before .before .before .before)
+array-share-prefix-a-from c = a-from-room (c .before .before .before .before)
 
 slice-aggregate-same-pairs : tie.Need-slice-aggregate-same-pairs
 slice-aggregate-same-pairs c =
     let e = c .before .before .before .before .before in
-    sym (length-take-le (start e .args .a .pairs) (start e .args .a .from) (a-from-long e))
+    sym (length-take-le (start e .args .a .pairs) (start e .args .a .from) (a-from-room e))
 
 array-share-prefix-a-to : tie.Need-array-share-prefix-a-to
-array-share-prefix-a-to c = a-to-long (c .before .before .before .before .before)
+array-share-prefix-a-to c = a-to-room (c .before .before .before .before .before)
 
 slice-aggregate-same-pairs-2 : tie.Need-slice-aggregate-same-pairs-2
 slice-aggregate-same-pairs-2 c =
     let e = c .before .before .before .before .before .before in
-    sym (length-take-le (start e .args .a .pairs) (start e .args .a .to) (a-to-long e))
+    sym (length-take-le (start e .args .a .pairs) (start e .args .a .to) (a-to-room e))
 
 array-share-prefix-b-from : tie.Need-array-share-prefix-b-from
-array-share-prefix-b-from c = b-from-long (c .before .before .before .before .before .before)
+array-share-prefix-b-from c = b-from-room (c .before .before .before .before .before .before)
 
 slice-aggregate-same-pairs-3 : tie.Need-slice-aggregate-same-pairs-3
 slice-aggregate-same-pairs-3 c =
     let e = c .before .before .before .before .before .before .before in
-    sym (length-take-le (start e .args .a .pairs) (start e .args .b .from) (b-from-long e))
+    sym (length-take-le (start e .args .a .pairs) (start e .args .b .from) (b-from-room e))
 
 array-share-prefix-b-to : tie.Need-array-share-prefix-b-to
-array-share-prefix-b-to c = b-to-long (c .before .before .before .before .before .before .before)
+array-share-prefix-b-to c = b-to-room (c .before .before .before .before .before .before .before)
 
 slice-aggregate-same-pairs-4 : tie.Need-slice-aggregate-same-pairs-4
 slice-aggregate-same-pairs-4 c =
     let e = c .before .before .before .before .before .before .before .before in
-    sym (length-take-le (start e .args .a .pairs) (start e .args .b .to) (b-to-long e))
+    sym (length-take-le (start e .args .a .pairs) (start e .args .b .to) (b-to-room e))
 
 same-pairs-requires : tie.Need-same-pairs-requires
 same-pairs-requires c κs =
     let e = c .before .before .before .before .before .before .before .before in
     let n = start e .args .a .pairs in
-    let long = length-take-le n (start e .args .a .from) (a-from-long e) in (
-      long ∙ sym (length-take-le n (start e .args .a .to) (a-to-long e)),
-      long ∙ sym (length-take-le n (start e .args .b .from) (b-from-long e)),
-      long ∙ sym (length-take-le n (start e .args .b .to) (b-to-long e)),
+    let long = length-take-le n (start e .args .a .from) (a-from-room e) in (
+      long ∙ sym (length-take-le n (start e .args .a .to) (a-to-room e)),
+      long ∙ sym (length-take-le n (start e .args .b .from) (b-from-room e)),
+      long ∙ sym (length-take-le n (start e .args .b .to) (b-to-room e)),
     )
 
 returns-6 : tie.Need-returns-6

@@ -6,7 +6,7 @@ use mathlib.Core.Bool.{true}
 use mathlib.Core.List.{List}
 use borrow.Author.Needs.{needs}
 use native.Mathlib.Omega.{arith}
-use lib.ListN.{length, replicate, length-map}
+use lib.ListN.{length, replicate}
 use lib.Seq.{length-take-le}
 use Rattle.higman.specs.Bases.{all}
 use Rattle.higman.specs.Tables.{Table}
@@ -19,31 +19,23 @@ use Rattle.tables.proofs.Rows.{rows-length}
 use Rattle.plans.specs.Plans.{shapeOf, rowsOf, planOf}
 use Rattle.plans.specs.Answers.{granting, making}
 use Rattle.plans.proofs.Filled.{filled-packed}
-use Rattle.plans.proofs.KeptValues.{pair-limit, pairs-few, kept, plain, operand}
+use Rattle.plans.proofs.KeptValues.{pair-limit, pairs-few, from-room, to-room, kept, plain, operand}
 use Rattle.plans.proofs.Composed.{pairs-before, reducible, too-long, too-many, within-limits}
 use Rattle.plans.proofs.following.composed.Statement.{statement}
 use Rattle.plans.proofs.following.composed.Tie as tie
 
--- the columns of a plan have 128 places
-a-from-long : (s : tie.Start) → s .args .a .pairs ≤ length (s .args .a .from)
-a-from-long s =
-    let places = sym (length-map (s .args .a .from) (λ v. v)) ∙ s .good .0 .1 .1 .1 .1 .1 .0 .1 .0 .1 in
-    omega (arith, pair-limit, pairs-few (s .args .a) (s .pre .0))
+-- the pairs of the plans stand within their columns
+a-from-room : (s : tie.Start) → s .args .a .pairs ≤ length (s .args .a .from)
+a-from-room s = from-room (s .args .a) (s .pre .0) _ (s .good .0)
 
-a-to-long : (s : tie.Start) → s .args .a .pairs ≤ length (s .args .a .to)
-a-to-long s =
-    let places = sym (length-map (s .args .a .to) (λ v. v)) ∙ s .good .0 .1 .1 .1 .1 .1 .1 .0 .1 .0 .1 in
-    omega (arith, pair-limit, pairs-few (s .args .a) (s .pre .0))
+a-to-room : (s : tie.Start) → s .args .a .pairs ≤ length (s .args .a .to)
+a-to-room s = to-room (s .args .a) (s .pre .0) _ (s .good .0)
 
-b-from-long : (s : tie.Start) → s .args .b .pairs ≤ length (s .args .b .from)
-b-from-long s =
-    let places = sym (length-map (s .args .b .from) (λ v. v)) ∙ s .good .1 .0 .1 .1 .1 .1 .1 .0 .1 .0 .1 in
-    omega (arith, pair-limit, pairs-few (s .args .b) (s .pre .1))
+b-from-room : (s : tie.Start) → s .args .b .pairs ≤ length (s .args .b .from)
+b-from-room s = from-room (s .args .b) (s .pre .1) _ (s .good .1 .0)
 
-b-to-long : (s : tie.Start) → s .args .b .pairs ≤ length (s .args .b .to)
-b-to-long s =
-    let places = sym (length-map (s .args .b .to) (λ v. v)) ∙ s .good .1 .0 .1 .1 .1 .1 .1 .1 .0 .1 .0 .1 in
-    omega (arith, pair-limit, pairs-few (s .args .b) (s .pre .1))
+b-to-room : (s : tie.Start) → s .args .b .pairs ≤ length (s .args .b .to)
+b-to-room s = to-room (s .args .b) (s .pre .1) _ (s .good .1 .0)
 
 -- the pairs before reduction
 abbrev wide : tie.Start → Table
@@ -57,7 +49,7 @@ second s = kept (s .args .b) (s .pre .1)
 
 room : (s : tie.Start) → length (wide s) ≤ 256
 room s =
-    omega (arith, pair-limit, pairs-before (planOf (s .args .a)) (planOf (s .args .b)) (first s) (second s) (s .pre .2), rows-length (s .args .a .pairs) (s .args .a .from) (s .args .a .to) (a-from-long s) (a-to-long s), rows-length (s .args .b .pairs) (s .args .b .from) (s .args .b .to) (b-from-long s) (b-to-long s), pairs-few (s .args .a) (s .pre .0), pairs-few (s .args .b) (s .pre .1))
+    omega (arith, pair-limit, pairs-before (planOf (s .args .a)) (planOf (s .args .b)) (first s) (second s) (s .pre .2), rows-length (s .args .a .pairs) (s .args .a .from) (s .args .a .to) (a-from-room s) (a-to-room s), rows-length (s .args .b .pairs) (s .args .b .from) (s .args .b .to) (b-from-room s) (b-to-room s), pairs-few (s .args .a) (s .pre .0), pairs-few (s .args .b) (s .pre .1))
 
 -- where the pairs were written, and what was written
 abbrev called : tie.After-spread-plans → tie.Start
@@ -79,11 +71,11 @@ known : (c : tie.After-known-told) → (all pairFits (wide (called (told c))) �
 known c =
     subst (Spreads (wide (called (told c))) 0 (replicate 256 0) (replicate 256 0) (froms (told c)) (tos (told c))) (c .before .n .given .1) (told c .spread-plans .ensures)
 
-from-room : (c : tie.After-known-told) → written c ≤ length (froms (told c))
-from-room c = omega (arith, known c .1 .rows, room (called (told c)), told c .spread-plans .kept .1 .1 .1 .1 .0)
+from-written : (c : tie.After-known-told) → written c ≤ length (froms (told c))
+from-written c = omega (arith, known c .1 .rows, room (called (told c)), told c .spread-plans .kept .1 .1 .1 .1 .0)
 
-to-room : (c : tie.After-known-told) → written c ≤ length (tos (told c))
-to-room c = omega (arith, known c .1 .rows, room (called (told c)), told c .spread-plans .kept .1 .1 .1 .1 .1 .0)
+to-written : (c : tie.After-known-told) → written c ≤ length (tos (told c))
+to-written c = omega (arith, known c .1 .rows, room (called (told c)), told c .spread-plans .kept .1 .1 .1 .1 .1 .0)
 
 -- the reduced pairs
 abbrev spread-by : tie.After-reduce → tie.After-known-told
@@ -107,7 +99,7 @@ reduced r = r .reduce .ensures .1 ∙ ap (keep (shapeOf (at-start r .args .a))) 
 out-room : (r : tie.After-reduce) → (r .reduce .result ≤ length (out-from r)) × (r .reduce .result ≤ length (out-to r))
 out-room r =
     let c = spread-by r in
-    let n = length-take-le (written c) (froms (told c)) (from-room c) in
+    let n = length-take-le (written c) (froms (told c)) (from-written c) in
     let h = r .reduce .ensures .0 in
     let few : written c ≤ 256 = omega (arith, known c .1 .rows, room (called (told c))) in
     (omega (arith, r .reduce .kept .1 .1 .0), omega (arith, r .reduce .kept .1 .1 .1 .0))
@@ -116,36 +108,36 @@ counted : (r : tie.After-reduce) → length (result r) ≡ r .reduce .result
 counted r = rows-length (r .reduce .result) (out-from r) (out-to r) (out-room r .0) (out-room r .1)
 
 array-share-prefix-a-from : tie.Need-array-share-prefix-a-from
-array-share-prefix-a-from c = a-from-long (c .before .before .before .before)
+array-share-prefix-a-from c = a-from-room (c .before .before .before .before)
 
 slice-aggregate-spread-plans : tie.Need-slice-aggregate-spread-plans
 slice-aggregate-spread-plans c =
     let s = c .before .before .before .before .before in
-    sym (length-take-le (s .args .a .pairs) (s .args .a .from) (a-from-long s))
+    sym (length-take-le (s .args .a .pairs) (s .args .a .from) (a-from-room s))
 
 array-share-prefix-a-to : tie.Need-array-share-prefix-a-to
-array-share-prefix-a-to c = a-to-long (c .before .before .before .before .before)
+array-share-prefix-a-to c = a-to-room (c .before .before .before .before .before)
 
 slice-aggregate-spread-plans-2 : tie.Need-slice-aggregate-spread-plans-2
 slice-aggregate-spread-plans-2 c =
     let s = c .before .before .before .before .before .before in
-    sym (length-take-le (s .args .a .pairs) (s .args .a .to) (a-to-long s))
+    sym (length-take-le (s .args .a .pairs) (s .args .a .to) (a-to-room s))
 
 array-share-prefix-b-from : tie.Need-array-share-prefix-b-from
-array-share-prefix-b-from c = b-from-long (c .before .before .before .before .before .before)
+array-share-prefix-b-from c = b-from-room (c .before .before .before .before .before .before)
 
 slice-aggregate-spread-plans-3 : tie.Need-slice-aggregate-spread-plans-3
 slice-aggregate-spread-plans-3 c =
     let s = c .before .before .before .before .before .before .before in
-    sym (length-take-le (s .args .b .pairs) (s .args .b .from) (b-from-long s))
+    sym (length-take-le (s .args .b .pairs) (s .args .b .from) (b-from-room s))
 
 array-share-prefix-b-to : tie.Need-array-share-prefix-b-to
-array-share-prefix-b-to c = b-to-long (c .before .before .before .before .before .before .before)
+array-share-prefix-b-to c = b-to-room (c .before .before .before .before .before .before .before)
 
 slice-aggregate-spread-plans-4 : tie.Need-slice-aggregate-spread-plans-4
 slice-aggregate-spread-plans-4 c =
     let s = c .before .before .before .before .before .before .before .before in
-    sym (length-take-le (s .args .b .pairs) (s .args .b .to) (b-to-long s))
+    sym (length-take-le (s .args .b .pairs) (s .args .b .to) (b-to-room s))
 
 slice-aggregate-spread-plans-5 : tie.Need-slice-aggregate-spread-plans-5
 slice-aggregate-spread-plans-5 c = search needs
@@ -156,8 +148,8 @@ slice-aggregate-spread-plans-6 c = search needs
 spread-plans-requires : tie.Need-spread-plans-requires
 spread-plans-requires c κs =
     let s = c .before .before .before .before .before .before .before .before .before .before in (
-      plain (s .args .a) (s .pre .0) (a-from-long s) (a-to-long s),
-      (operand (s .args .b) (s .pre .1) (b-from-long s) (b-to-long s), (omega (arith, room s), omega (arith, room s))),
+      plain (s .args .a) (s .pre .0) (a-from-room s) (a-to-room s),
+      (operand (s .args .b) (s .pre .1) (b-from-room s) (b-to-room s), (omega (arith, room s), omega (arith, room s))),
     )
 
 enum-known-n : tie.Need-enum-known-n
@@ -178,20 +170,20 @@ returns c =
     (subst (Spreads (wide s) 0 (replicate 256 0) (replicate 256 0) (froms p) (tos p)) (c .before .enum-told .given .1) (p .spread-plans .ensures))))
 
 array-share-prefix-froms : tie.Need-array-share-prefix-froms
-array-share-prefix-froms c = from-room c
+array-share-prefix-froms c = from-written c
 
 slice-aggregate-reduce : tie.Need-slice-aggregate-reduce
 slice-aggregate-reduce c =
     let k = c .before in
-    sym (length-take-le (written k) (froms (told k)) (from-room k))
+    sym (length-take-le (written k) (froms (told k)) (from-written k))
 
 array-share-prefix-tos : tie.Need-array-share-prefix-tos
-array-share-prefix-tos c = to-room (c .before)
+array-share-prefix-tos c = to-written (c .before)
 
 slice-aggregate-reduce-2 : tie.Need-slice-aggregate-reduce-2
 slice-aggregate-reduce-2 c =
     let k = c .before .before in
-    sym (length-take-le (written k) (tos (told k)) (to-room k))
+    sym (length-take-le (written k) (tos (told k)) (to-written k))
 
 slice-aggregate-reduce-3 : tie.Need-slice-aggregate-reduce-3
 slice-aggregate-reduce-3 c = search needs
@@ -203,8 +195,8 @@ reduce-requires : tie.Need-reduce-requires
 reduce-requires c κs =
     let k = c .before .before .before .before in
     let s = called (told k) in
-    let f = length-take-le (written k) (froms (told k)) (from-room k) in
-    let t = length-take-le (written k) (tos (told k)) (to-room k) in
+    let f = length-take-le (written k) (froms (told k)) (from-written k) in
+    let t = length-take-le (written k) (tos (told k)) (to-written k) in
     let few : written k ≤ 256 = omega (arith, known k .1 .rows, room s) in (
       f ∙ sym t,
       omega arith,

@@ -11,8 +11,8 @@ use Rattle.higman.specs.Listing.{listing}
 use Rattle.higman.proofs.KeptPlans.{in-range}
 use Rattle.plans.specs.Plans.{shapeOf, planOf, isPlan}
 use Rattle.plans.specs.Listing.{isSlot}
-use Rattle.plans.proofs.Sizes.{from-long, to-long}
-use Rattle.plans.proofs.KeptValues.{pair-limit, pairs-few, kept, plain}
+use Rattle.plans.proofs.KeptValues as K
+use Rattle.plans.proofs.KeptValues.{pairs-few, kept, plain}
 use Rattle.plans.proofs.Lists.{listing-no-plan, listing-no-slot, listing-no-room, listing-written}
 use Rattle.plans.proofs.listing.list.Statement.{statement}
 use Rattle.plans.proofs.listing.list.Tie as tie
@@ -28,10 +28,10 @@ slot : (c : tie.Else2) → isSlot (called c .args .slot) ≡ true
 slot c = sym (c .before .is-slot .ensures) ∙ not-false (c .before .is-slot .result) (c .if2 .left)
 
 from-room : (c : tie.Else2) → called c .args .p .pairs ≤ length (called c .args .p .from)
-from-room c = let s = called c in omega (arith, pair-limit, pairs-few (s .args .p) (plan (c .before .before)), from-long (s .args .p) _ (s .good .0))
+from-room c = let s = called c in K.from-room (s .args .p) (plan (c .before .before)) _ (s .good .0)
 
 to-room : (c : tie.Else2) → called c .args .p .pairs ≤ length (called c .args .p .to)
-to-room c = let s = called c in omega (arith, pair-limit, pairs-few (s .args .p) (plan (c .before .before)), to-long (s .args .p) _ (s .good .0))
+to-room c = let s = called c in K.to-room (s .args .p) (plan (c .before .before)) _ (s .good .0)
 
 -- where the length of the listing was found
 abbrev asked : tie.After-listing-length → tie.Else2

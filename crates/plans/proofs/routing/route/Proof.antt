@@ -5,15 +5,14 @@ use mathlib.Core.Path.{_≡_, sym, _∙_, ap}
 use mathlib.Core.Bool.{true}
 use borrow.Author.Needs.{needs}
 use borrow.Author.Tests.{not-true, not-false}
-use native.Mathlib.Omega.{arith}
 use lib.ListN.{length}
 use lib.Seq.{length-take-le}
 use Rattle.higman.specs.Limits.{isCode}
 use Rattle.words.specs.Bytes.{digitsOf}
 use Rattle.plans.specs.Plans.{shapeOf, isPlan}
 use Rattle.plans.specs.Routing.{routing, routedBuffer}
-use Rattle.plans.proofs.Sizes.{from-long, to-long}
-use Rattle.plans.proofs.KeptValues.{pair-limit, pairs-few, operand}
+use Rattle.plans.proofs.KeptValues as K
+use Rattle.plans.proofs.KeptValues.{operand}
 use Rattle.plans.proofs.Codes.{routing-no-plan, routing-no-code, code-digits, replied, routing-found}
 use Rattle.plans.proofs.routing.route.Statement.{statement}
 use Rattle.plans.proofs.routing.route.Tie as tie
@@ -29,10 +28,10 @@ code : (c : tie.Else2) → isCode (shapeOf (called c .args .p)) (digitsOf (calle
 code c = sym (c .before .is-code .ensures) ∙ not-false (c .before .is-code .result) (c .if2 .left)
 
 from-room : (c : tie.Else2) → called c .args .p .pairs ≤ length (called c .args .p .from)
-from-room c = let s = called c in omega (arith, pair-limit, pairs-few (s .args .p) (plan (c .before .before)), from-long (s .args .p) _ (s .good .0))
+from-room c = let s = called c in K.from-room (s .args .p) (plan (c .before .before)) _ (s .good .0)
 
 to-room : (c : tie.Else2) → called c .args .p .pairs ≤ length (called c .args .p .to)
-to-room c = let s = called c in omega (arith, pair-limit, pairs-few (s .args .p) (plan (c .before .before)), to-long (s .args .p) _ (s .good .0))
+to-room c = let s = called c in K.to-room (s .args .p) (plan (c .before .before)) _ (s .good .0)
 
 -- the reply to what was found, and the buffer
 abbrev asked : tie.After-route-into → tie.Else2
