@@ -7,7 +7,7 @@ use mathlib.Core.List.{List}
 use mathlib.Core.Option.{Option, none, some}
 use borrow.Author.Tests.{le-leb, lt-leb}
 use lib.Dec.{T, leb}
-use lib.ListN.{length, take, length-map}
+use lib.ListN.{length, take, drop, length-map}
 use lib.Seq.{length-take-le}
 use Rattle.higman.specs.Words.{Shape, Word, isWord}
 use Rattle.higman.specs.Tables.{image, froms}
@@ -20,15 +20,16 @@ use Rattle.higman.proofs.KeptPlans.{in-range}
 use Rattle.words.specs.Bytes.{digitOf, digitsOf, written}
 use Rattle.words.proofs.Packed.{ways-of-word, test-of-ways}
 use Rattle.tables.specs.Packed.{wordsOf}
-use Rattle.tables.specs.Routing.{IsCode, Searchable, unmatched, routedIn, routedInto}
+use Rattle.tables.specs.Routing.{IsCode, Searchable, matchedDigits, further, routedIn, routedInto}
 use Rattle.tables.specs.declared.routing.Routed.{Routed}
 use Rattle.tables.specs.declared.routing.Routed.the-variants as Table
 use Rattle.tables.proofs.Rearranged.{froms-table}
+use Rattle.tables.proofs.Routes.{here}
 use Rattle.plans.specs.declared.Plan.{Plan}
 use Rattle.plans.specs.declared.Route.{Route}
 use Rattle.plans.specs.declared.Route.the-variants.{Image, TooShort, Refused}
 use Rattle.plans.specs.Plans.{shapeOf, rowsOf, planOf, isPlan}
-use Rattle.plans.specs.Routing.{matching, routingIn, imageInto, routing, routedBuffer}
+use Rattle.plans.specs.Routing.{matched, matching, routingIn, imageInto, routing, routedBuffer}
 use Rattle.plans.proofs.KeptValues.{kept, operand}
 
 pub code-limit : maxCode ≡ 1024
@@ -79,18 +80,22 @@ buffer-is none out = refl
 buffer-is (some v) out = refl
 
 module _ (p : Plan) (code : List ℕ) where
-  pub matching-no-plan : isPlan p ≡ false → code ≡ matching p code
-  unfolding matching
-  matching-no-plan h = sym (rw (h, matching))
+  pub matched-no-plan : isPlan p ≡ false → matched p code ≡ 0
+  unfolding matched
+  matched-no-plan h = rw (h, matched)
+
+  -- nothing is matched: the part is the whole code
+  pub whole-code : (place : ℕ × ℕ) → matched p code ≡ 0 → (code ≡ matching p code) × (place ≡ further (matched p code) place)
+  whole-code place e = (ap (λ n. drop n code) (sym e), here place ∙ ap (λ n. further n place) (sym e))
 
   pub routing-no-plan : (out : List ℕ) → isPlan p ≡ false → (Refused 15 ≡ routing p code (length out)) × (out ≡ routedBuffer p code out)
   unfolding routing routedBuffer
   routing-no-plan out h = (sym (rw (h, routing)), sym (rw (h, routedBuffer)))
 
   module _ (h : isPlan p ≡ true) where
-    pub matching-no-code : isCode (shapeOf p) (digitsOf code) ≡ false → code ≡ matching p code
-    unfolding matching
-    matching-no-code k = sym (rw (h, k, matching))
+    pub matched-no-code : isCode (shapeOf p) (digitsOf code) ≡ false → matched p code ≡ 0
+    unfolding matched
+    matched-no-code k = rw (h, k, matched)
 
     pub routing-no-code : (out : List ℕ) → isCode (shapeOf p) (digitsOf code) ≡ false → (Refused 4 ≡ routing p code (length out)) × (out ≡ routedBuffer p code out)
     unfolding routing routedBuffer routed
@@ -120,8 +125,8 @@ module _ (p : Plan) (code : List ℕ) where
         pub searchable : Searchable from
         searchable = let o = operand p h lf lt in record { packed = o .plain .from-packed; in-order = o .in-order; apart = o .apart }
 
-        pub matching-found : unmatched (wordsOf from) code ≡ matching p code
-        unfolding matching
-        matching-found =
-            ap (λ c. unmatched c code) (sym (froms-table from (take (p .pairs) (p .to)) (length-take-le (p .pairs) (p .from) lf ∙ sym (length-take-le (p .pairs) (p .to) lt))))
-            ∙ sym (rw (h, k, matching))
+        pub matched-found : matchedDigits (wordsOf from) (digitsOf code) ≡ matched p code
+        unfolding matched
+        matched-found =
+            ap (λ c. matchedDigits c (digitsOf code)) (sym (froms-table from (take (p .pairs) (p .to)) (length-take-le (p .pairs) (p .from) lf ∙ sym (length-take-le (p .pairs) (p .to) lt))))
+            ∙ sym (rw (h, k, matched))

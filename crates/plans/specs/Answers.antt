@@ -1,14 +1,14 @@
 -- What the calls on plans answer: the answers of higman, with 15 before them for a value that is no draft or plan. Where a call refuses,
--- the plan beside the answer is the blank one.
-use Prim.Native.Nat.{ℕ, zero, suc}
+-- the plan beside the answer is the blank one. Read Routing.antt next.
+use Prim.Native.Nat.{ℕ}
 use mathlib.Core.Path.{_≡_, refl}
 use mathlib.Core.Bool.{Bool, true, false, _&&_}
 use mathlib.Core.List.{[], _∷_, map}
 use mathlib.Core.Option.{Option, none, some}
-use lib.IntN.{ℤ, pos, negsuc}
+use lib.IntN.{ℤ, pos}
 use Rattle.higman.specs.Words.{Shape}
 use Rattle.higman.specs.Tables.{Table, row, φ, ψ}
-use Rattle.higman.specs.Normal.{joined, normal, normalForm, keep, compose, identity}
+use Rattle.higman.specs.Normal.{joined, normal, normalForm, keep, compose, inverse, identity}
 use Rattle.higman.specs.Limits.{Plan as PlanOf, shapeInRange, granted, maxPairs, maxDigits, maxPower}
 use Rattle.higman.specs.Answers as Of
 use Rattle.words.specs.Packed.{packOn, pack, unpackIn, unpack}
@@ -42,11 +42,11 @@ judgementOf Of.Accepted = Accepted
 judgementOf (Of.InFrom r) = InFrom (reasonOf r)
 judgementOf (Of.InTo r) = InTo (reasonOf r)
 
--- the verdict on a draft: 15, and then "from: 6, 7, to: 6, 7"
+-- the verdict on a draft: 15, and then "two checks, both made of the from column and after that both of the to column"
 unfoldable pub judged : Plan → Judgement
 judged p = elim (isDraft p) [ true ↦ judgementOf (Of.verdict (shapeOf p) (rowsOf p)) | false ↦ NotADraft ]
 
--- the number that a judgement is refused with, 0 where it is not, and "those of E for a column add ⇥F or ⇥T (from, to)"
+-- the number that a judgement is refused with, 0 where it is not
 abbrev pub reasonNumber : Reason → ℕ
 reasonNumber Overlap = Of.reasonNumber Of.Overlap
 reasonNumber Gap = Of.reasonNumber Of.Gap
@@ -57,6 +57,7 @@ judgementNumber Accepted = 0
 judgementNumber (InFrom r) = reasonNumber r
 judgementNumber (InTo r) = reasonNumber r
 
+-- "those of E for a column add ⇥F or ⇥T (from, to)"
 abbrev pub judgementColumn : Judgement → ℕ
 judgementColumn NotADraft = 0
 judgementColumn Accepted = 0
@@ -104,11 +105,12 @@ following a b = elim (isPlan a && isPlan b) [ true ↦ composing a b | false ↦
 unfoldable pub inverting : Plan → Making
 inverting a = elim (isPlan a) [ true ↦ making (Of.inverted (planOf a)) | false ↦ noPlan ]
 
--- n times a plan in a row, with every power on the way within the limits
+-- a power by its pairs, which are none where a limit is broken on the way
 abbrev pub repeated : Option Table → Shape → Making
 repeated (some t) s = making (Of.Granted (record { shape = s; rows = t }))
 repeated none s = making (Of.Refused Of.LimitBroken)
 
+-- n times a plan in a row
 abbrev pub repeating : PlanOf → ℕ → Making
 repeating a n = repeated (Of.raised (a .shape) (a .rows) n) (a .shape)
 
@@ -134,6 +136,13 @@ abbrev pub likenessValue : Likeness → Bool
 likenessValue (Like.Alike b) = b
 likenessValue (Like.Refused n) = false
 
+-- the numbers of answers
+answerNumber-example : map answerNumber (Granted ∷ Refused 11 ∷ []) ≡ 0 ∷ 11 ∷ []
+answerNumber-example = refl
+
+likenessNumber-example : (map likenessNumber (Like.Alike true ∷ Like.Refused 10 ∷ []) ≡ 0 ∷ 10 ∷ []) × (map likenessValue (Like.Alike true ∷ Like.Refused 10 ∷ []) ≡ true ∷ false ∷ [])
+likenessNumber-example = (refl, refl)
+
 -- "6, one word begins or equals another; 7, a belt isn't covered", with the column's letter
 judgementNumber-example : map judgementNumber (Accepted ∷ InFrom Overlap ∷ InTo Gap ∷ NotADraft ∷ []) ≡ 0 ∷ 6 ∷ 7 ∷ 15 ∷ []
 judgementNumber-example = refl
@@ -151,16 +160,21 @@ keeping-example : map keeping (value21 (row 11 11 ∷ row 12 12 ∷ []) ∷ valu
 unfolding keeping judged isDraft inTable shapeInRange granted maxPairs maxDigits Of.verdict keep normalForm normal joined packed blank pack packOn unpack unpackIn
 keeping-example = refl
 
--- φ squared; φ after what is no plan
-following-example : map (λ a. following a (value21 φ)) (value21 φ ∷ blank ∷ [])
-    ≡ record { answer = Granted; plan = value21 (row 111 112 ∷ row 112 111 ∷ row 121 122 ∷ row 122 121 ∷ []) } ∷ refusing 15 ∷ []
+-- φ squared; a plan of another shape; φ after what is no plan
+following-example : map (λ a. following a (value21 φ)) (value21 φ ∷ packed (record { shape = shape 3 1; rows = row 1 1 ∷ [] }) ∷ blank ∷ [])
+    ≡ granting (value21 (row 111 112 ∷ row 112 111 ∷ row 121 122 ∷ row 122 121 ∷ [])) ∷ refusing 10 ∷ refusing 15 ∷ []
 unfolding following isPlan inTable Of.isKept shapeInRange granted maxPairs maxDigits Of.verdict Of.followed compose keep normalForm normal joined packed blank pack packOn unpack unpackIn
 following-example = refl
 
--- "φ to the fourth: 1→1"; 1001 is 12
-raising-example : map (raising (value21 φ)) (pos 4 ∷ pos 1001 ∷ []) ≡ record { answer = Granted; plan = value21 (row 1 1 ∷ []) } ∷ refusing 12 ∷ []
+-- "φ inverse: 11→12, 121→112, 122→111"
+inverting-example : map inverting (value21 φ ∷ blank ∷ []) ≡ granting (value21 (row 11 12 ∷ row 121 112 ∷ row 122 111 ∷ [])) ∷ refusing 15 ∷ []
+unfolding inverting isPlan inTable Of.isKept shapeInRange granted maxPairs maxDigits Of.verdict Of.inverted inverse keep normalForm normal joined packed blank pack packOn unpack unpackIn
+inverting-example = refl
+
+-- "φ to the fourth: 1→1"; 1001 is 12; "ψ .. to the 15th is 11"
+raising-example : (map (raising (value21 φ)) (pos 4 ∷ pos 1001 ∷ []) ≡ granting (value21 (row 1 1 ∷ [])) ∷ refusing 12 ∷ []) × (raising (value21 ψ) (pos 15) ≡ refusing 11)
 unfolding raising isPlan inTable Of.isKept shapeInRange granted maxPairs maxDigits maxPower Of.verdict Of.powered Of.raised compose identity keep normalForm normal joined packed blank pack packOn unpack unpackIn
-raising-example = refl
+raising-example = (refl, refl)
 
 alike-example : map (alike (value21 φ)) (value21 φ ∷ value21 ψ ∷ blank ∷ []) ≡ Like.Alike true ∷ Like.Alike false ∷ Like.Refused 15 ∷ []
 unfolding alike isPlan inTable Of.isKept shapeInRange granted maxPairs maxDigits Of.verdict Of.same keep normalForm normal joined packed blank pack packOn unpack unpackIn

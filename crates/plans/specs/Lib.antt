@@ -1,5 +1,5 @@
--- The definitions that the contracts of this crate cite: the values of the library and the plans they hold; what the calls answer;
--- what keeping writes.
+-- The definitions that the contracts of this crate cite: the values of the library and the plans they hold; what the calls answer, match
+-- and route; what a listing leaves in a buffer; what keeping writes.
 pub mod Plans
 pub mod Answers
 pub mod Routing

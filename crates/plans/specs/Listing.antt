@@ -1,4 +1,5 @@
--- The listing of a plan for a slot: what the call answers and leaves in the lent buffer. 15 comes first, and 14 last.
+-- The listing of a plan for a slot: what the call answers and leaves in the lent buffer. 15 comes first, and 14 last. What is left
+-- of this folder is what the functions beneath the public calls promise.
 use Prim.Native.Nat.{ℕ}
 use mathlib.Core.Path.{_≡_, refl}
 use mathlib.Core.Bool.{Bool, true, false, _&&_}
@@ -63,3 +64,6 @@ value = packed (record { shape = shape 2 1; rows = row 1 1 ∷ [] })
 listing-example : (listing value 66 16 ≡ Bytes 16) × (listing value 66 15 ≡ Refused 14) × (listing value 73 16 ≡ Refused 8) × (listing blank 73 16 ≡ Refused 15)
 unfolding listing isPlan inTable isKept shapeInRange granted maxPairs maxDigits verdict keep normalForm normal joined packed blank pack packOn unpack unpackIn
 listing-example = (refl, refl, refl, refl)
+
+listedNumber-example : (map listedNumber (Bytes 16 ∷ Refused 14 ∷ []) ≡ 0 ∷ 14 ∷ []) × (map listedLength (Bytes 16 ∷ Refused 14 ∷ []) ≡ 16 ∷ 0 ∷ [])
+listedNumber-example = (refl, refl)

@@ -8,9 +8,10 @@ use lib.Dec.{leb, eqb}
 use lib.ListN.{length, take, drop, replicate}
 use Rattle.higman.specs.Words.{Shape, Word}
 use Rattle.higman.specs.Bases.{all}
-use Rattle.higman.specs.Tables.{Table, froms, tos, row}
-use Rattle.higman.specs.Limits.{Plan as PlanOf, maxPairs, maxDigits}
-use Rattle.higman.specs.Answers.{isTableOf, isKept}
+use Rattle.higman.specs.Tables.{Table, froms, tos, row, φ}
+use Rattle.higman.specs.Normal.{joined, normal, normalForm, keep}
+use Rattle.higman.specs.Limits.{Plan as PlanOf, shapeInRange, granted, maxPairs, maxDigits}
+use Rattle.higman.specs.Answers.{verdict, isTableOf, isKept}
 use Rattle.words.specs.Packed.{packOn, pack, unpackIn, unpack}
 use Rattle.words.specs.Bytes.{shape, isPlanWord}
 use Rattle.plans.specs.declared.Plan.{Plan}
@@ -42,7 +43,7 @@ inTable p = leb (p .pairs) maxPairs && zeros (drop (p .pairs) (p .from)) && zero
 unfoldable pub isDraft : Plan → Bool
 isDraft p = inTable p && isTableOf (shapeOf p) (rowsOf p)
 
--- "a plan .. as described above"
+-- "15 .. a plan or desk handed in isn't one as described above": what is not this
 unfoldable pub isPlan : Plan → Bool
 isPlan p = inTable p && isKept (planOf p)
 
@@ -73,3 +74,37 @@ planOf-example = refl
 isColumn-example : map (isColumn (shape 2 1) 1) ((0x11 ∷ 0 ∷ []) ∷ (0x11 ∷ 0x12 ∷ []) ∷ []) ≡ true ∷ false ∷ []
 unfolding isPlanWord maxDigits unpack unpackIn
 isColumn-example = refl
+
+-- a value of shape (2,1) with pairs and something behind them
+abbrev value21 : Table → ℕ → Plan
+value21 t behind =
+    record {
+      arity = 2;
+      roots = 1;
+      pairs = length t;
+      from = map pack (froms t) ++ behind ∷ replicate (maxPairs - length t - 1) 0;
+      to = map pack (tos t) ++ replicate (maxPairs - length t) 0;
+    }
+
+-- φ; φ with a word behind its pairs; the pairs of φ out of order; the plan that moves nothing on two pairs, which is not reduced; a gap
+values : List Plan
+values =
+    value21 φ 0
+    ∷ value21 φ 0x11
+    ∷ value21 (row 12 11 ∷ row 111 122 ∷ row 112 121 ∷ []) 0
+    ∷ value21 (row 11 11 ∷ row 12 12 ∷ []) 0
+    ∷ value21 (row 11 1 ∷ []) 0
+    ∷ []
+
+isDraft-example : map isDraft values ≡ true ∷ false ∷ true ∷ true ∷ true ∷ []
+unfolding values isDraft inTable shapeInRange granted maxPairs maxDigits pack packOn unpack unpackIn
+isDraft-example = refl
+
+isPlan-example : map isPlan values ≡ true ∷ false ∷ false ∷ false ∷ false ∷ []
+unfolding values isPlan inTable isKept shapeInRange granted maxPairs maxDigits verdict keep normalForm normal joined pack packOn unpack unpackIn
+isPlan-example = refl
+
+-- 129 pairs
+inTable-example : inTable (record { arity = 2; roots = 1; pairs = 129; from = replicate 129 0; to = replicate 129 0 }) ≡ false
+unfolding inTable maxPairs
+inTable-example = refl

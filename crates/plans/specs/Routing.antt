@@ -1,11 +1,11 @@
 -- Codes under a plan: what the library's match hands back, and what a route replies and leaves in the lent buffer. The images are those
--- of higman; 15 comes before all other refusals, and 14 after them.
+-- of higman; 15 comes before all other refusals, and 14 after them. Read Listing.antt next.
 use Prim.Native.Nat.{ℕ}
 use mathlib.Core.Path.{_≡_, refl}
 use mathlib.Core.Bool.{true, false}
 use mathlib.Core.List.{List, [], _∷_, map}
 use lib.Dec.{leb}
-use lib.ListN.{length}
+use lib.ListN.{length, drop}
 use Rattle.higman.specs.Tables.{froms, ψ}
 use Rattle.higman.specs.Normal.{joined, normal, normalForm, keep}
 use Rattle.higman.specs.Limits.{shapeInRange, granted, isCode, maxPairs, maxDigits, maxCode}
@@ -13,21 +13,24 @@ use Rattle.higman.specs.Answers as Of
 use Rattle.higman.specs.Listing.{wordBytes}
 use Rattle.words.specs.Packed.{packOn, pack, unpackIn, unpack}
 use Rattle.words.specs.Bytes.{shape, digitOf, digitsOf, written}
-use Rattle.tables.specs.Routing.{unmatched}
+use Rattle.tables.specs.Routing.{matchedDigits}
 use Rattle.plans.specs.declared.Plan.{Plan}
 use Rattle.plans.specs.declared.Route.{Route}
 use Rattle.plans.specs.declared.Route.the-variants.{Image, TooShort, Refused}
 use Rattle.plans.specs.Plans.{shapeOf, rowsOf, planOf, inTable, isPlan, packed, blank}
 
--- "The library's match hands back the unmatched tail .. Where no from-word begins the code, or 15 or 4 applies, that part is the whole
--- code."
-unfoldable pub matching : Plan → List ℕ → List ℕ
-matching p code =
+-- the digits of the from-word that begins a code; none where no from-word does, "or 15 or 4 applies"
+unfoldable pub matched : Plan → List ℕ → ℕ
+matched p code =
     elim
     (isPlan p) [
-      | true ↦ elim (isCode (shapeOf p) (digitsOf code)) [ true ↦ unmatched (froms (rowsOf p)) code | false ↦ code ]
-      | false ↦ code
+      | true ↦ elim (isCode (shapeOf p) (digitsOf code)) [ true ↦ matchedDigits (froms (rowsOf p)) (digitsOf code) | false ↦ 0 ]
+      | false ↦ 0
     ]
+
+-- "The library's match hands back the unmatched tail as a part of the parcel's code.": its bytes; where it starts is `further`.
+abbrev pub matching : Plan → List ℕ → List ℕ
+matching p code = drop (matched p code) code
 
 -- "14 last: the lent buffer is shorter than the output"
 abbrev pub routingIn : Of.Route → ℕ → Route
@@ -67,7 +70,7 @@ value = packed (record { shape = shape 2 1; rows = ψ })
 
 -- 1122 behind 112; 13, which has a wrong digit; 1122 by what is no plan
 matching-example : (matching value (49 ∷ 49 ∷ 50 ∷ 50 ∷ []) ≡ 50 ∷ []) × (matching value (49 ∷ 51 ∷ []) ≡ 49 ∷ 51 ∷ []) × (matching blank (49 ∷ 49 ∷ 50 ∷ 50 ∷ []) ≡ 49 ∷ 49 ∷ 50 ∷ 50 ∷ [])
-unfolding matching isPlan inTable Of.isKept isCode maxCode shapeInRange granted maxPairs maxDigits Of.verdict keep normalForm normal joined packed blank pack packOn unpack unpackIn digitOf
+unfolding matched isPlan inTable Of.isKept isCode maxCode shapeInRange granted maxPairs maxDigits Of.verdict keep normalForm normal joined packed blank pack packOn unpack unpackIn digitOf
 matching-example = (refl, refl, refl)
 
 -- 1122 goes to 1212, with room for all of it and for three bytes; 11 is too short, and 13 has a wrong digit

@@ -14,11 +14,11 @@ ghost use Rattle.tables.specs.Reduction.{rows};
 ghost use Rattle.plans.specs.Plans.{isPlan, packed, blank};
 ghost use Rattle.plans.specs.Answers.{keeping, refusing, granting, inverting};
 ghost use Rattle.plans.specs.Keeping.{KeptColumns, sameColumn, sameValue};
-use super::Answer;
-use super::Judgement;
-use super::Keeping;
-use super::Making;
-use super::Plan;
+use crate::Answer;
+use crate::Judgement;
+use crate::Keeping;
+use crate::Making;
+use crate::Plan;
 
 // Sets the numbers of a column to zero from a place on.
 fn clear(column: &mut [u64], place: usize)
@@ -118,7 +118,7 @@ pub fn granted(plan: Plan) -> Making
 pub fn keep(draft: Plan) -> Keeping
     ensures { λ r. ⌜ r ≡ keeping draft ⌝ }
 {
-    let judgement = super::drafts::verdict(draft);
+    let judgement = crate::drafts::verdict(draft);
     match judgement {
         Judgement::Accepted => {
             let from = draft.from;

@@ -4,7 +4,8 @@ ghost use mathlib.Core.Path.{_≡_};
 ghost use lib.ListN.{length};
 ghost use Rattle.higman.specs.Limits.{isCode};
 ghost use Rattle.words.specs.Bytes.{shape, digitsOf};
-ghost use Rattle.plans.specs.Routing.{matching, routing, routedBuffer};
+ghost use Rattle.tables.specs.Routing.{further};
+ghost use Rattle.plans.specs.Routing.{matched, matching, routing, routedBuffer};
 use crate::Plan;
 use crate::Route;
 use crate::kept;
@@ -26,6 +27,7 @@ fn is_code(code: &[u8], arity: u8, roots: u8) -> bool
 // The unmatched tail, as a part of the parcel's code; the whole code where no from-word begins it, or 15 or 4 applies.
 pub fn unmatched<'a>(p: Plan, code: &'a [u8]) -> &'a [u8]
     ensures { λ r. ⌜ now r ≡ matching p (now (code .entry)) ⌝ }
+    ensures { λ r. ⌜ r .ptr ≡ further (matched p (now (code .entry))) ((code .entry) .ptr) ⌝ }
 {
     if !kept::is_plan(p) {
         return code;

@@ -1,14 +1,19 @@
 -- The answers of the crate `plans` as a C program has them: the number of a refusal, or 0, and beside it what was answered.
 use mathlib.Core.Path.{_≡_, refl}
+use mathlib.Core.Bool.{true, false}
 use Rattle.plans.specs.declared.Judgement.{Judgement}
 use Rattle.plans.specs.declared.Judgement.the-variants.{InTo}
 use Rattle.plans.specs.declared.Reason.the-variants.{Gap}
+use Rattle.plans.specs.declared.Plan.{Plan}
 use Rattle.plans.specs.declared.Keeping.{Keeping}
+use Rattle.plans.specs.declared.Answer.the-variants as Answer
 use Rattle.plans.specs.declared.Making.{Making}
 use Rattle.plans.specs.declared.Likeness.{Likeness}
+use Rattle.plans.specs.declared.Likeness.the-variants as Likeness
 use Rattle.plans.specs.declared.Route.{Route}
 use Rattle.plans.specs.declared.Route.the-variants.{Image, TooShort}
 use Rattle.plans.specs.declared.Listed.{Listed}
+use Rattle.plans.specs.declared.Listed.the-variants as Listed
 use Rattle.plans.specs.Answers.{judgementNumber, judgementColumn, answerNumber, likenessNumber, likenessValue}
 use Rattle.plans.specs.Routing.{routingNumber, routingLength}
 use Rattle.plans.specs.Listing.{listedNumber, listedLength}
@@ -36,9 +41,22 @@ routedOf r = record { number = routingNumber r; length = routingLength r }
 abbrev pub listedOf : Listed → Written
 listedOf l = record { number = listedNumber l; length = listedLength l }
 
--- a gap in the to column, an image of four digits, and a code that is too short
+-- a gap in the to column, as a verdict and beside a plan
 verdictOf-example : verdictOf (InTo Gap) ≡ record { number = 7; column = 84 }
 verdictOf-example = refl
 
+keptOf-example : (p : Plan) → keptOf (record { judgement = InTo Gap; plan = p }) ≡ record { number = 7; column = 84; plan = p }
+keptOf-example p = refl
+
+madeOf-example : (p : Plan) → madeOf (record { answer = Answer.Granted; plan = p }) ≡ record { number = 0; plan = p }
+madeOf-example p = refl
+
+comparedOf-example : (comparedOf (Likeness.Alike true) ≡ record { number = 0; alike = true }) × (comparedOf (Likeness.Refused 10) ≡ record { number = 10; alike = false })
+comparedOf-example = (refl, refl)
+
+-- an image of four digits, a code that is too short, and a listing of 16 bytes
 routedOf-example : (routedOf (Image 4) ≡ record { number = 0; length = 4 }) × (routedOf TooShort ≡ record { number = 13; length = 0 })
 routedOf-example = (refl, refl)
+
+listedOf-example : listedOf (Listed.Bytes 16) ≡ record { number = 0; length = 16 }
+listedOf-example = refl

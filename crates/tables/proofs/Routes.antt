@@ -6,6 +6,7 @@ use mathlib.Core.Logic.{_⊎_, inl, inr}
 use mathlib.Core.Bool.{true, false}
 use mathlib.Core.List.{List, [], _∷_, _++_, append-nil, append-assoc, map-append, List·Memᴰ, List·Memᴰ·head, List·Memᴰ·tail}
 use mathlib.Core.Option.{Option, none, some}
+use native.Mathlib.Nat.{zero-add}
 use native.Mathlib.Omega.{arith}
 use lib.Dec.{leb, lit≤}
 use lib.ListN.{length, take, drop, length-append, length-drop, length-map, take-append-drop, drop-of-length-le}
@@ -27,10 +28,14 @@ use Rattle.words.proofs.Codes.{digits-take, digits-drop, begins-take, after-dro
 use Rattle.tables.specs.Packed.{wordsOf, table}
 use Rattle.tables.specs.Columns.{wordAt, BegunAt}
 use Rattle.tables.specs.Spreading.{packedWords, Operand}
-use Rattle.tables.specs.Routing.{IsCode, MatchedAt, matchedDigits, routedIn, routedInto}
+use Rattle.tables.specs.Routing.{IsCode, MatchedAt, matchedDigits, further, routedIn, routedInto}
 use Rattle.tables.specs.declared.routing.Routed.the-variants.{Image, TooShort, NoRoom}
 use Rattle.tables.proofs.Places.{place-of}
 use Rattle.tables.proofs.Lookup.{first-apart, overlap-rest, image-at, packed-at}
+
+-- the whole code starts where it starts
+pub here : (place : ℕ × ℕ) → place ≡ further 0 place
+here place = ap (λ n. (place .0, n)) (sym (zero-add (place .1)))
 
 pub code-ways : (code : List ℕ) → IsCode code → Ways 9 (digitsOf code)
 code-ways code t = ways-of-test 9 (digitsOf code) t

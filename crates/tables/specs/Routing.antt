@@ -1,6 +1,6 @@
 -- Codes under a plan's columns (document 01, "Forms"): the word of a column that begins a code, the tail behind it, and what routing
 -- a code answers and leaves in the buffer.
-use Prim.Native.Nat.{ℕ, _≤_, _<_}
+use Prim.Native.Nat.{ℕ, _+_, _≤_, _<_}
 use mathlib.Core.Path.{_≡_, refl}
 use mathlib.Core.Bool.{true, false}
 use mathlib.Core.List.{List, [], _∷_, map, List·Memᴰ}
@@ -41,6 +41,10 @@ matchedDigits (u ∷ c) w = elim (begins u w) [ true ↦ length u | false ↦ ma
 -- "The library's match hands back the unmatched tail .. Where no from-word begins the code .. that part is the whole code."
 abbrev pub unmatched : List Word → List ℕ → List ℕ
 unmatched c code = drop (matchedDigits c (digitsOf code)) code
+
+-- "as a part of the parcel's code": where a part starts that leaves out so many bytes, by the place where the code starts
+abbrev pub further : ℕ → ℕ × ℕ → ℕ × ℕ
+further n place = (place .0, n + place .1)
 
 -- what routing a code with this image answers, with room for so many bytes
 abbrev pub routedIn : Option Word → ℕ → Routed

@@ -9,7 +9,7 @@ ghost use Rattle.words.specs.Packed.{unpack};
 ghost use Rattle.words.specs.Bytes.{digitsOf, written};
 ghost use Rattle.tables.specs.Packed.{wordsOf, table};
 ghost use Rattle.tables.specs.Spreading.{Operand};
-ghost use Rattle.tables.specs.Routing.{IsCode, Searchable, MatchedAt, unmatched, routedIn, routedInto};
+ghost use Rattle.tables.specs.Routing.{IsCode, Searchable, MatchedAt, matchedDigits, unmatched, further, routedIn, routedInto};
 use crate::columns;
 
 // The limit of digits in a plan word.
@@ -50,6 +50,7 @@ pub fn place_of(from: &[u64], code: &[u8]) -> usize
 fn behind(w: u64, code: &[u8]) -> &[u8]
     requires { ⌜ length (unpack w) ≤ length (now code) ⌝ }
     ensures { λ r. ⌜ now r ≡ drop (length (unpack w)) (now (code .entry)) ⌝ }
+    ensures { λ r. ⌜ r .ptr ≡ further (length (unpack w)) ((code .entry) .ptr) ⌝ }
 {
     let start = words::length(w) as usize;
     &code[start..]
@@ -60,6 +61,7 @@ pub fn matched<'a>(from: &[u64], code: &'a [u8]) -> &'a [u8]
     requires { ⌜ Searchable (now from) ⌝ }
     requires { ⌜ IsCode (now code) ⌝ }
     ensures { λ r. ⌜ now r ≡ unmatched (wordsOf (now (from .entry))) (now (code .entry)) ⌝ }
+    ensures { λ r. ⌜ r .ptr ≡ further (matchedDigits (wordsOf (now (from .entry))) (digitsOf (now (code .entry)))) ((code .entry) .ptr) ⌝ }
 {
     let k = place_of(from, code);
     if k < from.len() {

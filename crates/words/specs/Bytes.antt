@@ -16,7 +16,7 @@ use Rattle.words.specs.declared.Reading.the-variants.{Spelled, Bad}
 abbrev pub shape : ℕ → ℕ → Shape
 shape arity roots = record { arity = arity; roots = roots }
 
--- a word that a plan of the shape may hold: not "empty, too long or [of] a wrong digit"
+-- a word that a plan of the shape may hold, not one "that is empty, too long or has a wrong digit"
 unfoldable pub isPlanWord : Shape → Word → Bool
 isPlanWord s w = isWord s w && fits w
 

@@ -9,7 +9,7 @@ unmatched-requires : tie.Need-unmatched-requires
 unmatched-requires c κs = search needs
 
 returns : tie.Need-returns
-returns c = ap length (c .unmatched .ensures)
+returns c = ap length (c .unmatched .ensures .0)
 
 pub plans-unmatched-spec : {M : Type 1} → statement M
 plans-unmatched-spec = tie.close (tie.spec unmatched-requires returns)

@@ -1,17 +1,18 @@
 -- `plans::routing::unmatched` meets its contract: the whole code where 15 or 4 applies, and otherwise what the search in the from-words
 -- leaves.
 use Prim.Native.Nat.{_≤_}
-use mathlib.Core.Path.{_≡_, sym, _∙_}
+use mathlib.Core.Path.{_≡_, sym, _∙_, ap}
 use mathlib.Core.Bool.{true}
 use borrow.Author.Needs.{needs}
 use borrow.Author.Tests.{not-true, not-false}
-use lib.ListN.{length}
+use lib.ListN.{length, drop}
 use lib.Seq.{length-take-le}
 use Rattle.higman.specs.Limits.{isCode}
 use Rattle.words.specs.Bytes.{digitsOf}
+use Rattle.tables.specs.Routing.{further}
 use Rattle.plans.specs.Plans.{shapeOf, isPlan}
 use Rattle.plans.proofs.KeptValues as K
-use Rattle.plans.proofs.Codes.{matching-no-plan, matching-no-code, code-digits, searchable, matching-found}
+use Rattle.plans.proofs.Codes.{matched-no-plan, matched-no-code, whole-code, code-digits, searchable, matched-found}
 use Rattle.plans.proofs.routing.unmatched.Statement.{statement}
 use Rattle.plans.proofs.routing.unmatched.Tie as tie
 
@@ -38,7 +39,7 @@ returns : tie.Need-returns
 returns c =
     let i = c .before in
     let a = i .before .before .args in
-    matching-no-plan (a .p) (a .code .now) (sym (i .is-plan .ensures) ∙ not-true (i .is-plan .result) (c .if1 .taken))
+    whole-code (a .p) (a .code .now) (a .code .ptr) (matched-no-plan (a .p) (a .code .now) (sym (i .is-plan .ensures) ∙ not-true (i .is-plan .result) (c .if1 .taken)))
 
 is-code-requires : tie.Need-is-code-requires
 is-code-requires c κs = search needs
@@ -47,7 +48,8 @@ returns-2 : tie.Need-returns-2
 returns-2 c =
     let i = c .before in
     let a = i .before .before .before .before .args in
-    matching-no-code (a .p) (a .code .now) (plan (i .before)) (sym (i .is-code .ensures) ∙ not-true (i .is-code .result) (c .if2 .taken))
+    whole-code (a .p) (a .code .now) (a .code .ptr)
+    (matched-no-code (a .p) (a .code .now) (plan (i .before)) (sym (i .is-code .ensures) ∙ not-true (i .is-code .result) (c .if2 .taken)))
 
 array-share-prefix-from : tie.Need-array-share-prefix-from
 array-share-prefix-from c = from-room (c .before)
@@ -69,7 +71,8 @@ returns-3 : tie.Need-returns-3
 returns-3 c =
     let e = c .before .before .before in
     let a = called e .args in
-    c .matched .ensures ∙ matching-found (a .p) (a .code .now) (plan (e .before .before)) (code e) (from-room e) (to-room e)
+    let found = matched-found (a .p) (a .code .now) (plan (e .before .before)) (code e) (from-room e) (to-room e) in
+    (c .matched .ensures .0 ∙ ap (λ n. drop n (a .code .now)) found, c .matched .ensures .1 ∙ ap (λ n. further n (a .code .ptr)) found)
 
 pub unmatched-spec : {M : Type 1} → statement M
 unmatched-spec =

@@ -5,6 +5,7 @@ use borrow.Author.Needs.{needs}
 use native.Mathlib.Omega.{arith}
 use lib.ListN.{length, drop, length-drop}
 use lib.Seq.{take-all}
+use Rattle.tables.specs.Routing.{further}
 use Rattle.tables.proofs.routing.behind.Statement.{statement}
 use Rattle.tables.proofs.routing.behind.Tie as tie
 
@@ -27,8 +28,10 @@ returns : tie.Need-returns
 returns c =
     let l = c .before in
     let code = l .before .before .args .code .now in
-    let n = l .length .result in
-    take-all (length code - n) (drop n code) (omega (arith, length-drop n code)) ∙ ap (λ k. drop k code) (l .length .ensures)
+    let n = l .length .result in (
+      take-all (length code - n) (drop n code) (omega (arith, length-drop n code)) ∙ ap (λ k. drop k code) (l .length .ensures),
+      ap (λ k. further k (l .before .before .args .code .ptr)) (l .length .ensures),
+    )
 
 pub behind-spec : {M : Type 1} → statement M
 behind-spec =

@@ -6,7 +6,8 @@ use lib.ListN.{drop}
 use Rattle.words.specs.Bytes.{digitsOf}
 use Rattle.tables.specs.Packed.{wordsOf}
 use Rattle.tables.specs.Columns.{wordAt}
-use Rattle.tables.proofs.Routes.{matched-digits, matched-none, begins-within}
+use Rattle.tables.specs.Routing.{further}
+use Rattle.tables.proofs.Routes.{here, matched-digits, matched-none, begins-within}
 use Rattle.tables.proofs.routing.matched.Statement.{statement}
 use Rattle.tables.proofs.routing.matched.Tie as tie
 
@@ -31,14 +32,15 @@ returns c =
     let p = t .before in
     let s = p .before .before .before in
     let a = s .args in
-    c .behind .ensures
-    ∙ ap (λ n. drop n (a .code .now)) (sym (matched-digits (a .from .now) (s .pre .0 .apart) (p .place-of .result) (t .if1 .taken) (digitsOf (a .code .now)) (p .place-of .ensures .found (t .if1 .taken))))
+    let found = sym (matched-digits (a .from .now) (s .pre .0 .apart) (p .place-of .result) (t .if1 .taken) (digitsOf (a .code .now)) (p .place-of .ensures .found (t .if1 .taken))) in
+    (c .behind .ensures .0 ∙ ap (λ n. drop n (a .code .now)) found, c .behind .ensures .1 ∙ ap (λ n. further n (a .code .ptr)) found)
 
 returns-2 : tie.Need-returns-2
 returns-2 c =
     let p = c .before in
     let a = p .before .before .before .args in
-    ap (λ n. drop n (a .code .now)) (sym (matched-none (wordsOf (a .from .now)) (digitsOf (a .code .now)) (p .place-of .ensures .none (omega (arith, p .place-of .ensures .within)))))
+    let none = sym (matched-none (wordsOf (a .from .now)) (digitsOf (a .code .now)) (p .place-of .ensures .none (omega (arith, p .place-of .ensures .within)))) in
+    (ap (λ n. drop n (a .code .now)) none, here (a .code .ptr) ∙ ap (λ n. further n (a .code .ptr)) none)
 
 pub matched-spec : {M : Type 1} → statement M
 matched-spec =

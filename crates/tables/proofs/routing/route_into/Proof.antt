@@ -59,7 +59,7 @@ room : (c : tie.Else3) →
     length (routed e) ≤ length (a .out .now)
 room c =
     let b = c .before .before .before .before in
-    omega (arith, long (b .before .before), ap length (b .behind .ensures))
+    omega (arith, long (b .before .before), ap length (b .behind .ensures .0))
 
 place-of-requires : tie.Need-place-of-requires
 place-of-requires c κs = search needs
@@ -109,7 +109,7 @@ returns-3 c =
     let l = c .before .before in
     let e = l .before .before .before .before in
     let a = e .before .before .before .before .before .before .args in
-    route-no-room (a .out .now) (routed e) (image-is e) (omega (arith, long e, ap length (l .before .before .behind .ensures)))
+    route-no-room (a .out .now) (routed e) (image-is e) (omega (arith, long e, ap length (l .before .before .behind .ensures .0)))
 
 mul-write : tie.Need-mul-write
 mul-write c = search needs
@@ -149,12 +149,12 @@ returns-4 c =
     let k = e .before .place-of .result in
     let head = wordAt (a .to .now) k in
     let d = w .before .before .before in
-    let size : w .write .result + length (b .behind .result .now) ≡ length (routed e) = omega (arith, long e, ap length (b .behind .ensures), w .write .ensures .0) in
+    let size : w .write .result + length (b .behind .result .now) ≡ length (routed e) = omega (arith, long e, ap length (b .behind .ensures .0), w .write .ensures .0) in
     let answer = route-image (a .out .now) (routed e) (image-is e) (room d) in
     let bytes = routed-bytes (a .from .now) (a .to .now) (s .pre .0) (a .code .now) (s .pre .1) k (e .if1 .left) (begun e) in (
       ap Image size ∙ answer .0,
       written-part (a .out .now) (wordBytes head) (b .behind .result .now) (w .write .last .1 .0) (y .copy .last .1 .0) (w .write .result) (omega (arith, w .write .ensures .0, length-map head digitByte)) (omega (arith, long e, length-map head digitByte)) (w .write .ensures .1) (y .copy .ensures)
-          ∙ ap (written (a .out .now) 0) (ap (λ l. wordBytes head ++ l) (b .behind .ensures) ∙ sym bytes)
+          ∙ ap (written (a .out .now) 0) (ap (λ l. wordBytes head ++ l) (b .behind .ensures .0) ∙ sym bytes)
           ∙ answer .1,
     )
 
