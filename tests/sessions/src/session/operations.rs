@@ -1,0 +1,101 @@
+//! The steps that work on held plans and ask about them, one record each: F,
+//! I, K, S, W, L and C, with the powers and the codes that they take.
+
+use super::{name, Session};
+use crate::plans::{self, Word};
+
+impl Session {
+    pub(super) fn follow(&mut self) {
+        let a = self.held_slot();
+        let b = self.mate(a);
+        let c = self.target(a);
+        self.record(&[b"F", name(a), name(b), name(c)]);
+        self.enter_result(a, c);
+    }
+
+    pub(super) fn inverse(&mut self) {
+        let a = self.held_slot();
+        let c = self.target(a);
+        self.record(&[b"I", name(a), name(c)]);
+        self.enter_result(a, c);
+    }
+
+    pub(super) fn power(&mut self) {
+        let a = self.held_slot();
+        let c = self.target(a);
+        let k = self.exponent(a);
+        self.record(&[b"K", name(a), k.to_string().as_bytes(), name(c)]);
+        self.enter_result(a, c);
+    }
+
+    /// An exponent: mostly small, sometimes at the limit or beyond. The ones
+    /// near a thousand go to plans of few pairs more often, to save time.
+    fn exponent(&mut self, slot: usize) -> i64 {
+        let small = self.slots[slot]
+            .as_ref()
+            .is_some_and(|held| !held.rows.is_empty() && held.rows.len() <= 24);
+        let size = match self.rng.below(20) {
+            0..=9 => self.rng.below(7),
+            10..=13 => self.rng.between(7, 40),
+            14 | 15 if small || self.rng.chance(20) => *self.rng.pick(&[999, 1000, 1000]),
+            16 => *self.rng.pick(&[1001, 1001, 1002, 9999]),
+            17 => 0,
+            _ => self.rng.between(1, 16),
+        };
+        if self.rng.chance(40) {
+            -(size as i64)
+        } else {
+            size as i64
+        }
+    }
+
+    pub(super) fn same(&mut self) {
+        let a = self.held_slot();
+        let b = self.mate(a);
+        self.record(&[b"S", name(a), name(b)]);
+    }
+
+    pub(super) fn list(&mut self) {
+        let a = self.held_slot();
+        self.record(&[b"L", name(a)]);
+    }
+
+    pub(super) fn clear(&mut self) {
+        let a = self.held_slot();
+        self.record(&[b"C", name(a)]);
+        self.slots[a] = None;
+    }
+
+    pub(super) fn route(&mut self) {
+        let a = self.held_slot();
+        let code = self.code_for(a);
+        self.record(&[b"W", name(a), &code]);
+    }
+
+    /// A code for a slot: behind one of its from-words, a beginning of one,
+    /// any code of the shape, or a very long one.
+    fn code_for(&mut self, slot: usize) -> Word {
+        let Some(held) = self.slots[slot].clone() else {
+            return b"1".to_vec();
+        };
+        let length = self.rng.between(1, 20);
+        let mut code = plans::random_code(&mut self.rng, held.shape, length);
+        if held.rows.is_empty() {
+            return code;
+        }
+        let word = &self.rng.pick(&held.rows).0;
+        match self.rng.below(10) {
+            0..=3 => {
+                code.splice(0..1, word.iter().copied());
+                code
+            }
+            4 | 5 => word[..self.rng.between(1, word.len())].to_vec(),
+            6 => word.clone(),
+            7 => {
+                let length = *self.rng.pick(&[1023, 1024]);
+                plans::random_code(&mut self.rng, held.shape, length)
+            }
+            _ => code,
+        }
+    }
+}

@@ -1,0 +1,114 @@
+//! What a range of seeds has to bring up: every operation, every shape, every
+//! limit with the first value beyond it, stray bytes and missing ends.
+
+use super::session;
+
+fn lines(seed: u64) -> Vec<Vec<u8>> {
+    session(seed)
+        .split(|&byte| byte == b'\n')
+        .map(<[u8]>::to_vec)
+        .collect()
+}
+
+fn all_lines(seeds: std::ops::Range<u64>) -> Vec<Vec<u8>> {
+    seeds.flat_map(lines).collect()
+}
+
+#[test]
+fn a_seed_decides_its_session() {
+    assert_eq!(session(5), session(5));
+    assert_ne!(session(5), session(6));
+}
+
+#[test]
+fn every_operation_and_every_shape_comes_up() {
+    let lines = all_lines(0..72);
+    for letter in b"PMEFIKSWLCTU" {
+        let found = lines.iter().any(|line| line.first() == Some(letter));
+        assert!(found, "no record {}", *letter as char);
+    }
+    for n in 2..=9 {
+        for r in 1..=9 {
+            let end = format!("\t{n}\t{r}").into_bytes();
+            let found = lines
+                .iter()
+                .any(|line| line.starts_with(b"P\t") && line.ends_with(&end));
+            assert!(found, "no plan of shape {n}, {r}");
+        }
+    }
+}
+
+#[test]
+fn every_boundary_comes_up() {
+    let lines = all_lines(0..200);
+    for length in [1100, 1101] {
+        assert!(lines.iter().any(|line| line.len() == length), "{length}");
+    }
+    for k in ["1000", "-1000", "1001", "-1001", "0", "-0", "10000"] {
+        let middle = format!("\t{k}\t").into_bytes();
+        let found = lines
+            .iter()
+            .any(|line| line.starts_with(b"K\t") && line[3..].starts_with(&middle));
+        assert!(found, "no power {k}");
+    }
+    for digits in [16, 17] {
+        let found = lines.iter().any(|line| {
+            line.starts_with(b"M\t")
+                && line[2..].split(|&byte| byte == b'\t').any(|word| {
+                    word.len() == digits && word.iter().all(|byte| byte.is_ascii_digit())
+                })
+        });
+        assert!(found, "no word of {digits} digits");
+    }
+    for digits in [1024, 1025] {
+        let found = lines
+            .iter()
+            .any(|line| line.starts_with(b"W\t") && line.len() == digits + 4);
+        assert!(found, "no code of {digits} digits");
+    }
+}
+
+#[test]
+fn n_and_r_come_up_at_their_ends() {
+    let lines = all_lines(0..200);
+    for end in ["0\t1", "1\t1", "2\t0", "9\t9", "2\t1", "9\t0", "0\t9"] {
+        let end = format!("\t{end}").into_bytes();
+        let found = lines
+            .iter()
+            .any(|line| line.starts_with(b"P\t") && line.ends_with(&end));
+        assert!(found, "no P ending {:?}", String::from_utf8_lossy(&end));
+    }
+}
+
+#[test]
+fn runs_of_128_and_129_pairs_come_up() {
+    let lines = all_lines(0..200);
+    let mut runs = Vec::new();
+    let mut run = 0;
+    for line in &lines {
+        if line.starts_with(b"M\t") {
+            run += 1;
+        } else if run > 0 {
+            runs.push(run);
+            run = 0;
+        }
+    }
+    assert!(runs.contains(&128) && runs.contains(&129));
+    assert!(runs.iter().all(|&run| run <= 131));
+}
+
+#[test]
+fn stray_bytes_and_missing_ends_come_up() {
+    let sessions: Vec<Vec<u8>> = (0..200).map(session).collect();
+    for byte in [0, 13, 255] {
+        assert!(sessions.iter().any(|bytes| bytes.contains(&byte)));
+    }
+    let ended = sessions
+        .iter()
+        .filter(|bytes| bytes.last() == Some(&b'\n'))
+        .count();
+    assert!(ended > 0 && ended < sessions.len());
+    assert!(sessions
+        .iter()
+        .any(|bytes| bytes.windows(2).any(|pair| pair == b"\n\n")));
+}
