@@ -3,8 +3,12 @@
 //! the reading of input in pieces.
 
 mod bases;
+mod following;
 mod group;
+mod listings;
 mod paper;
+mod powers;
 mod random;
 mod refusals;
+mod routes;
 mod stream;
