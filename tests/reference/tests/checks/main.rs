@@ -4,10 +4,13 @@
 
 mod bases;
 mod following;
+mod forms;
 mod group;
 mod listings;
+mod open_plans;
 mod paper;
 mod powers;
+mod prepared;
 mod random;
 mod refusals;
 mod routes;

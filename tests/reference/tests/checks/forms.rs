@@ -1,0 +1,108 @@
+//! Refusal 1 in all its cases (unknown letter, wrong number of fields, a field
+//! form, a line too long), and what is right in form and refused later.
+//! Spaces stand for tabs in the records.
+
+use crate::prepared::{check, check_on, prepared};
+
+/// Letters that no record has; the first two lines have an empty one.
+const UNKNOWN_LETTERS: &[&str] = &["", " ", "X", "p A 2 1", "PP A 2 1", "\r", "T\r", "\0", "tt"];
+
+/// Records with a field too few or too many.
+const WRONG_NUMBERS_OF_FIELDS: &[&str] = &[
+    "P",
+    "P A 2",
+    "P A 2 1 ",
+    "P A 2 1 1",
+    "M",
+    "M 1",
+    "M 1 1 1",
+    "E ",
+    "E 1",
+    "F A A",
+    "F A A A A",
+    "I A",
+    "I A A A",
+    "K A 1",
+    "S A",
+    "S A A A",
+    "W A",
+    "W A 1 1",
+    "L",
+    "L A A",
+    "C",
+    "T ",
+    "T T",
+    "U ",
+    "U A",
+];
+
+/// Slot fields of no byte or of two.
+const WRONG_SLOTS: &[&str] = &[
+    "P  2 1", "P AB 2 1", "F A A ", "F AA A A", "I A ", "K AA 1 C", "K A 1 ", "S  A", "W  1",
+    "W AA 1", "L ", "C ", "C AA",
+];
+
+/// Fields for n or r that are not one digit.
+const WRONG_SHAPES: &[&str] = &["P A x 1", "P A 12 1", "P A  1", "P A 2 ", "P A 2 -"];
+
+/// Fields for k that are not "an optional minus and one to four digits, no
+/// leading zero and no minus zero".
+const WRONG_POWERS: &[&str] = &[
+    "", "-", "+1", "00", "01", "-0", "-01", "10000", "-10000", "1x", "--1",
+];
+
+#[test]
+fn forms() {
+    let tables = [
+        UNKNOWN_LETTERS,
+        WRONG_NUMBERS_OF_FIELDS,
+        WRONG_SLOTS,
+        WRONG_SHAPES,
+    ];
+    for record in tables.concat() {
+        check(record, "no 1");
+    }
+    for k in WRONG_POWERS {
+        check(&format!("K A {k} C"), "no 1");
+    }
+}
+
+/// A slot may be any byte in form, so it is number 8 and not 1.
+#[test]
+fn slot_bytes() {
+    for record in [
+        "P I 2 1",
+        "P a 0 0",
+        "P @ 2 1",
+        "P \r 2 1",
+        "F A A I",
+        "F z A A",
+        "F C z B",
+        "I A z",
+        "I z A",
+        "K A 1 z",
+        "K z 1001 A",
+        "K C 1001 z",
+        "S A z",
+        "S z C",
+        "W z 1",
+        "W z 0",
+        "L z",
+        "C z",
+    ] {
+        check(record, "no 8");
+    }
+    check_on(prepared(3), b"L\t\xff", "no\t8\n");
+    check_on(prepared(3), b"L\t\0", "no\t8\n");
+}
+
+/// The limit of a line is 1,100 bytes without byte 10.
+#[test]
+fn lines_at_the_limit() {
+    let padded = |length: usize| [b"W\tA\t".as_slice(), &vec![b'1'; length - 4]].concat();
+    check_on(prepared(3), &padded(1100), "no\t4\n");
+    check_on(prepared(3), &padded(1101), "no\t1\n");
+    check_on(prepared(3), &padded(70_000), "no\t1\n");
+    let empty_slot = [b"W\tC\t".as_slice(), &[b'1'; 1096]].concat();
+    check_on(prepared(3), &empty_slot, "no\t9\n");
+}
