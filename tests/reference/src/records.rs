@@ -42,7 +42,12 @@ impl<'a> Record<'a> {
 
     fn from_fields(line: &'a [u8]) -> Option<Record<'a>> {
         let fields: Vec<&[u8]> = line.split(|byte| *byte == b'\t').collect();
-        let record = match fields[..] {
+        Record::changing(&fields).or_else(|| Record::asking(&fields))
+    }
+
+    /// The records that open, build, keep or empty a plan.
+    fn changing(fields: &[&'a [u8]]) -> Option<Record<'a>> {
+        let record = match *fields {
             [b"P", slot, arity, roots] => Record::Open {
                 slot: one_byte(slot)?,
                 arity: one_digit(arity)?,
@@ -64,6 +69,17 @@ impl<'a> Record<'a> {
                 k: exponent(k)?,
                 target: one_byte(target)?,
             },
+            [b"C", operand] => Record::Clear {
+                operand: one_byte(operand)?,
+            },
+            _ => return None,
+        };
+        Some(record)
+    }
+
+    /// The records that leave the slots as they are.
+    fn asking(fields: &[&'a [u8]]) -> Option<Record<'a>> {
+        let record = match *fields {
             [b"S", first, second] => Record::Same {
                 first: one_byte(first)?,
                 second: one_byte(second)?,
@@ -73,9 +89,6 @@ impl<'a> Record<'a> {
                 code,
             },
             [b"L", operand] => Record::List {
-                operand: one_byte(operand)?,
-            },
-            [b"C", operand] => Record::Clear {
                 operand: one_byte(operand)?,
             },
             [b"T"] => Record::Count,
