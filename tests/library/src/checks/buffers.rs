@@ -18,7 +18,7 @@ pub type Ask<'a> = &'a dyn Fn(&dyn Calls, &mut [u8]) -> Written;
 /// The lengths of buffer worth trying for an output of this length.
 pub fn lengths(output: usize) -> Vec<usize> {
     let shorter = [output.saturating_sub(1), output / 2, 0];
-    [vec![output, output + 1, output + 100], shorter.to_vec()].concat()
+    [vec![output, output + 1, AMPLE], shorter.to_vec()].concat()
 }
 
 /// The length of the output, by the second implementation; 0 in a refusal.
