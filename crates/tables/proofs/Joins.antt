@@ -63,7 +63,7 @@ module _ (w v : Word) (f t : List ℕ) (k i m : ℕ) where
       ∙ ap (λ l. sameTable l (prefixed w (gather (count i (suc m′)) (λ j. whole (child v j))))) (rowsAt-suc k m′ f t h h′)
       ∙ ap₂ (λ x y. sameWord (unpack (getD f k 0)) (child w i) && sameWord (unpack (getD t k 0)) (child v i) && alike w v f t x y m′) (sym p) (sym q)
 
-parts-length : (v : Word) (a m : ℕ) → length (gather (count a m) (λ i. whole (child v i))) ≡ m
+pub parts-length : (v : Word) (a m : ℕ) → length (gather (count a m) (λ i. whole (child v i))) ≡ m
 parts-length v a zero = refl
 parts-length v a (suc m) = ap suc (parts-length v (suc a) m)
 

@@ -15,12 +15,14 @@ pub mod Halves
 pub mod Merging
 pub mod Cuts
 pub mod Joins
+pub mod Ordered
 pub mod Steps
 pub mod Reduction
 pub mod Spread
 pub mod Followed
 pub mod Wide
 pub mod Lookup
+pub mod Joining
 pub mod Extending
 pub mod Beneath
 pub mod Routes

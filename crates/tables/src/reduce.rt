@@ -37,7 +37,7 @@ fn is_part(x: u64, w: u64, i: u8) -> bool
 }
 
 // Whether the pairs from the place at on are the n parts of w with the n parts of v, in the same order.
-fn are_parts(from: &[u64], to: &[u64], at: usize, w: u64, v: u64, arity: u8) -> bool
+pub fn are_parts(from: &[u64], to: &[u64], at: usize, w: u64, v: u64, arity: u8) -> bool
     requires { ⌜ (arity ≤ 9) × (at + arity ≤ length (now from)) × (at + arity ≤ length (now to)) ⌝ }
     ensures { λ r. ⌜ r ≡ sameTable (rowsAt at arity (now (from .entry)) (now (to .entry))) (prefixed (unpack w) (parts arity (unpack v))) ⌝ }
 {
