@@ -1,5 +1,5 @@
--- What an accepted draft is, what is kept of it, and when a value is a kept plan: exactly when it is accepted and keeping it gives it
--- back. What I makes of a plan is what is kept of its columns exchanged.
+-- What an accepted draft is, what is kept of it, and when a value is a kept plan: exactly when it is accepted, reduced and in order.
+-- What I makes of a plan is what is kept of its columns exchanged.
 use Prim.Native.Nat.{ℕ, _≤_}
 use mathlib.Core.Path.{_≡_, refl, sym, _∙_, ap, subst}
 use mathlib.Core.Logic.{_↔_, _⊎_, inl, inr}
@@ -7,17 +7,16 @@ use mathlib.Core.Bool.{Bool, true, false, _&&_}
 use mathlib.Core.List.{List, [], _∷_}
 use native.Mathlib.Omega.{arith}
 use lib.Dec.{T}
-use lib.ListN.{length, take}
+use lib.ListN.{take}
 use types.Run.{OneOf}
 use denote.Enum.Declared.{tagOf}
 use Rattle.higman.specs.Words.{Shape}
-use Rattle.higman.specs.Tables.{Table, swapped, sameTable}
-use Rattle.higman.specs.Normal.{keep}
+use Rattle.higman.specs.Tables.{Table, froms, swapped, sameTable}
+use Rattle.higman.specs.Normal.{keep, Reduced, ordered}
 use Rattle.higman.specs.Limits.{Bases, Kept, maxPairs, shapeInRange}
 use Rattle.higman.specs.Answers as Of
-use Rattle.higman.proofs.Tests.{passes, so, T-of, and-left, and-right, and-intro, same-table, same-table-refl}
+use Rattle.higman.proofs.Tests.{passes, so, T-of, and-left, and-right, and-intro}
 use Rattle.higman.proofs.Elements.{element-swapped}
-use Rattle.higman.proofs.Group.{keep-member}
 use Rattle.higman.proofs.KeptPlans.{arity-of-range, element-of-bases, bases-of-element}
 use Rattle.higman.proofs.Statements.{table-of, answers-exact}
 use Rattle.words.specs.Packed.{unpack}
@@ -29,11 +28,12 @@ use Rattle.plans.specs.declared.Answer.the-variants.{Granted}
 use Rattle.plans.specs.declared.Making.{Making}
 use Rattle.tables.specs.Packed.{table}
 use Rattle.tables.specs.Reduction.{rows}
+use Rattle.tables.specs.Joining.{isNormal}
+use Rattle.tables.proofs.Joining.{normal-exactly}
 use Rattle.plans.specs.Plans.{shapeOf, rowsOf, planOf, inTable, isDraft, isPlan, packed, blank}
 use Rattle.plans.specs.Answers.{judgementOf, judged, keptOf, keeping, noPlan, inverting}
-use Rattle.plans.specs.Keeping.{sameValue}
 use Rattle.plans.proofs.Judgement.{the-type}
-use Rattle.plans.proofs.Values.{in-table, packed-plan-of, rows-of-packed, same-value}
+use Rattle.plans.proofs.Values.{few-in-table}
 
 abbrev IsAccepted : Judgement → Type 0
 IsAccepted NotADraft = ⊥
@@ -81,7 +81,7 @@ module _ (p : Plan) where
       let within = and-left (inTable p) (Of.isTableOf s t) (T-of d) in
       record {
         within = within;
-        few = in-table p within .few;
+        few = few-in-table p within;
         draft = draft;
         in-range = words .in-range;
         verdict = v;
@@ -122,14 +122,6 @@ judged-plan p h =
     let words = table-of s t draft in
     judged-approved p w draft (answers-exact .accepted s (arity-of-range s (words .in-range)) t (words .from-words) (words .to-words) .1 (k .bases))
 
--- it is what is kept of it
-keep-own : (p : Plan) → T (isPlan p) → keep (shapeOf p) (rowsOf p) ≡ rowsOf p
-unfolding isPlan Rattle.higman.specs.Answers.isKept
-keep-own p h =
-    let s = shapeOf p in
-    let t = rowsOf p in
-    same-table (keep s t) t (and-right (Of.isTableOf s t && Of.accepts (Of.verdict s t)) (sameTable (keep s t) t) (and-right (inTable p) (Of.isKept (planOf p)) h))
-
 -- a value that is not accepted is no plan
 pub no-plan : (p : Plan) → (judged p ≡ Accepted → ⊥) → isPlan p ≡ false
 no-plan p h = go (passes (isPlan p))
@@ -144,44 +136,31 @@ same-test true false f g = absurd (f tt)
 same-test false true f g = absurd (g tt)
 same-test false false f g = refl
 
--- an accepted value is a plan exactly when keeping it gives it back
-pub plan-kept : (p : Plan) → length (p .from) ≡ maxPairs → length (p .to) ≡ maxPairs → judged p ≡ Accepted → sameValue (keptOf p Accepted) p ≡ isPlan p
-unfolding isPlan Rattle.higman.specs.Answers.isKept
-plan-kept p f t e = same-test (sameValue (keptOf p Accepted) p) (isPlan p) to from
+-- an accepted value is a plan exactly when it is reduced and its from-words are in order
+pub plan-normal : (p : Plan) → judged p ≡ Accepted → isNormal (p .arity) (rowsOf p) ≡ isPlan p
+unfolding isPlan
+plan-normal p e = same-test (isNormal (p .arity) (rowsOf p)) (isPlan p) to from
   where
-    s : Shape
-    s = shapeOf p
-
     a : Approved p
     a = approved p e
 
-    -- the words of what is kept are words, so the value that holds it gives it back
-    held : rowsOf (packed (record { shape = s; rows = keep s (rowsOf p) })) ≡ keep s (rowsOf p)
-    held =
-        let n = arity-of-range s (a .in-range) in
-        rows-of-packed s (keep s (rowsOf p)) (a .in-range) (keep-member s n (rowsOf p) (element-of-bases s (rowsOf p) n (a .bases)) .element)
+    normal : T (isNormal (p .arity) (rowsOf p)) ↔ (Reduced (p .arity) (rowsOf p) × (ordered (froms (rowsOf p)) ≡ true))
+    normal = normal-exactly (p .arity) (rowsOf p) (arity-of-range (shapeOf p) (a .in-range))
 
-    to : T (sameValue (keptOf p Accepted) p) → T (isPlan p)
+    to : T (isNormal (p .arity) (rowsOf p)) → T (isPlan p)
     to h =
-        let own : keep s (rowsOf p) ≡ rowsOf p = sym held ∙ ap rowsOf (same-value (keptOf p Accepted) p .0 h) in
-        let d = Of.isTableOf s (rowsOf p) in
-        let v = Of.accepts (Of.verdict s (rowsOf p)) in
-        and-intro (inTable p) (Of.isKept (planOf p)) (a .within)
-        (and-intro (d && v) (sameTable (keep s (rowsOf p)) (rowsOf p))
-        (and-intro d v (a .draft) (subst (λ x. T (Of.accepts x)) (sym (a .verdict)) tt))
-        (subst (λ x. T (sameTable x (rowsOf p))) (sym own) (same-table-refl (rowsOf p))))
+        let (reduced, in-order) = normal .0 h in
+        let kept : Kept (planOf p) = record {
+          in-range = a .in-range;
+          within = table-of (shapeOf p) (rowsOf p) (a .draft) .within;
+          bases = a .bases;
+          reduced = reduced;
+          in-order = in-order;
+        } in
+        and-intro (inTable p) (Of.isKept (planOf p)) (a .within) (answers-exact .kept-test (planOf p) .1 kept)
 
-    from : T (isPlan p) → T (sameValue (keptOf p Accepted) p)
-    from h =
-        let own = keep-own p h in
-        same-value (keptOf p Accepted) p .1 (ap (λ x. packed (record { shape = s; rows = x })) own ∙ packed-plan-of p (a .within) f t)
-
--- a value is a plan exactly when it is accepted and keeping it gives it back
-pub plan-exactly : (p : Plan) → length (p .from) ≡ maxPairs → length (p .to) ≡ maxPairs → (isPlan p ≡ true) ↔ ((judged p ≡ Accepted) × (keptOf p Accepted ≡ p))
-plan-exactly p f t = (
-  λ e. let j = judged-plan p (T-of e) in (j, same-value (keptOf p Accepted) p .0 (T-of (plan-kept p f t j ∙ e))),
-  λ (j, e). sym (plan-kept p f t j) ∙ so (sameValue (keptOf p Accepted) p) (same-value (keptOf p Accepted) p .1 e),
-)
+    from : T (isPlan p) → T (isNormal (p .arity) (rowsOf p))
+    from h = let k = kept-plan p h .1 in normal .1 (k .reduced, k .in-order)
 
 -- the table of two columns exchanged
 table-swapped : (f t : List ℕ) → table t f ≡ swapped (table f t)
@@ -196,7 +175,7 @@ module _ (a : Plan) (e : isPlan a ≡ true) where
   exchanged = table-swapped (take (a .pairs) (a .from)) (take (a .pairs) (a .to))
 
   pub plan-few : a .pairs ≤ maxPairs
-  plan-few = in-table a (kept-plan a (T-of e) .0) .few
+  plan-few = few-in-table a (kept-plan a (T-of e) .0)
 
   pub plan-in-range : T (shapeInRange (shapeOf a))
   plan-in-range = kept-plan a (T-of e) .1 .in-range

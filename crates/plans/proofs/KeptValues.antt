@@ -30,7 +30,7 @@ use Rattle.plans.specs.declared.Plan.{Plan}
 use Rattle.plans.specs.Plans.{shapeOf, rowsOf, planOf, inTable, isPlan}
 use Rattle.plans.proofs.Plan.{the-row}
 use Rattle.plans.proofs.Sizes.{from-long, to-long}
-use Rattle.plans.proofs.Values.{in-table}
+use Rattle.plans.proofs.Values.{few-in-table}
 
 -- the order of document 01 is the order in which columns are sorted
 sorted-of-ordered : (c : List Word) → ordered c ≡ true → sorted c ≡ true
@@ -56,7 +56,7 @@ module _ (p : Plan) (h : isPlan p ≡ true) where
   few = and-left (inTable p) (isKept (planOf p)) (T-of h)
 
   pub pairs-few : p .pairs ≤ maxPairs
-  pairs-few = in-table p few .few
+  pairs-few = few-in-table p few
 
   pub kept : Kept (planOf p)
   unfolding isPlan

@@ -1,6 +1,6 @@
 // Keeping (document 01, "Plans"): "Kept plans are reduced, with from-words in order of the first digit that differs". A draft is kept
 // by sorting its pairs, reducing them into fresh columns and clearing what joins have left behind the pairs. A value is a kept plan
-// if keeping it gives it back, and the inverse is what is kept of the columns exchanged.
+// if it is accepted, its from-words are in order and no pairs of it join, and the inverse is what is kept of the columns exchanged.
 ghost use mathlib.Core.Path.{_≡_};
 ghost use mathlib.Core.List.{_++_};
 ghost use Prim.Native.Nat.{_-_, _≤_};
@@ -13,7 +13,7 @@ ghost use Rattle.tables.specs.Packed.{table};
 ghost use Rattle.tables.specs.Reduction.{rows};
 ghost use Rattle.plans.specs.Plans.{isPlan, packed, blank};
 ghost use Rattle.plans.specs.Answers.{keeping, refusing, granting, inverting};
-ghost use Rattle.plans.specs.Keeping.{KeptColumns, sameColumn, sameValue};
+ghost use Rattle.plans.specs.Keeping.{KeptColumns};
 use crate::Answer;
 use crate::Judgement;
 use crate::Keeping;
@@ -139,53 +139,17 @@ pub fn keep(draft: Plan) -> Keeping
     }
 }
 
-// Whether two columns have the same number at each place.
-fn same_column(a: [u64; 128], b: [u64; 128]) -> bool
-    ensures { λ r. ⌜ r ≡ sameColumn a b ⌝ }
-{
-    let mut i = 0;
-    while i < 128 {
-        if a[i] != b[i] {
-            return false;
-        }
-        i += 1;
-    }
-    true
-}
-
-// Whether two values agree in every field.
-fn same_values(a: Plan, b: Plan) -> bool
-    ensures { λ r. ⌜ r ≡ sameValue a b ⌝ }
-{
-    if a.arity != b.arity {
-        return false;
-    }
-    if a.roots != b.roots {
-        return false;
-    }
-    if a.pairs != b.pairs {
-        return false;
-    }
-    let from = a.from;
-    let other_from = b.from;
-    if !same_column(from, other_from) {
-        return false;
-    }
-    let to = a.to;
-    let other_to = b.to;
-    same_column(to, other_to)
-}
-
-// Whether a value is a kept plan: keeping it accepts it and gives it back.
+// Whether a value is a kept plan: accepted, reduced, and with its from-words in order. Then keeping it would give it back.
 pub fn is_plan(p: Plan) -> bool
     ensures { λ r. ⌜ r ≡ isPlan p ⌝ }
 {
-    let keeping = keep(p);
-    let judgement = keeping.judgement;
+    let judgement = crate::drafts::verdict(p);
     match judgement {
         Judgement::Accepted => {
-            let plan = keeping.plan;
-            same_values(plan, p)
+            let n = p.pairs;
+            let from = p.from;
+            let to = p.to;
+            tables::normal::is_normal(&from[..n], &to[..n], p.arity)
         }
         _ => false,
     }

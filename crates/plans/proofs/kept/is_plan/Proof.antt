@@ -1,47 +1,90 @@
--- `plans::kept::is_plan` meets its contract: a plan is an accepted value that keeping gives back. A value's columns have as many places
--- as a table has pairs.
-use Prim.Native.Nat.{ℕ}
-use mathlib.Core.Path.{_≡_, sym, _∙_, ap}
-use borrow.Author.Needs.{needs, length-unmapped}
+-- `plans::kept::is_plan` meets its contract: a plan is an accepted value that is reduced and in order. The parts that are lent are the
+-- pairs of the value, whose columns have as many places as a table has pairs.
+use Prim.Native.Nat.{_≤_}
+use mathlib.Core.Path.{_≡_, sym, _∙_}
+use borrow.Author.Needs.{needs}
+use native.Mathlib.Omega.{arith}
 use lib.ListN.{length}
+use lib.Seq.{length-take-le}
 use Rattle.higman.specs.Limits.{maxPairs}
+use Rattle.higman.proofs.KeptPlans.{arity-of-range, in-range}
 use Rattle.plans.specs.declared.Judgement.the-variants.{Accepted}
-use Rattle.plans.specs.Answers.{judged, keptOf, keeping}
-use Rattle.plans.specs.Keeping.{sameValue}
-use Rattle.plans.proofs.Accepted.{not-accepted, no-plan, plan-kept}
+use Rattle.plans.specs.Plans.{shapeOf}
+use Rattle.plans.specs.Answers.{judged}
+use Rattle.plans.proofs.Sizes.{from-long, to-long}
+use Rattle.plans.proofs.Accepted.{not-accepted, approved, no-plan, plan-normal}
 use Rattle.plans.proofs.kept.is_plan.Statement.{statement}
 use Rattle.plans.proofs.kept.is_plan.Tie as tie
 
-long : (c : tie.Start) → (length (c .args .p .from) ≡ 128) × (length (c .args .p .to) ≡ 128)
-long c =
-    let columns = c .good .0 .1 .1 .1 .1 .1 in
-    (length-unmapped ℕ (c .args .p .from) 128 (columns .0 .1 .0 .1), length-unmapped ℕ (c .args .p .to) 128 (columns .1 .0 .1 .0 .1))
+accepted : (c : tie.After-enum-told) → judged (c .before .before .before .args .p) ≡ Accepted
+accepted c = sym (c .before .before .verdict .ensures) ∙ c .enum-told .given .1
 
-keep-requires : tie.Need-keep-requires
-keep-requires c κs = search needs
+from-room : (c : tie.After-enum-told) → let p = c .before .before .before .args .p in p .pairs ≤ length (p .from)
+unfolding maxPairs
+from-room c =
+    let z = c .before .before .before in
+    omega (arith, approved (z .args .p) (accepted c) .few, from-long (z .args .p) _ (z .good .0))
+
+to-room : (c : tie.After-enum-told) → let p = c .before .before .before .args .p in p .pairs ≤ length (p .to)
+unfolding maxPairs
+to-room c =
+    let z = c .before .before .before in
+    omega (arith, approved (z .args .p) (accepted c) .few, to-long (z .args .p) _ (z .good .0))
+
+verdict-requires : tie.Need-verdict-requires
+verdict-requires c κs = search needs
 
 enum-told : tie.Need-enum-told
 enum-told c = search needs
 
-same-values-requires : tie.Need-same-values-requires
-same-values-requires c κs = search needs
+array-share-prefix-from : tie.Need-array-share-prefix-from
+array-share-prefix-from c = from-room (c .before .before)
+
+slice-aggregate-is-normal : tie.Need-slice-aggregate-is-normal
+slice-aggregate-is-normal c =
+    let e = c .before .before .before in
+    let p = e .before .before .before .args .p in
+    sym (length-take-le (p .pairs) (p .from) (from-room e))
+
+array-share-prefix-to : tie.Need-array-share-prefix-to
+array-share-prefix-to c = to-room (c .before .before .before)
+
+slice-aggregate-is-normal-2 : tie.Need-slice-aggregate-is-normal-2
+slice-aggregate-is-normal-2 c =
+    let e = c .before .before .before .before in
+    let p = e .before .before .before .args .p in
+    sym (length-take-le (p .pairs) (p .to) (to-room e))
+
+is-normal-requires : tie.Need-is-normal-requires
+is-normal-requires c κs =
+    let e = c .before .before .before .before in
+    let p = e .before .before .before .args .p in
+    let range = approved p (accepted e) .in-range in (
+      arity-of-range (shapeOf p) range,
+      in-range (shapeOf p) range .arity-high,
+      length-take-le (p .pairs) (p .from) (from-room e) ∙ sym (length-take-le (p .pairs) (p .to) (to-room e)),
+    )
 
 returns : tie.Need-returns
-unfolding keeping maxPairs
 returns c =
-    let k = c .before .before .before .before in
-    let p = k .before .args .p in
-    let e : judged p ≡ Accepted = ap (λ x. x .judgement) (sym (k .keep .ensures)) ∙ c .before .before .enum-told .given .1 in
-    let (f, t) = long (k .before) in
-    c .same-values .ensures
-    ∙ ap (λ q. sameValue q p) (ap (λ x. x .plan) (k .keep .ensures) ∙ ap (keptOf p) e)
-    ∙ plan-kept p f t e
+    let e = c .before .before .before .before .before in
+    c .is-normal .ensures ∙ plan-normal (e .before .before .before .args .p) (accepted e)
 
 returns-2 : tie.Need-returns-2
-unfolding keeping
 returns-2 c =
-    let k = c .before in
-    sym (no-plan (k .before .args .p) (λ e. not-accepted (k .keep .result .judgement) (c .match .keys2) (ap (λ x. x .judgement) (k .keep .ensures) ∙ e)))
+    let v = c .before in
+    sym (no-plan (v .before .args .p) (λ e. not-accepted (v .verdict .result) (c .match .keys2) (v .verdict .ensures ∙ e)))
 
 pub is-plan-spec : {M : Type 1} → statement M
-is-plan-spec = tie.close (tie.spec keep-requires enum-told same-values-requires returns returns-2)
+is-plan-spec =
+    tie.close
+    (tie.spec
+    verdict-requires
+    enum-told
+    array-share-prefix-from
+    slice-aggregate-is-normal
+    array-share-prefix-to
+    slice-aggregate-is-normal-2
+    is-normal-requires
+    returns
+    returns-2)
