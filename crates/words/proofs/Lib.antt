@@ -3,11 +3,12 @@ pub mod Packing
 pub mod Sizes
 pub mod Bounds
 pub mod Children
+pub mod Shifts
 pub mod Limit
 pub mod Packed
-pub mod Shifts
 pub mod Prefixes
 pub mod Order
+pub mod Aligned
 pub mod PlanWords
 pub mod Bytes
 pub mod Codes

@@ -1,7 +1,7 @@
 -- Where the limit of digits meets the machine: a number of 64 bits holds the words of at most maxDigits digits, and no others.
 -- Nothing else here speaks of a number of digits.
 use mathlib.Core.Path.{_≡_, refl}
-use Prim.Native.Nat.{ℕ, _+_, _*_, _^_, _≤_, _<_}
+use Prim.Native.Nat.{ℕ, _+_, _*_, _-_, _/_, _%_, _^_, _≤_, _<_}
 use native.Mathlib.Nat.{pow-le-pow-right}
 use native.Mathlib.Omega.{arith}
 use lib.Dec.{lit<}
@@ -11,6 +11,7 @@ use lib.ListN.{length}
 use Rattle.higman.specs.Limits.{maxDigits}
 use Rattle.words.specs.Packed.{unpack}
 use Rattle.words.proofs.Sizes.{length-of-below, unpack-below}
+use Rattle.words.proofs.Shifts.{shift-to-top}
 
 -- the limit as `read` has it
 pub limit : maxDigits ≡ 16
@@ -25,6 +26,11 @@ half-shift k h = omega arith
 pub word-fits : (x : ℕ) → x < 2 ^ 64 → length (unpack x) ≤ maxDigits
 unfolding maxDigits
 word-fits x h = length-of-below 16 x h
+
+-- the shift by the whole digits among the z zeros above a number's m bits
+pub top-shift : (w z m : ℕ) → z + m ≡ 64 → w < 2 ^ m → 2 ^ m ≤ 2 * w + 1 → (w * 2 ^ (z / 4 * 4 % 64)) % 2 ^ 64 ≡ w * 16 ^ (maxDigits - length (unpack w))
+unfolding maxDigits
+top-shift w z m e h l = shift-to-top 16 w z m e h l
 
 -- the digits of one number behind those of another
 pub append-room : (v t : ℕ) → length (unpack v) + length (unpack t) ≤ maxDigits → v * 16 ^ length (unpack t) + t < 2 ^ 64
