@@ -20,7 +20,7 @@ ghost use Rattle.plans.specs.Plans.{zeros, isColumn, isDraft};
 ghost use Rattle.plans.specs.Answers.{faultOf, judged};
 
 // Whether a shape has 2 to 9 ways at a switch and 1 to 9 belts.
-pub fn shape_in_range(arity: u8, roots: u8) -> bool
+fn shape_in_range(arity: u8, roots: u8) -> bool
     ensures { λ r. ⌜ r ≡ shapeInRange (shape arity roots) ⌝ }
 {
     if arity < 2 {
@@ -36,7 +36,7 @@ pub fn shape_in_range(arity: u8, roots: u8) -> bool
 }
 
 // Whether each number of a column holds a word that a plan of the shape may hold.
-pub fn are_words(column: &[u64], arity: u8, roots: u8) -> bool
+fn are_words(column: &[u64], arity: u8, roots: u8) -> bool
     ensures { λ r. ⌜ r ≡ all (isPlanWord (shape arity roots)) (wordsOf (now (column .entry))) ⌝ }
 {
     let mut i = 0;
@@ -50,7 +50,7 @@ pub fn are_words(column: &[u64], arity: u8, roots: u8) -> bool
 }
 
 // Whether nothing stands in a column.
-pub fn are_zeros(column: &[u64]) -> bool
+fn are_zeros(column: &[u64]) -> bool
     ensures { λ r. ⌜ r ≡ zeros (now (column .entry)) ⌝ }
 {
     let mut i = 0;

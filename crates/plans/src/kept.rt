@@ -81,7 +81,7 @@ fn kept(from: [u64; 128], to: [u64; 128], n: usize, arity: u8, roots: u8) -> Pla
 }
 
 // No plan: what a call that refuses hands back.
-pub fn blank() -> Plan
+fn blank() -> Plan
     ensures { λ r. ⌜ r ≡ blank ⌝ }
 {
     Plan {
