@@ -26,8 +26,7 @@ use Rattle.plans.specs.declared.Judgement.the-variants.{NotADraft, Accep
 use Rattle.plans.specs.declared.Keeping.{Keeping}
 use Rattle.plans.specs.declared.Answer.the-variants.{Granted}
 use Rattle.plans.specs.declared.Making.{Making}
-use Rattle.tables.specs.Packed.{table}
-use Rattle.tables.specs.Reduction.{rows}
+use Rattle.columns.specs.Packed.{table, rows}
 use Rattle.tables.specs.Joining.{isNormal}
 use Rattle.tables.proofs.Joining.{normal-exactly}
 use Rattle.plans.specs.Plans.{shapeOf, rowsOf, planOf, inTable, isDraft, isPlan, packed, blank}

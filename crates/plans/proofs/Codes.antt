@@ -19,11 +19,11 @@ use Rattle.higman.proofs.Tests.{T-of, and-left, word-of-test}
 use Rattle.higman.proofs.KeptPlans.{in-range}
 use Rattle.words.specs.Bytes.{digitOf, digitsOf, written}
 use Rattle.words.proofs.Packed.{ways-of-word, test-of-ways}
-use Rattle.tables.specs.Packed.{wordsOf}
+use Rattle.columns.specs.Packed.{wordsOf}
 use Rattle.tables.specs.Routing.{IsCode, Searchable, matchedDigits, further, routedIn, routedInto}
 use Rattle.tables.specs.declared.routing.Routed.{Routed}
 use Rattle.tables.specs.declared.routing.Routed.the-variants as Table
-use Rattle.tables.proofs.Rearranged.{froms-table}
+use Rattle.columns.proofs.Rearranged.{froms-table}
 use Rattle.tables.proofs.Routes.{here}
 use Rattle.plans.specs.declared.Plan.{Plan}
 use Rattle.plans.specs.declared.Route.{Route}

@@ -22,11 +22,11 @@ use Rattle.plans.specs.declared.Fault.{Fault}
 use Rattle.plans.specs.declared.Fault.the-variants.{Sound, Faulty}
 use Rattle.plans.specs.declared.Judgement.{Judgement}
 use Rattle.plans.specs.declared.Judgement.the-variants.{NotADraft, Accepted, InFrom, InTo}
-use Rattle.tables.specs.Packed.{wordsOf}
+use Rattle.columns.specs.Packed.{wordsOf}
 use Rattle.plans.specs.Plans.{shapeOf, rowsOf, zeros, isColumn, inTable, isDraft}
 use Rattle.plans.specs.Answers.{faultOf, judgementOf, judged}
-use Rattle.tables.proofs.Rearranged.{froms-table, tos-table}
-use Rattle.tables.proofs.Rows.{table-length}
+use Rattle.columns.proofs.Rearranged.{froms-table, tos-table}
+use Rattle.columns.proofs.Rows.{table-length}
 
 -- one column of a table, whose words fit where the pairs do
 module _ (s : Shape) (t : Table) (word : Pair → Word) where

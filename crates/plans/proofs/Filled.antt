@@ -10,10 +10,9 @@ use lib.Seq.{length-take-le, take-suc, set-at, append-snoc}
 use Rattle.higman.specs.Limits.{maxPairs}
 use Rattle.words.specs.Packed.{unpack}
 use Rattle.words.specs.Bytes.{shape}
-use Rattle.tables.specs.Packed.{wordsOf}
-use Rattle.tables.specs.Reduction.{rows}
-use Rattle.tables.proofs.Rows.{rows-length}
-use Rattle.tables.proofs.Rearranged.{froms-table, tos-table}
+use Rattle.columns.specs.Packed.{wordsOf, rows}
+use Rattle.columns.proofs.Rows.{rows-length}
+use Rattle.columns.proofs.Rearranged.{froms-table, tos-table}
 use Rattle.plans.specs.Plans.{column, packed}
 use Rattle.plans.specs.Filled.{filling, filledPlan}
 use Rattle.plans.proofs.Values.{packed-words}

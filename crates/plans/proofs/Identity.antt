@@ -9,8 +9,7 @@ use Rattle.higman.specs.Normal.{gather, whole, identity}
 use Rattle.words.specs.Packed.{unpack}
 use Rattle.words.specs.Bytes.{shape}
 use Rattle.words.proofs.Packing.{unpack-zero, unpack-digit}
-use Rattle.tables.specs.Packed.{table}
-use Rattle.tables.specs.Reduction.{rows}
+use Rattle.columns.specs.Packed.{table, rows}
 
 take-count : (a m r : ℕ) → r ≤ m → take r (count a m) ≡ count a r
 take-count a m zero h = refl

@@ -23,9 +23,9 @@ use Rattle.higman.proofs.Statements.{answers-exact}
 use Rattle.words.specs.Packed.{unpack, isPacked}
 use Rattle.words.specs.Bytes.{isPlanWord}
 use Rattle.words.proofs.Packed.{packed-word}
-use Rattle.tables.specs.Packed.{wordsOf, inOrder, sorted}
+use Rattle.columns.specs.Packed.{wordsOf, inOrder, sorted}
 use Rattle.tables.specs.Spreading.{packedWords, Plain, Operand}
-use Rattle.tables.proofs.Rearranged.{froms-table, tos-table}
+use Rattle.columns.proofs.Rearranged.{froms-table, tos-table}
 use Rattle.plans.specs.declared.Plan.{Plan}
 use Rattle.plans.specs.Plans.{shapeOf, rowsOf, planOf, inTable, isPlan}
 use Rattle.plans.proofs.Plan.{the-row}

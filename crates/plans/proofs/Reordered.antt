@@ -18,10 +18,10 @@ use Rattle.higman.proofs.Columns.{column-of-proper}
 use Rattle.higman.proofs.Elements.{Element, element-action}
 use Rattle.higman.proofs.Group.{keep-acts, keep-member, by-common}
 use Rattle.higman.proofs.KeptPlans.{element-of-bases}
-use Rattle.tables.specs.Packed.{table}
-use Rattle.tables.specs.Sorts.{SortedPairs}
+use Rattle.columns.specs.Packed.{table}
+use Rattle.columns.specs.Sorts.{SortedPairs}
 use Rattle.tables.specs.Reduction.{Reducible}
-use Rattle.tables.proofs.Rearranged.{froms-table, ordered-keys}
+use Rattle.columns.proofs.Rearranged.{froms-table, ordered-keys}
 
 element-of-perm : (s : Shape) {t u : Table} → List·Permᴰ t u → Element s t → Element s u
 element-of-perm s h E =

@@ -11,8 +11,8 @@ use Rattle.higman.specs.Tables.{sameTable}
 use Rattle.higman.proofs.Tests.{passes, so, T-of, same-word, same-word-refl}
 use Rattle.words.specs.Packed.{unpack}
 use Rattle.words.proofs.Packing.{unpack-injective}
-use Rattle.tables.specs.Packed.{table}
-use Rattle.tables.specs.Columns.{wordAt}
+use Rattle.columns.specs.Packed.{table}
+use Rattle.columns.specs.Columns.{wordAt}
 use Rattle.tables.proofs.Lookup.{table-left}
 
 same-number : (x y : ℕ) → x ≡ y → sameWord (unpack x) (unpack y) ≡ true

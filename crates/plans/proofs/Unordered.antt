@@ -11,7 +11,7 @@ use lib.ListN.{length}
 use Rattle.higman.specs.Words.{Shape, Word, digits, begins, child}
 use Rattle.higman.specs.Bases.{sameWord, listed, covered, longest, gap, meets, overlap}
 use Rattle.higman.specs.Answers.{Reason, Overlap, Gap, fault}
-use Rattle.tables.proofs.Cover.{all-same}
+use Rattle.columns.proofs.Covered.{all-same}
 
 -- what is put together from the words one by one, in whichever order
 module _ {A : Type 0} (add : A → A → A) (exchange : (a b c : A) → add a (add b c) ≡ add b (add a c)) (f : Word → A) (h : List Word → A) (step : (w : Word) (c : List Word) → h (w ∷ c) ≡ add (f w) (h c)) where

@@ -20,12 +20,11 @@ use Rattle.words.specs.Packed.{pack}
 use Rattle.words.proofs.Packing.{pack-unpack, unpack-pack}
 use Rattle.words.proofs.Packed.{ways-of-word}
 use Rattle.plans.specs.declared.Plan.{Plan}
-use Rattle.tables.specs.Packed.{wordsOf, table}
-use Rattle.tables.specs.Reduction.{rows}
+use Rattle.columns.specs.Packed.{wordsOf, table, rows}
 use Rattle.plans.specs.Plans.{rowsOf, zeros, inTable, column, packed}
 use Rattle.plans.specs.Keeping.{KeptColumns}
-use Rattle.tables.proofs.Rearranged.{froms-table, tos-table}
-use Rattle.tables.proofs.Rows.{rows-length}
+use Rattle.columns.proofs.Rearranged.{froms-table, tos-table}
+use Rattle.columns.proofs.Rows.{rows-length}
 
 -- a column is cleared from a place on, and one place further
 pub cleared-none : (place : ℕ) (l : List ℕ) → take place l ≡ take place l ++ replicate (place - place) 0

@@ -15,7 +15,7 @@ use Rattle.higman.specs.Answers.{verdict, isTableOf, isKept}
 use Rattle.words.specs.Packed.{packOn, pack, unpackIn, unpack}
 use Rattle.words.specs.Bytes.{shape, isPlanWord}
 use Rattle.plans.specs.declared.Plan.{Plan}
-use Rattle.tables.specs.Packed.{wordsOf, table}
+use Rattle.columns.specs.Packed.{wordsOf, table}
 
 abbrev pub shapeOf : Plan → Shape
 shapeOf p = shape (p .arity) (p .roots)

@@ -3,7 +3,7 @@
 ghost use mathlib.Core.Path.{_≡_};
 ghost use lib.ListN.{length};
 ghost use Rattle.higman.specs.Tables.{sameTable};
-ghost use Rattle.tables.specs.Packed.{table};
+ghost use Rattle.columns.specs.Packed.{table};
 ghost use Rattle.plans.specs.Answers.{alike};
 use crate::Likeness;
 use crate::Plan;

@@ -5,8 +5,7 @@ use crate::Judgement;
 use crate::MAX_PAIRS;
 use crate::Plan;
 use crate::Reason;
-use tables::columns;
-use tables::sorting;
+use columns::sorting;
 ghost use mathlib.Core.Path.{_≡_};
 ghost use Prim.Native.Nat.{_≤_};
 ghost use lib.Dec.{T};
@@ -15,7 +14,7 @@ ghost use Rattle.higman.specs.Bases.{all};
 ghost use Rattle.higman.specs.Limits.{shapeInRange, maxPairs};
 ghost use Rattle.higman.specs.Answers.{fault};
 ghost use Rattle.words.specs.Bytes.{shape, isPlanWord};
-ghost use Rattle.tables.specs.Packed.{wordsOf};
+ghost use Rattle.columns.specs.Packed.{wordsOf};
 ghost use Rattle.plans.specs.Plans.{zeros, isColumn, isDraft};
 ghost use Rattle.plans.specs.Answers.{faultOf, judged};
 

@@ -9,8 +9,7 @@ ghost use lib.ListN.{length, take, replicate};
 ghost use Rattle.higman.specs.Normal.{keep};
 ghost use Rattle.higman.specs.Limits.{Bases, shapeInRange, maxPairs};
 ghost use Rattle.words.specs.Bytes.{shape};
-ghost use Rattle.tables.specs.Packed.{table};
-ghost use Rattle.tables.specs.Reduction.{rows};
+ghost use Rattle.columns.specs.Packed.{table, rows};
 ghost use Rattle.plans.specs.Plans.{isPlan, packed, blank};
 ghost use Rattle.plans.specs.Answers.{keeping, refusing, granting, inverting};
 ghost use Rattle.plans.specs.Keeping.{KeptColumns};
@@ -47,7 +46,7 @@ fn keep_into(
     ensures { λ r. ⌜ KeptColumns (shape arity roots) (table (now (keys .entry)) (now (values .entry))) (now («out_from» .entry)) (now («out_to» .entry))
         (now («out_from» .exit)) (now («out_to» .exit)) r ⌝ }
 {
-    tables::sorting::sort(keys, values);
+    columns::sorting::sort(keys, values);
     let pairs = tables::reduce::reduce(keys, values, out_from, out_to, arity, roots);
     clear(out_from, pairs);
     clear(out_to, pairs);

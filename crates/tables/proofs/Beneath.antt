@@ -15,12 +15,12 @@ use Rattle.higman.specs.Words.{Word, after, begins}
 use Rattle.higman.specs.Tables.{Table, image}
 use Rattle.higman.proofs.Tests.{passes, clash}
 use Rattle.words.specs.Packed.{unpack}
-use Rattle.tables.specs.Packed.{wordsOf, table, sorted}
-use Rattle.tables.specs.Columns.{wordAt, PartedAt}
+use Rattle.columns.specs.Packed.{wordsOf, table, sorted}
+use Rattle.columns.specs.Columns.{wordAt, PartedAt}
 use Rattle.tables.specs.Spread.{beneath, spreadPair}
 use Rattle.tables.specs.Spreading.{pair, Unbegun}
-use Rattle.tables.proofs.InOrder.{InOrder, in-order-of-test, test-of-in-order, in-order-of-begins, in-order-antisym, begins-between}
-use Rattle.tables.proofs.Places.{mem-at, sorted-at}
+use Rattle.columns.proofs.InOrder.{InOrder, in-order-of-test, test-of-in-order, in-order-of-begins, in-order-antisym, begins-between}
+use Rattle.columns.proofs.Places.{mem-at, sorted-at}
 use Rattle.tables.proofs.Lookup.{after-none, table-left}
 
 in-order-total : (u v : Word) → InOrder u v ⊎ InOrder v u

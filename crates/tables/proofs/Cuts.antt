@@ -14,9 +14,9 @@ use Rattle.higman.proofs.Prefixes.{child-append}
 use Rattle.higman.proofs.Blocks.{rowUnder, gathered, gather-path, normal-whole, normal-parts}
 use Rattle.higman.proofs.Images.{image-gather}
 use Rattle.words.specs.Packed.{unpack}
-use Rattle.tables.specs.Packed.{table}
+use Rattle.columns.specs.Packed.{table}
 use Rattle.tables.specs.Reduction.{prefixed, Cut, listed, split, Block, Parts, State, ahead}
-use Rattle.tables.proofs.Rows.{Next, next-pair}
+use Rattle.columns.proofs.Rows.{Next, next-pair}
 
 pub prefixed-length : (w : Word) (t : Table) → length (prefixed w t) ≡ length t
 prefixed-length w [] = refl

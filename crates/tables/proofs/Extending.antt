@@ -16,7 +16,7 @@ use Rattle.higman.specs.Tables.{Table}
 use Rattle.higman.specs.Limits.{maxDigits, fits, pairFits}
 use Rattle.higman.proofs.Tests.{and-intro, all-cons}
 use Rattle.words.specs.Packed.{unpack, isPacked}
-use Rattle.tables.specs.Packed.{table}
+use Rattle.columns.specs.Packed.{table}
 use Rattle.tables.specs.Spreading.{packedWords, pair, Room, Extended}
 
 all-append : {A : Type 0} (f : A → Bool) (l m : List A) → all f (l ++ m) ≡ (all f l && all f m)

@@ -18,13 +18,13 @@ use Rattle.higman.proofs.Ordered.{Before, Sorted, sorted-of-test}
 use Rattle.words.specs.Packed.{unpack, last}
 use Rattle.words.proofs.Packing.{unpack-zero, unpack-injective}
 use Rattle.words.proofs.Children.{last-child, parent-of-child}
-use Rattle.tables.specs.Packed.{wordsOf, table}
-use Rattle.tables.specs.Columns.{wordAt}
-use Rattle.tables.specs.Reduction.{prefixed, rowsAt}
+use Rattle.columns.specs.Packed.{wordsOf, table, rowsAt}
+use Rattle.columns.specs.Columns.{wordAt}
+use Rattle.tables.specs.Reduction.{prefixed}
 use Rattle.tables.specs.Spreading.{pair}
 use Rattle.tables.specs.Joining.{isBelted, above, joinsFirst, hasJoin, isNormal}
-use Rattle.tables.proofs.Rearranged.{froms-table}
-use Rattle.tables.proofs.Rows.{table-length}
+use Rattle.columns.proofs.Rearranged.{froms-table}
+use Rattle.columns.proofs.Rows.{table-length}
 use Rattle.tables.proofs.Cuts.{prefixed-length}
 use Rattle.tables.proofs.Joins.{parts-length}
 use Rattle.tables.proofs.Lookup.{table-left}

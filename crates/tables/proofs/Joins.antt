@@ -19,8 +19,9 @@ use Rattle.higman.proofs.Blocks.{Belted, JoinCases, joined-cases, joined-parts}
 use Rattle.words.specs.Packed.{unpack, orEmpty, last}
 use Rattle.words.proofs.Packing.{unpack-zero, unpack-step, unpack-injective}
 use Rattle.words.proofs.Children.{last-child, parent-of-child, unpack-parent, unpack-last}
-use Rattle.tables.specs.Reduction.{prefixed, rows, rowsAt}
-use Rattle.tables.proofs.Rows.{append-parts, rows-length, rows-add, rows-set, rowsAt-suc}
+use Rattle.tables.specs.Reduction.{prefixed}
+use Rattle.columns.specs.Packed.{rows, rowsAt}
+use Rattle.columns.proofs.Rows.{append-parts, rows-length, rows-add, rows-set, rowsAt-suc}
 use Rattle.tables.proofs.Cuts.{prefixed-length, prefixed-whole, prefixed-injective}
 
 other-word : (u v : Word) → (u ≡ v → ⊥) → sameWord u v ≡ false

@@ -1,18 +1,6 @@
 -- The laws of tables, each file after those it leans on; the proofs of the functions cite them, and so may other crates.
-pub mod InOrder
-pub mod WordOrder
-pub mod Places
-pub mod Neighbours
-pub mod Search
-pub mod Cover
-pub mod Walks
-pub mod Settling
-pub mod Rearranged
 pub mod Writing
 pub mod Records
-pub mod Rows
-pub mod Halves
-pub mod Merging
 pub mod Cuts
 pub mod Joins
 pub mod Ordered

@@ -20,11 +20,11 @@ use Rattle.higman.proofs.Prefixes.{after-some, begins-append, tail-of-begins, c
 use Rattle.words.specs.Packed.{unpack, isPacked}
 use Rattle.words.proofs.Packing.{unpack-zero}
 use Rattle.words.proofs.Packed.{packed-ways, packed-length, packed-of, packed-as}
-use Rattle.tables.specs.Packed.{wordsOf, table}
-use Rattle.tables.specs.Columns.{wordAt}
+use Rattle.columns.specs.Packed.{wordsOf, table}
+use Rattle.columns.specs.Columns.{wordAt}
 use Rattle.tables.specs.Spreading.{packedWords, pair}
-use Rattle.tables.proofs.Places.{mem-at}
-use Rattle.tables.proofs.Search.{unmet}
+use Rattle.columns.proofs.Places.{mem-at}
+use Rattle.columns.proofs.Search.{unmet}
 
 pub after-none : (p w : Word) → begins p w ≡ false → after p w ≡ none
 after-none p w f = go (after p w) f

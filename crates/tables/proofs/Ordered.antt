@@ -14,8 +14,8 @@ use Rattle.higman.specs.Normal.{before, ordered}
 use Rattle.higman.proofs.Tests.{passes}
 use Rattle.higman.proofs.Ordered.{Before, Sorted, sorted-of-test, test-of-sorted}
 use Rattle.words.specs.Packed.{unpack}
-use Rattle.tables.specs.Packed.{wordsOf}
-use Rattle.tables.specs.Columns.{wordAt}
+use Rattle.columns.specs.Packed.{wordsOf}
+use Rattle.columns.specs.Columns.{wordAt}
 
 before-trans : (u v w : Word) → Before u v → Before v w → Before u w
 before-trans [] v w h k = absurd h

@@ -23,7 +23,7 @@ use Rattle.higman.proofs.Actions.{Action, normal-form-unique}
 use Rattle.higman.proofs.Elements.{table-action}
 use Rattle.higman.proofs.Reduced.{inPart, Headed, Covers, mem-of-in-part, sorted-in-part, gather-in-parts, image-in-part, covers-in-part, block-or-parts}
 use Rattle.words.proofs.Limit.{word-fits}
-use Rattle.tables.specs.Packed.{table}
+use Rattle.columns.specs.Packed.{table}
 use Rattle.tables.specs.Reduction.{prefixed, Cut, listed, split, Parts, Reducible}
 use Rattle.tables.proofs.Cuts.{prefixed-empty}
 

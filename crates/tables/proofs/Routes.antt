@@ -25,12 +25,12 @@ use Rattle.words.proofs.Packing.{unpack-pack}
 use Rattle.words.proofs.Packed.{more-ways, ways-of-test, packed-length}
 use Rattle.words.proofs.Bytes.{digit-under, digit-over, digit-within}
 use Rattle.words.proofs.Codes.{digits-take, digits-drop, begins-take, after-drop}
-use Rattle.tables.specs.Packed.{wordsOf, table}
-use Rattle.tables.specs.Columns.{wordAt, BegunAt}
+use Rattle.columns.specs.Packed.{wordsOf, table}
+use Rattle.columns.specs.Columns.{wordAt, BegunAt}
 use Rattle.tables.specs.Spreading.{packedWords, Operand}
 use Rattle.tables.specs.Routing.{IsCode, MatchedAt, matchedDigits, further, routedIn, routedInto}
 use Rattle.tables.specs.declared.routing.Routed.the-variants.{Image, TooShort, NoRoom}
-use Rattle.tables.proofs.Places.{place-of}
+use Rattle.columns.proofs.Places.{place-of}
 use Rattle.tables.proofs.Lookup.{first-apart, overlap-rest, image-at, packed-at}
 
 -- the whole code starts where it starts

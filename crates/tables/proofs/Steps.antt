@@ -11,7 +11,7 @@ use Rattle.higman.specs.Normal.{gather, joined, normal}
 use Rattle.words.specs.Packed.{unpack}
 use Rattle.words.proofs.Packing.{unpack-injective}
 use Rattle.tables.specs.Reduction.{prefixed, Block, Parts, State, state, ahead, done, Places, Step, ReducesBlock, ReducesParts}
-use Rattle.tables.proofs.Rows.{rows-length, rows-set}
+use Rattle.columns.proofs.Rows.{rows-length, rows-set}
 use Rattle.tables.proofs.Cuts.{listed-block, Split, split-block, no-parts, gather-step, first-part, parts-behind}
 
 pub done-length : (s : State) → Places s → length (done s) ≡ s .write

@@ -9,7 +9,7 @@ use Rattle.higman.specs.Limits.{Plan}
 use Rattle.higman.specs.Listing.{pairRecords, joinLines}
 use Rattle.words.specs.Packed.{unpack}
 use Rattle.words.specs.Bytes.{shape, written}
-use Rattle.tables.specs.Packed.{table}
+use Rattle.columns.specs.Packed.{table}
 
 pub record Wrote (bytes buffer : List ℕ) (at : ℕ) (buffer′ : List ℕ) (end : ℕ) : Type 0 where
   pub place : end ≡ at + length bytes

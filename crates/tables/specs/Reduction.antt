@@ -5,25 +5,16 @@ use mathlib.Core.Path.{_≡_, refl}
 use mathlib.Core.Bool.{true}
 use mathlib.Core.List.{List, [], _∷_, _++_, map, List·Memᴰ}
 use lib.Dec.{T}
-use lib.ListN.{length, take, drop}
+use lib.ListN.{length, drop}
 use Rattle.higman.specs.Words.{Shape, Word, count, digits, isWord, spell}
 use Rattle.higman.specs.Bases.{Column, all}
 use Rattle.higman.specs.Tables.{Table, froms, tos, image, row}
 use Rattle.higman.specs.Normal.{gather, whole, normal, ordered}
-use Rattle.words.specs.Packed.{unpackIn, unpack}
-use Rattle.tables.specs.Packed.{table}
+use Rattle.columns.specs.Packed.{table, rows}
 
 -- a table of the block w, as a table of the whole
 abbrev pub prefixed : Word → Table → Table
 prefixed w t = map (λ p. record { from = w ++ p .from; to = p .to }) t
-
--- the first k pairs of two columns
-abbrev pub rows : ℕ → List ℕ → List ℕ → Table
-rows k from to = table (take k from) (take k to)
-
--- k pairs of two columns, from a place on
-abbrev pub rowsAt : ℕ → ℕ → List ℕ → List ℕ → Table
-rowsAt at k from to = rows k (drop at from) (drop at to)
 
 -- "A block is covered if it is listed or if each of its n parts is covered", here with the pairs that cover it: one pair, or the pairs
 -- of its parts in digit order, at most d ways deep.
@@ -95,10 +86,6 @@ pub record Reducible (s : Shape) (t : Table) : Type 0 where
 
 prefixed-example : prefixed (spell 11) (row 2 12 ∷ []) ≡ row 112 12 ∷ []
 prefixed-example = refl
-
-rowsAt-example : rowsAt 1 1 (0x11 ∷ 0x12 ∷ []) (0x12 ∷ 0x11 ∷ []) ≡ row 12 11 ∷ []
-unfolding unpack unpackIn
-rowsAt-example = refl
 
 -- document 01, "Plans to try": 11→11, 12→12
 reducible-example : Reducible (record { arity = 2; roots = 1 }) (row 11 11 ∷ row 12 12 ∷ [])

@@ -11,8 +11,8 @@ use Rattle.higman.specs.Words.{Word, isWays, begins, spell}
 use Rattle.higman.specs.Bases.{overlap}
 use Rattle.higman.specs.Listing.{wordBytes}
 use Rattle.words.specs.Bytes.{digitOf, digitsOf, written}
-use Rattle.tables.specs.Packed.{wordsOf, sorted}
-use Rattle.tables.specs.Columns.{wordAt}
+use Rattle.columns.specs.Packed.{wordsOf, sorted}
+use Rattle.columns.specs.Columns.{wordAt}
 use Rattle.tables.specs.Spreading.{packedWords}
 use Rattle.tables.specs.declared.routing.Routed.{Routed}
 use Rattle.tables.specs.declared.routing.Routed.the-variants.{Image, TooShort, NoRoom}

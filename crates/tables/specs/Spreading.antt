@@ -11,7 +11,7 @@ use Rattle.higman.specs.Words.{Word, begins}
 use Rattle.higman.specs.Tables.{Pair, Table}
 use Rattle.higman.specs.Limits.{pairFits}
 use Rattle.words.specs.Packed.{unpack, isPacked}
-use Rattle.tables.specs.Packed.{wordsOf, table, sorted}
+use Rattle.columns.specs.Packed.{wordsOf, table, sorted}
 use Rattle.tables.specs.declared.spreading.Spread.{Spread}
 use Rattle.tables.specs.declared.spreading.Spread.the-variants.{Rows, TooLong}
 

@@ -9,7 +9,7 @@ ghost use Rattle.higman.specs.Limits.{maxPairs};
 ghost use Rattle.higman.specs.Listing.{tab, wordBytes, openRecord, pairRecord, closeRecord, listing};
 ghost use Rattle.words.specs.Packed.{unpack};
 ghost use Rattle.words.specs.Bytes.{shape, written};
-ghost use Rattle.tables.specs.Packed.{table};
+ghost use Rattle.columns.specs.Packed.{table};
 ghost use Rattle.tables.specs.Lines.{Wrote, pairOf, pairLines, planOf};
 
 // The bytes of the P record and the E record.

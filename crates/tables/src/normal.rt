@@ -4,7 +4,7 @@ ghost use mathlib.Core.Path.{_≡_};
 ghost use Prim.Native.Nat.{_+_, _≤_};
 ghost use lib.ListN.{length, drop};
 ghost use Rattle.higman.specs.Normal.{ordered};
-ghost use Rattle.tables.specs.Packed.{wordsOf, table};
+ghost use Rattle.columns.specs.Packed.{wordsOf, table};
 ghost use Rattle.tables.specs.Joining.{joinsFirst, hasJoin, isNormal};
 use crate::reduce;
 

@@ -13,8 +13,8 @@ ghost use Rattle.higman.specs.Normal.{parts, joined, keep};
 ghost use Rattle.higman.specs.Limits.{maxDigits, shapeInRange};
 ghost use Rattle.words.specs.Packed.{unpack};
 ghost use Rattle.words.specs.Bytes.{shape};
-ghost use Rattle.tables.specs.Packed.{table};
-ghost use Rattle.tables.specs.Reduction.{prefixed, rows, rowsAt, Block, Parts, state, Places, ReducesBlock, ReducesParts, Reducible};
+ghost use Rattle.columns.specs.Packed.{table, rows, rowsAt};
+ghost use Rattle.tables.specs.Reduction.{prefixed, Block, Parts, state, Places, ReducesBlock, ReducesParts, Reducible};
 
 // The ways below a root that a word has room for.
 const MAX_WAYS: u8 = 15;

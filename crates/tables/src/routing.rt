@@ -7,10 +7,9 @@ ghost use Rattle.higman.specs.Limits.{maxDigits};
 ghost use Rattle.higman.specs.Tables.{image};
 ghost use Rattle.words.specs.Packed.{unpack};
 ghost use Rattle.words.specs.Bytes.{digitsOf, written};
-ghost use Rattle.tables.specs.Packed.{wordsOf, table};
+ghost use Rattle.columns.specs.Packed.{wordsOf, table};
 ghost use Rattle.tables.specs.Spreading.{Operand};
 ghost use Rattle.tables.specs.Routing.{IsCode, Searchable, MatchedAt, matchedDigits, unmatched, further, routedIn, routedInto};
-use crate::columns;
 
 // The limit of digits in a plan word.
 const MAX_DIGITS: usize = 16;

@@ -5,10 +5,9 @@ ghost use Prim.Native.Nat.{_<_};
 ghost use lib.Dec.{T};
 ghost use lib.ListN.{length};
 ghost use Rattle.words.specs.Packed.{unpack, isPacked};
-ghost use Rattle.tables.specs.Packed.{table};
+ghost use Rattle.columns.specs.Packed.{table};
 ghost use Rattle.tables.specs.Spread.{beneath, spreadPair, spread};
 ghost use Rattle.tables.specs.Spreading.{pair, Plain, Operand, Unbegun, Room, Spreads};
-use crate::columns;
 
 // The limit of digits in a plan word.
 const MAX_DIGITS: u32 = 16;

@@ -8,8 +8,8 @@ use native.Mathlib.Omega.{arith}
 use lib.ListN.{length, take}
 use lib.Seq.{length-take-le}
 use Rattle.higman.specs.Tables.{sameTable}
-use Rattle.tables.specs.Packed.{table}
-use Rattle.tables.proofs.Rows.{rows-length}
+use Rattle.columns.specs.Packed.{table}
+use Rattle.columns.proofs.Rows.{rows-length}
 use Rattle.plans.specs.declared.Likeness.the-variants.{Alike}
 use Rattle.plans.specs.Plans.{shapeOf, rowsOf, isPlan}
 use Rattle.plans.proofs.KeptValues.{from-room, to-room}

@@ -10,7 +10,7 @@ use lib.ListN.{length, drop}
 use Rattle.higman.specs.Bases.{all}
 use Rattle.words.specs.Packed.{unpack}
 use Rattle.words.specs.Bytes.{shape, isPlanWord}
-use Rattle.tables.specs.Packed.{wordsOf}
+use Rattle.columns.specs.Packed.{wordsOf}
 use Rattle.plans.proofs.Checks.{check-fails, check-passes, check-done, check-map}
 use Rattle.plans.proofs.drafts.are_words.Statement.{statement}
 use Rattle.plans.proofs.drafts.are_words.Tie as tie

@@ -6,9 +6,9 @@ use native.Mathlib.Omega.{arith}
 use Rattle.higman.specs.Answers.{fault}
 use Rattle.higman.proofs.KeptPlans.{in-range}
 use Rattle.words.specs.Bytes.{shape}
-use Rattle.tables.specs.Packed.{wordsOf}
+use Rattle.columns.specs.Packed.{wordsOf}
 use Rattle.plans.specs.Answers.{faultOf}
-use Rattle.tables.proofs.Rearranged.{rearranged-keys}
+use Rattle.columns.proofs.Rearranged.{rearranged-keys}
 use Rattle.plans.proofs.Unordered.{fault-unordered, fault-overlap, fault-gap, fault-none}
 use Rattle.plans.proofs.drafts.fault_in.Statement.{statement}
 use Rattle.plans.proofs.drafts.fault_in.Tie as tie

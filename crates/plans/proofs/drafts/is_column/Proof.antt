@@ -12,7 +12,7 @@ use lib.Seq.{take-all}
 use Rattle.higman.specs.Words.{Shape}
 use Rattle.higman.specs.Bases.{all}
 use Rattle.words.specs.Bytes.{shape, isPlanWord}
-use Rattle.tables.specs.Packed.{wordsOf}
+use Rattle.columns.specs.Packed.{wordsOf}
 use Rattle.plans.specs.Plans.{zeros, isColumn}
 use Rattle.plans.proofs.drafts.is_column.Statement.{statement}
 use Rattle.plans.proofs.drafts.is_column.Tie as tie

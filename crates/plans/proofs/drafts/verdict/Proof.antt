@@ -9,7 +9,7 @@ use Rattle.higman.specs.Answers.{fault}
 use Rattle.higman.proofs.Tests.{T-of}
 use Rattle.plans.specs.declared.Fault.{Fault}
 use Rattle.plans.specs.declared.Fault.the-variants.{Sound}
-use Rattle.tables.specs.Packed.{wordsOf}
+use Rattle.columns.specs.Packed.{wordsOf}
 use Rattle.plans.specs.Plans.{shapeOf, isDraft}
 use Rattle.plans.specs.Answers.{faultOf, judged}
 use Rattle.plans.proofs.DraftChecks.{Draft, draft-of, judgement, judged-none, judged-draft}

@@ -14,8 +14,9 @@ use Rattle.higman.specs.Normal.{keep}
 use Rattle.higman.specs.Limits.{Kept, pairFits}
 use Rattle.tables.specs.Spread.{spread}
 use Rattle.tables.specs.Spreading.{Extended, Spreads}
-use Rattle.tables.specs.Reduction.{rows, Reducible}
-use Rattle.tables.proofs.Rows.{rows-length}
+use Rattle.tables.specs.Reduction.{Reducible}
+use Rattle.columns.specs.Packed.{rows}
+use Rattle.columns.proofs.Rows.{rows-length}
 use Rattle.plans.specs.Plans.{shapeOf, rowsOf, planOf}
 use Rattle.plans.specs.Answers.{granting, making}
 use Rattle.plans.proofs.Filled.{filled-packed}

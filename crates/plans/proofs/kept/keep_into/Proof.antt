@@ -8,8 +8,8 @@ use lib.ListN.{length}
 use Rattle.higman.specs.Normal.{keep}
 use Rattle.higman.proofs.KeptPlans.{arity-of-range}
 use Rattle.words.specs.Bytes.{shape}
-use Rattle.tables.specs.Packed.{table}
-use Rattle.tables.specs.Sorts.{SortedPairs}
+use Rattle.columns.specs.Packed.{table}
+use Rattle.columns.specs.Sorts.{SortedPairs}
 use Rattle.tables.specs.Reduction.{Reducible}
 use Rattle.plans.proofs.Reordered.{reducible-sorted, keep-sorted}
 use Rattle.plans.proofs.Values.{kept-columns}

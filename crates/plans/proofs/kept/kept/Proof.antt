@@ -8,7 +8,7 @@ use lib.ListN.{length}
 use lib.Seq.{length-take-le}
 use Rattle.higman.specs.Limits.{maxPairs}
 use Rattle.words.specs.Bytes.{shape}
-use Rattle.tables.specs.Reduction.{rows}
+use Rattle.columns.specs.Packed.{rows}
 use Rattle.plans.proofs.Values.{kept-value}
 use Rattle.plans.proofs.kept.kept.Statement.{statement}
 use Rattle.plans.proofs.kept.kept.Tie as tie

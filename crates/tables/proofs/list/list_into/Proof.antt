@@ -5,7 +5,7 @@ use borrow.Author.Needs.{needs}
 use native.Mathlib.Nat.{zero-add}
 use native.Mathlib.Omega.{arith}
 use Rattle.words.specs.Bytes.{shape}
-use Rattle.tables.specs.Packed.{table}
+use Rattle.columns.specs.Packed.{table}
 use Rattle.tables.proofs.Writing.{wrote-then}
 use Rattle.tables.proofs.Records.{listing-size}
 use Rattle.tables.proofs.list.list_into.Statement.{statement}

@@ -7,7 +7,7 @@ use borrow.Author.Needs.{needs}
 use native.Mathlib.Omega.{arith}
 use lib.ListN.{length, getD, drop}
 use Rattle.higman.specs.Limits.{maxPairs}
-use Rattle.tables.specs.Packed.{table}
+use Rattle.columns.specs.Packed.{table}
 use Rattle.tables.specs.Lines.{pairLines}
 use Rattle.tables.proofs.Records.{pair-small, listing-size, lines-size, lines-none}
 use Rattle.tables.proofs.list.listing_length.Statement.{statement}

@@ -6,7 +6,7 @@ use mathlib.Core.Bool.{_||_}
 use borrow.Author.Needs.{needs}
 use native.Mathlib.Omega.{arith}
 use lib.ListN.{length, drop}
-use Rattle.tables.specs.Packed.{table}
+use Rattle.columns.specs.Packed.{table}
 use Rattle.tables.specs.Joining.{hasJoin}
 use Rattle.tables.proofs.Joining.{joins-from, joins-few}
 use Rattle.tables.proofs.normal.has_join.Statement.{statement}

@@ -8,7 +8,7 @@ use borrow.Author.Tests.{not-true, not-false}
 use native.Mathlib.Omega.{arith}
 use lib.ListN.{length, drop}
 use Rattle.higman.specs.Normal.{ordered}
-use Rattle.tables.specs.Packed.{wordsOf}
+use Rattle.columns.specs.Packed.{wordsOf}
 use Rattle.tables.proofs.Ordered.{ordered-from, ordered-last}
 use Rattle.tables.proofs.normal.is_ordered.Statement.{statement}
 use Rattle.tables.proofs.normal.is_ordered.Tie as tie

@@ -7,7 +7,8 @@ use native.Mathlib.Omega.{arith}
 use lib.ListN.{length}
 use Rattle.higman.specs.Tables.{Table}
 use Rattle.words.specs.Packed.{unpack}
-use Rattle.tables.specs.Reduction.{prefixed, rows}
+use Rattle.tables.specs.Reduction.{prefixed}
+use Rattle.columns.specs.Packed.{rows}
 use Rattle.tables.proofs.Joins.{Laid, other-number, no-belt, other-parts, all-parts}
 use Rattle.tables.proofs.reduce.join.Statement.{statement}
 use Rattle.tables.proofs.reduce.join.Tie as tie

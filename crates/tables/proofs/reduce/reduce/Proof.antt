@@ -14,7 +14,7 @@ use Rattle.higman.proofs.KeptPlans.{in-range, arity-of-range}
 use Rattle.words.specs.Packed.{unpack}
 use Rattle.words.specs.Bytes.{shape}
 use Rattle.words.proofs.Packing.{unpack-zero}
-use Rattle.tables.specs.Packed.{table}
+use Rattle.columns.specs.Packed.{table}
 use Rattle.tables.specs.Reduction.{prefixed, Parts}
 use Rattle.tables.proofs.Reduction.{longest-fits, root-parts, keep-of-roots}
 use Rattle.tables.proofs.reduce.reduce.Statement.{statement}

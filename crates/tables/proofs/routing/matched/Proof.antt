@@ -4,8 +4,8 @@ use borrow.Author.Needs.{needs}
 use native.Mathlib.Omega.{arith}
 use lib.ListN.{drop}
 use Rattle.words.specs.Bytes.{digitsOf}
-use Rattle.tables.specs.Packed.{wordsOf}
-use Rattle.tables.specs.Columns.{wordAt}
+use Rattle.columns.specs.Packed.{wordsOf}
+use Rattle.columns.specs.Columns.{wordAt}
 use Rattle.tables.specs.Routing.{further}
 use Rattle.tables.proofs.Routes.{here, matched-digits, matched-none, begins-within}
 use Rattle.tables.proofs.routing.matched.Statement.{statement}

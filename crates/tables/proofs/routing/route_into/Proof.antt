@@ -11,8 +11,8 @@ use Rattle.higman.specs.Words.{Word, begins}
 use Rattle.higman.specs.Tables.{image}
 use Rattle.higman.specs.Listing.{digitByte, wordBytes}
 use Rattle.words.specs.Bytes.{digitsOf, written}
-use Rattle.tables.specs.Packed.{table}
-use Rattle.tables.specs.Columns.{wordAt}
+use Rattle.columns.specs.Packed.{table}
+use Rattle.columns.specs.Columns.{wordAt}
 use Rattle.tables.specs.declared.routing.Routed.the-variants.{Image}
 use Rattle.tables.proofs.Lookup.{image-nowhere}
 use Rattle.tables.proofs.Routes.{begins-within, routed-word, image-of-code, routed-length, routed-bytes, written-part, route-too-short, route-no-room, route-image}

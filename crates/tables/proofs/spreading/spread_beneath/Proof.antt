@@ -12,8 +12,8 @@ use Rattle.higman.specs.Words.{begins}
 use Rattle.higman.specs.Tables.{Table}
 use Rattle.words.specs.Packed.{unpack}
 use Rattle.words.proofs.Packing.{unpack-zero}
-use Rattle.tables.specs.Packed.{table}
-use Rattle.tables.specs.Columns.{wordAt}
+use Rattle.columns.specs.Packed.{table}
+use Rattle.columns.specs.Columns.{wordAt}
 use Rattle.tables.specs.Spread.{beneath}
 use Rattle.tables.specs.Spreading.{pair, Spreads}
 use Rattle.tables.proofs.Lookup.{packed-at, packed-zero, packed-tail}

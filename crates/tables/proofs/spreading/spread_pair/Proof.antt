@@ -6,8 +6,8 @@ use borrow.Author.Needs.{needs}
 use native.Mathlib.Omega.{arith}
 use Rattle.words.specs.Packed.{unpack}
 use Rattle.words.proofs.Packing.{unpack-zero}
-use Rattle.tables.specs.Packed.{table}
-use Rattle.tables.specs.Columns.{wordAt}
+use Rattle.columns.specs.Packed.{table}
+use Rattle.columns.specs.Columns.{wordAt}
 use Rattle.tables.specs.Spread.{beneath, spreadPair}
 use Rattle.tables.specs.Spreading.{pair, Room, Spreads, Unbegun}
 use Rattle.tables.proofs.Lookup.{image-at, image-nowhere, packed-at, packed-zero, packed-tail}

@@ -7,8 +7,8 @@ use borrow.Author.Needs.{needs}
 use native.Mathlib.Omega.{arith}
 use lib.ListN.{length, drop, drop-of-length-le}
 use Rattle.higman.specs.Tables.{Table}
-use Rattle.tables.specs.Packed.{table}
-use Rattle.tables.specs.Columns.{wordAt}
+use Rattle.columns.specs.Packed.{table}
+use Rattle.columns.specs.Columns.{wordAt}
 use Rattle.tables.specs.Spread.{spreadPair, spread}
 use Rattle.tables.specs.Spreading.{pair, Spreads}
 use Rattle.tables.proofs.Lookup.{table-left, packed-at}

@@ -1,0 +1,130 @@
+-- `columns::has_gap` meets its contract. The invariant: all belts are covered exactly if those from the present one on are, and
+-- the words before the cursor stand before the present belt. The measure is the number of belts that are left. A word of 64 bits is no
+-- longer than the depth to which the blocks are looked at.
+use Prim.Native.Nat.{ℕ, _+_, _-_, _≤_}
+use mathlib.Core.Path.{_≡_, sym, _∙_, ap, subst}
+use mathlib.Core.Bool.{Bool, not}
+use mathlib.Core.List.{List, [], _∷_}
+use borrow.Author.Needs.{needs}
+use native.Mathlib.Omega.{arith}
+use lib.ListN.{length}
+use Rattle.higman.specs.Words.{count, digits, child}
+use Rattle.higman.specs.Bases.{all, covered, gap}
+use Rattle.higman.specs.Limits.{maxDigits}
+use Rattle.words.specs.Packed.{unpack}
+use Rattle.words.specs.Bytes.{shape}
+use Rattle.words.proofs.Packing.{unpack-zero}
+use Rattle.columns.specs.Packed.{wordsOf}
+use Rattle.columns.specs.Columns.{AtBlock, Walked}
+use Rattle.columns.specs.declared.Cover.{Cover}
+use Rattle.columns.specs.declared.Cover.the-variants.{UpTo, Gap}
+use Rattle.columns.proofs.Covered.{all-done, all-stop, all-pass, gap-deep, longest-fits}
+use Rattle.columns.proofs.Walks.{at-start, at-later, walked-same}
+use Rattle.columns.proofs.has_gap.Statement.{statement}
+use Rattle.columns.proofs.has_gap.Tie as tie
+
+-- a belt is covered, looked at as deep as a plan's words reach
+abbrev beltCovered : List ℕ → ℕ → ℕ → Bool
+beltCovered column arity a = covered arity (wordsOf column) 15 (a ∷ [])
+
+abbrev Inv-loop : tie.InvT-loop
+Inv-loop column arity roots at₀ belt₀ at belt =
+    (1 ≤ belt)
+    × (belt ≤ roots + 1)
+    × (all (beltCovered column arity) (digits roots) ≡ all (beltCovered column arity) (count belt (roots + 1 - belt)))
+    × AtBlock column (belt ∷ []) at
+
+abbrev μ-loop : tie.MeasureT-loop
+μ-loop column arity roots at₀ belt₀ at belt = roots + 1 - belt
+
+loop-holds : tie.Need-loop-holds Inv-loop μ-loop
+loop-holds c =
+    let a = c .before .args in
+    let n : a .roots ≡ a .roots + 1 - 1 = omega arith in
+    (omega arith, omega arith, ap (λ m. all (beltCovered (a .column .now) (a .arity)) (count 1 m)) n, at-start (a .column .now) (1 ∷ []))
+
+-- what is left to look at decides
+gap-left : (c : tie.At-loop Inv-loop μ-loop) → let a = c .before .before .args in gap (shape (a .arity) (a .roots)) (wordsOf (a .column .now)) ≡ not (all (beltCovered (a .column .now) (a .arity)) (count (c .loop .belt) (a .roots + 1 - c .loop .belt)))
+unfolding maxDigits
+gap-left c =
+    let start = c .before .before in
+    let a = start .args in
+    let fits = longest-fits (a .column .now) (λ i. c .before .shared-slice-known .given i .fits) in
+    gap-deep (a .arity) (a .roots) (wordsOf (a .column .now)) 15 (start .pre .1 .0) fits ∙ ap not (c .loop .inv .2)
+
+-- the word of the belt
+belt-word : (c : tie.After-child Inv-loop μ-loop) → unpack (c .child .result) ≡ c .before .before .loop .belt ∷ []
+belt-word c = c .child .ensures ∙ ap (λ w. child w (c .before .before .loop .belt)) unpack-zero
+
+-- what the walk over the belt answers
+belt-walked : (c : tie.After-covered-block Inv-loop μ-loop) (r : Cover) → c .covered-block .result ≡ r → let l = c .before .before .before in let a = l .before .before .args in Walked (a .column .now) (l .loop .belt ∷ []) (beltCovered (a .column .now) (a .arity) (l .loop .belt)) r
+belt-walked c r e =
+    let a = c .before .before .before .before .before .args in
+    walked-same (a .column .now) (covered (a .arity) (wordsOf (a .column .now)) 15) (belt-word (c .before)) e (c .covered-block .ensures)
+
+child-requires : tie.Need-child-requires Inv-loop μ-loop
+unfolding maxDigits
+child-requires c κs = omega (arith, ap length unpack-zero)
+
+covered-block-requires : tie.Need-covered-block-requires Inv-loop μ-loop
+unfolding maxDigits
+covered-block-requires c κs =
+    let l = c .before .before in
+    let start = l .before .before in
+    let a = start .args in
+    (start .pre .0, (start .pre .1 .0, start .pre .1 .1, omega (arith, ap length (belt-word c)), subst (λ w. AtBlock (a .column .now) w (l .loop .at)) (sym (belt-word c)) (l .loop .inv .3)))
+
+enum-known-next : tie.Need-enum-known-next Inv-loop μ-loop
+enum-known-next c = search needs
+
+enum-told : tie.Need-enum-told Inv-loop μ-loop
+enum-told c = search needs
+
+returns : tie.Need-returns Inv-loop μ-loop
+returns c =
+    let call = c .before .before in
+    let l = call .before .before .before in
+    let a = l .before .before .args in
+    let stop = all-stop (beltCovered (a .column .now) (a .arity)) (l .loop .belt) (a .roots) (call .before .before .loop-test .taken) (belt-walked call Gap (c .enum-told .given .1)) in
+    sym (gap-left l ∙ ap not stop)
+
+add-belt : tie.Need-add-belt Inv-loop μ-loop
+add-belt c = omega arith
+
+loop-less : tie.Need-loop-less Inv-loop μ-loop
+loop-less c = omega arith
+
+loop-again : tie.Need-loop-again Inv-loop μ-loop
+loop-again c =
+    let known = c .before in
+    let call = known .before .before in
+    let l = call .before .before .before in
+    let a = l .before .before .args in
+    let belt = l .loop .belt in
+    let next = known .next .given .0 .0 in
+    let walked = belt-walked call (UpTo next) (known .next .given .1) in
+    let pass = all-pass (beltCovered (a .column .now) (a .arity)) belt (a .roots) (call .before .before .loop-test .taken) (walked .0) in
+    (omega arith, omega arith, l .loop .inv .2 ∙ pass, at-later (a .column .now) [] next belt (belt + 1) (omega arith) (walked .1))
+
+returns-2 : tie.Need-returns-2 Inv-loop μ-loop
+returns-2 c =
+    let l = c .before in
+    let a = l .before .before .args in
+    sym (gap-left l ∙ ap not (all-done (beltCovered (a .column .now) (a .arity)) (l .loop .belt) (a .roots) (c .loop-test .left)))
+
+pub has-gap-spec : {M : Type 1} → statement M
+has-gap-spec =
+    tie.close
+    (tie.spec
+    Inv-loop
+    μ-loop
+    loop-holds
+    child-requires
+    covered-block-requires
+    enum-known-next
+    enum-told
+    returns
+    add-belt
+    loop-less
+    loop-again
+    returns-2)

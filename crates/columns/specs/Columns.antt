@@ -1,0 +1,87 @@
+-- What a search in a sorted column finds, the place that parts its words at a word and the word of it that begins a word, and what a
+-- walk over the words of a block finds.
+use Prim.Native.Nat.{ℕ, zero, suc, _+_, _-_, _≤_, _<_}
+use mathlib.Core.Path.{_≡_, refl}
+use mathlib.Core.Logic.{_⊎_, inr}
+use mathlib.Core.Bool.{Bool, true, false}
+use mathlib.Core.List.{List, [], _∷_, map, List·Memᴰ}
+use native.Mathlib.Omega.{arith}
+use lib.ListN.{length, getD}
+use Rattle.higman.specs.Words.{Word, count, begins, child, spell}
+use Rattle.higman.specs.Bases.{all, covered}
+use Rattle.higman.specs.Normal.{before}
+use Rattle.words.specs.Packed.{unpackIn, unpack}
+use Rattle.columns.specs.Packed.{wordsOf, inOrder}
+use Rattle.columns.specs.declared.Cover.{Cover}
+use Rattle.columns.specs.declared.Cover.the-variants.{UpTo, Gap}
+
+-- the word at a place of a column; the empty word past its end
+abbrev pub wordAt : List ℕ → ℕ → Word
+wordAt column k = unpack (getD column k 0)
+
+-- The words before the place r are in order with w, and those from r on are not.
+pub record PartedAt (column : List ℕ) (w r : ℕ) : Type 0 where
+  pub within : r ≤ length column
+  pub front : (k : ℕ) → k < r → inOrder (wordAt column k) (unpack w) ≡ true
+  pub back : (k : ℕ) → r ≤ k → k < length column → inOrder (wordAt column k) (unpack w) ≡ false
+
+-- r is the place of the word that begins w, or the length of the column where no word of it does.
+pub record BegunAt (column : List ℕ) (w r : ℕ) : Type 0 where
+  pub within : r ≤ length column
+  pub found : r < length column → begins (wordAt column r) (unpack w) ≡ true
+  pub none : r ≡ length column → (u : Word) → List·Memᴰ u (wordsOf column) → begins u (unpack w) ≡ false
+
+-- The words before the place r stand before the block w.
+pub record AtBlock (column : List ℕ) (w : Word) (r : ℕ) : Type 0 where
+  pub within : r ≤ length column
+  pub front : (k : ℕ) → k < r → before (wordAt column k) w ≡ true
+
+-- The words before the place r stand before the block w, and the one at r, if there is one, does not.
+pub record Reached (column : List ℕ) (w : Word) (r : ℕ) : Type 0 where
+  pub passed : AtBlock column w r
+  pub stops : r < length column → before (wordAt column r) w ≡ false
+
+-- The words before the place r stand before the block w or in it.
+pub record PastBlock (column : List ℕ) (w : Word) (r : ℕ) : Type 0 where
+  pub within : r ≤ length column
+  pub front : (k : ℕ) → k < r → (before (wordAt column k) w ≡ true) ⊎ (begins w (wordAt column k) ≡ true)
+
+-- What a walk over the words of the block w answers, where c is what it looks for: that all is covered, and the place it came to; or a gap.
+abbrev pub Walked : List ℕ → Word → Bool → Cover → Type 0
+Walked column w c (UpTo r) = (c ≡ true) × PastBlock column w r
+Walked column w c Gap = c ≡ false
+
+-- "To cover the parts is to cover way 1 and then the ways after it": the ways from the i-th to the n-th, looked at d ways below them.
+abbrev pub coveredFrom : ℕ → List Word → ℕ → Word → ℕ → Bool
+coveredFrom n c d w i = all (λ j. covered n c d (child w j)) (count i (n + 1 - i))
+
+-- of the block 12 the first way is covered and the second is not; behind the last there is nothing to cover
+coveredFrom-example : map (λ i. coveredFrom 2 (spell 11 ∷ spell 121 ∷ []) 1 (spell 12) i) (1 ∷ 2 ∷ 3 ∷ []) ≡ false ∷ false ∷ true ∷ []
+coveredFrom-example = refl
+
+abbrev shortColumn : List ℕ
+shortColumn = 0x11 ∷ 0x12 ∷ 0x2 ∷ []
+
+-- its first two words cover the block 1 and stand before the block 2
+walked-example : Walked shortColumn (spell 1) (covered 2 (wordsOf shortColumn) 1 (spell 1)) (UpTo 2)
+unfolding unpack unpackIn
+walked-example = (refl, record { within = omega arith; front = front })
+  where
+    front : (k : ℕ) → k < 2 → (before (wordAt shortColumn k) (spell 1) ≡ true) ⊎ (begins (spell 1) (wordAt shortColumn k) ≡ true)
+    front zero h = inr refl
+    front (suc zero) h = inr refl
+    front (suc (suc k)) h = absurd (omega arith)
+
+reached-example : Reached shortColumn (spell 2) 2
+unfolding unpack unpackIn
+reached-example = record { passed = record { within = omega arith; front = front }; stops = λ h. refl }
+  where
+    front : (k : ℕ) → k < 2 → before (wordAt shortColumn k) (spell 2) ≡ true
+    front zero h = refl
+    front (suc zero) h = refl
+    front (suc (suc k)) h = absurd (omega arith)
+
+-- the block 2 has no part 1
+gap-walked-example : Walked shortColumn (spell 21) (covered 2 (wordsOf shortColumn) 1 (spell 21)) Gap
+unfolding unpack unpackIn
+gap-walked-example = refl

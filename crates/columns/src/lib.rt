@@ -1,0 +1,161 @@
+// Columns (document 01, "Codes"): sorted lists of packed words. What is asked of a column, which word of it begins a word, whether its
+// words overlap, whether a block is covered, is answered by binary search or in one pass over the words. Like those of the crate
+// `tables` above, these functions may ask something of their callers.
+ghost use mathlib.Core.Path.{_≡_};
+ghost use mathlib.Core.Bool.{true, false};
+ghost use Prim.Native.Nat.{_+_, _-_, _≤_};
+ghost use lib.ListN.{length};
+ghost use Rattle.higman.specs.Words.{child};
+ghost use Rattle.higman.specs.Bases.{covered, gap, overlap};
+ghost use Rattle.higman.specs.Limits.{maxDigits};
+ghost use Rattle.words.specs.Packed.{unpack};
+ghost use Rattle.words.specs.Bytes.{shape};
+ghost use Rattle.columns.specs.Packed.{wordsOf, inOrder, sorted};
+ghost use Rattle.columns.specs.Columns.{PartedAt, BegunAt, AtBlock, Reached, coveredFrom, Walked};
+
+pub mod sorting;
+
+// The ways that a word has below its belt, at most.
+const MAX_WAYS: u8 = 15;
+
+// How far the words of a covered block reach.
+pub enum Cover {
+    // the block is covered, and its words stand before this place
+    UpTo(usize),
+    // the block is not covered
+    Gap,
+}
+
+// Whether one word stands before another, by the first digit that differs, or begins it.
+pub fn in_order(u: u64, v: u64) -> bool
+    ensures { λ r. ⌜ r ≡ inOrder (unpack u) (unpack v) ⌝ }
+{
+    words::in_order(u, v)
+}
+
+// The number of words at the front of a sorted column that are in order with w.
+pub fn first_after(column: &[u64], w: u64) -> usize
+    requires { ⌜ sorted (wordsOf (now column)) ≡ true ⌝ }
+    ensures { λ r. ⌜ PartedAt (now (column .entry)) w r ⌝ }
+{
+    let mut low = 0;
+    let mut high = column.len();
+    while low < high {
+        let middle = low + (high - low) / 2;
+        if in_order(column[middle], w) {
+            low = middle + 1;
+        } else {
+            high = middle;
+        }
+    }
+    low
+}
+
+// The place of the word that begins w, or the column's length where none does: the last of the words in order with w, if any.
+pub fn begun_by(column: &[u64], w: u64) -> usize
+    requires { ⌜ sorted (wordsOf (now column)) ≡ true ⌝ }
+    requires { ⌜ overlap (wordsOf (now column)) ≡ false ⌝ }
+    ensures { λ r. ⌜ BegunAt (now (column .entry)) w r ⌝ }
+{
+    let end = first_after(column, w);
+    if end == 0 {
+        return column.len();
+    }
+    if words::begins(column[end - 1], w) {
+        return end - 1;
+    }
+    column.len()
+}
+
+// Whether one word begins or equals another. In a sorted column it then begins its right neighbour.
+pub fn overlaps(column: &[u64]) -> bool
+    requires { ⌜ sorted (wordsOf (now column)) ≡ true ⌝ }
+    ensures { λ r. ⌜ r ≡ overlap (wordsOf (now (column .entry))) ⌝ }
+{
+    let mut i = 0;
+    while i + 1 < column.len() {
+        let word = column[i];
+        let next = column[i + 1];
+        if words::begins(word, next) {
+            return true;
+        }
+        i += 1;
+    }
+    false
+}
+
+// The first place, from at on, whose word does not stand before the block w. Only words with a digit that the shape does not have are
+// skipped; the word at the place at is mostly w or begins with it.
+fn skip_before(column: &[u64], w: u64, at: usize) -> usize
+    requires { ⌜ AtBlock (now column) (unpack w) at ⌝ }
+    ensures { λ r. ⌜ Reached (now (column .entry)) (unpack w) r ⌝ }
+{
+    let mut i = at;
+    while i < column.len() {
+        let word = column[i];
+        if word == w {
+            return i;
+        }
+        if !words::before(word, w) {
+            return i;
+        }
+        i += 1;
+    }
+    i
+}
+
+// Whether a block is covered: listed, or each of its parts is covered, looked at `left` ways below it. All words before the place at
+// stand before the block, so that its own word, if it is listed, is the first that does not.
+fn covered_block(column: &[u64], arity: u8, w: u64, left: u8, at: usize) -> Cover
+    requires { ⌜ (sorted (wordsOf (now column)) ≡ true) × (overlap (wordsOf (now column)) ≡ false) ⌝ }
+    requires { ⌜ (1 ≤ arity) × (arity ≤ 9) × (length (unpack w) + left ≤ maxDigits) × AtBlock (now column) (unpack w) at ⌝ }
+    ensures { λ r. ⌜ Walked (now (column .entry)) (unpack w) (covered arity (wordsOf (now (column .entry))) left (unpack w)) r ⌝ }
+{
+    let place = skip_before(column, w, at);
+    if column.len() <= place {
+        return Cover::Gap;
+    }
+    if column[place] == w {
+        return Cover::UpTo(place + 1);
+    }
+    if left == 0 {
+        return Cover::Gap;
+    }
+    covered_ways(column, arity, w, 1, left, place)
+}
+
+// Whether the parts of a block from a way on are covered, up to the first that is not. The words of a part stand behind those of the
+// parts before it, so that the walk goes on where it has come to.
+fn covered_ways(column: &[u64], arity: u8, w: u64, way: u8, left: u8, at: usize) -> Cover
+    requires { ⌜ (sorted (wordsOf (now column)) ≡ true) × (overlap (wordsOf (now column)) ≡ false) ⌝ }
+    requires { ⌜ (1 ≤ arity) × (arity ≤ 9) × (1 ≤ way) × (way ≤ arity + 1) × (1 ≤ left) × (length (unpack w) + left ≤ maxDigits)
+        × AtBlock (now column) (child (unpack w) way) at ⌝ }
+    ensures { λ r. ⌜ Walked (now (column .entry)) (unpack w) (coveredFrom arity (wordsOf (now (column .entry))) (left - 1) (unpack w) way) r ⌝ }
+{
+    if arity < way {
+        return Cover::UpTo(at);
+    }
+    let Cover::UpTo(next) = covered_block(column, arity, words::child(w, way), left - 1, at) else {
+        return Cover::Gap;
+    };
+    covered_ways(column, arity, w, way + 1, left, next)
+}
+
+// Whether a belt isn't covered. Deeper than the longest words of a plan there is nothing to look for.
+pub fn has_gap(column: &[u64], arity: u8, roots: u8) -> bool
+    requires { ⌜ (sorted (wordsOf (now column)) ≡ true) × (overlap (wordsOf (now column)) ≡ false) ⌝ }
+    requires { ⌜ (1 ≤ arity) × (arity ≤ 9) × (roots ≤ 9) ⌝ }
+    ensures { λ r. ⌜ r ≡ gap (shape arity roots) (wordsOf (now (column .entry))) ⌝ }
+{
+    let mut at = 0;
+    let mut belt: u8 = 1;
+    while belt <= roots {
+        let Cover::UpTo(next) = covered_block(column, arity, words::child(0, belt), MAX_WAYS, at)
+        else {
+            return true;
+        };
+        at = next;
+        belt += 1;
+    }
+    false
+}
