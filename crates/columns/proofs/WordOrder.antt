@@ -10,7 +10,7 @@ use borrow.Author.Tests.{ltb-true, ltb-false, eqb-true, eqb-false}
 use Rattle.higman.specs.Words.{Word, begins}
 use Rattle.higman.specs.Bases.{all, meets, overlap}
 use Rattle.higman.specs.Normal.{before, ordered}
-use Rattle.higman.proofs.Tests.{passes, so, T-of, clash, and-left, and-right, and-intro, or-cases, or-left-false, or-right-false, all-at, all-of}
+use Rattle.higman.proofs.Tests.{passes, so, T-of, clash, and-left, and-right, and-intro, or-cases, or-true-left, or-left-false, or-right-false, all-at, all-of}
 use Rattle.higman.proofs.Prefixes.{tail-of-begins}
 use Rattle.higman.proofs.Proper.{Apart}
 use Rattle.columns.specs.Packed.{inOrder, sorted}
@@ -105,3 +105,22 @@ ordered-of-sorted c h e = ordered-of-unbegun c h (unbegun-of-overlap c e)
 
 pub ordered-of-apart : (c : List Word) → sorted c ≡ true → Apart c → ordered c ≡ true
 ordered-of-apart c h a = ordered-of-unbegun c h (unbegun-of-apart c a)
+
+-- the order of document 01 is the order in which columns are sorted
+pub sorted-of-ordered : (c : List Word) → ordered c ≡ true → sorted c ≡ true
+sorted-of-ordered [] e = refl
+sorted-of-ordered (w ∷ c) e =
+    let h = T-of e in
+    so (sorted (w ∷ c))
+    (and-intro (all (inOrder w) c) (sorted c)
+    (all-of (inOrder w) c (λ v m. T-of (or-true-left (before w v) (begins w v) (so (before w v) (all-at (before w) c (and-left (all (before w) c) (ordered c) h) v m)))))
+    (T-of (sorted-of-ordered c (so (ordered c) (and-right (all (before w) c) (ordered c) h)))))
+
+-- so where no word begins another the two orders are one test
+pub sorted-is-ordered : (c : List Word) → overlap c ≡ false → sorted c ≡ ordered c
+sorted-is-ordered c e = go (passes (sorted c)) (passes (ordered c))
+  where
+    go : (sorted c ≡ true) ⊎ (sorted c ≡ false) → (ordered c ≡ true) ⊎ (ordered c ≡ false) → sorted c ≡ ordered c
+    go (inl s) o = s ∙ sym (ordered-of-sorted c s e)
+    go (inr s) (inl o) = absurd (clash (sorted-of-ordered c o) s)
+    go (inr s) (inr o) = s ∙ sym o

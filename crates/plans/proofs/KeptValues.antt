@@ -23,7 +23,8 @@ use Rattle.higman.proofs.Statements.{answers-exact}
 use Rattle.words.specs.Packed.{unpack, isPacked}
 use Rattle.words.specs.Bytes.{isPlanWord}
 use Rattle.words.proofs.Packed.{packed-word}
-use Rattle.columns.specs.Packed.{wordsOf, inOrder, sorted}
+use Rattle.columns.specs.Packed.{wordsOf}
+use Rattle.columns.proofs.WordOrder.{sorted-of-ordered}
 use Rattle.tables.specs.Spreading.{packedWords, Plain, Operand}
 use Rattle.columns.proofs.Rearranged.{froms-table, tos-table}
 use Rattle.plans.specs.declared.Plan.{Plan}
@@ -31,16 +32,6 @@ use Rattle.plans.specs.Plans.{shapeOf, rowsOf, planOf, inTable, isPlan}
 use Rattle.plans.proofs.Plan.{the-row}
 use Rattle.plans.proofs.Sizes.{from-long, to-long}
 use Rattle.plans.proofs.Values.{few-in-table}
-
--- the order of document 01 is the order in which columns are sorted
-sorted-of-ordered : (c : List Word) → ordered c ≡ true → sorted c ≡ true
-sorted-of-ordered [] e = refl
-sorted-of-ordered (w ∷ c) e =
-    let h = T-of e in
-    so (sorted (w ∷ c))
-    (and-intro (all (inOrder w) c) (sorted c)
-    (all-of (inOrder w) c (λ v m. T-of (or-true-left (before w v) (begins w v) (so (before w v) (all-at (before w) c (and-left (all (before w) c) (ordered c) h) v m)))))
-    (T-of (sorted-of-ordered c (so (ordered c) (and-right (all (before w) c) (ordered c) h)))))
 
 -- numbers that hold words of a shape in range are packed
 packed-column : (s : Shape) (l : List ℕ) → T (shapeInRange s) → ((w : Word) → List·Memᴰ w (wordsOf l) → T (isPlanWord s w)) → packedWords l

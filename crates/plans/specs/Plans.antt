@@ -15,14 +15,14 @@ use Rattle.higman.specs.Answers.{verdict, isTableOf, isKept}
 use Rattle.words.specs.Packed.{packOn, pack, unpackIn, unpack}
 use Rattle.words.specs.Bytes.{shape, isPlanWord}
 use Rattle.plans.specs.declared.Plan.{Plan}
-use Rattle.columns.specs.Packed.{wordsOf, table}
+use Rattle.columns.specs.Packed.{wordsOf, rows}
 
 abbrev pub shapeOf : Plan → Shape
 shapeOf p = shape (p .arity) (p .roots)
 
 -- the pairs at the first places
 abbrev pub rowsOf : Plan → Table
-rowsOf p = table (take (p .pairs) (p .from)) (take (p .pairs) (p .to))
+rowsOf p = rows (p .pairs) (p .from) (p .to)
 
 -- the plan that a value holds
 abbrev pub planOf : Plan → PlanOf

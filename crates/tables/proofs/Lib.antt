@@ -3,7 +3,6 @@ pub mod Writing
 pub mod Records
 pub mod Cuts
 pub mod Joins
-pub mod Ordered
 pub mod Steps
 pub mod Reduction
 pub mod Spread

@@ -64,3 +64,10 @@ unmatched-example = refl
 -- room for all four bytes, for three of them, and a code that is too short
 routedIn-example : (routedIn (some (spell 1212)) 4 ≡ Image 4) × (routedIn (some (spell 1212)) 3 ≡ NoRoom) × (routedIn none 4 ≡ TooShort)
 routedIn-example = (refl, refl, refl)
+
+routedInto-example : map (routedInto (some (spell 12))) ((7 ∷ 7 ∷ 7 ∷ []) ∷ (7 ∷ []) ∷ []) ≡ (49 ∷ 50 ∷ 7 ∷ []) ∷ (7 ∷ []) ∷ []
+routedInto-example = refl
+
+-- three bytes behind the fifth of block 2
+further-example : further 3 (2, 5) ≡ (2, 8)
+further-example = refl

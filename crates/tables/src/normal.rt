@@ -3,27 +3,11 @@
 ghost use mathlib.Core.Path.{_≡_};
 ghost use Prim.Native.Nat.{_+_, _≤_};
 ghost use lib.ListN.{length, drop};
-ghost use Rattle.higman.specs.Normal.{ordered};
+ghost use mathlib.Core.Bool.{false};
+ghost use Rattle.higman.specs.Bases.{overlap};
 ghost use Rattle.columns.specs.Packed.{wordsOf, table};
 ghost use Rattle.tables.specs.Joining.{joinsFirst, hasJoin, isNormal};
 use crate::reduce;
-
-// Whether each word of a column stands before all that follow it, by the first digit that differs. It is enough that it stands before
-// the next.
-fn is_ordered(column: &[u64]) -> bool
-    ensures { λ r. ⌜ r ≡ ordered (wordsOf (now (column .entry))) ⌝ }
-{
-    let mut i = 0;
-    while i + 1 < column.len() {
-        let word = column[i];
-        let next = column[i + 1];
-        if !words::before(word, next) {
-            return false;
-        }
-        i += 1;
-    }
-    true
-}
 
 // Whether the n pairs from the place at on join. Most places are passed at the first digits looked at: only a first part can begin a
 // join.
@@ -66,12 +50,12 @@ fn has_join(from: &[u64], to: &[u64], arity: u8) -> bool
     false
 }
 
-// Whether the table of two columns is reduced and its from-words are in order.
+// Whether the table of two columns is reduced and its from-words are in order. Where no word begins another, a sorted column is in order.
 pub fn is_normal(from: &[u64], to: &[u64], arity: u8) -> bool
-    requires { ⌜ (1 ≤ arity) × (arity ≤ 9) × (length (now from) ≡ length (now to)) ⌝ }
+    requires { ⌜ (1 ≤ arity) × (arity ≤ 9) × (length (now from) ≡ length (now to)) × (overlap (wordsOf (now from)) ≡ false) ⌝ }
     ensures { λ r. ⌜ r ≡ isNormal arity (table (now (from .entry)) (now (to .entry))) ⌝ }
 {
-    if !is_ordered(from) {
+    if !columns::sorting::is_sorted(from) {
         return false;
     }
     !has_join(from, to, arity)

@@ -1,17 +1,17 @@
 //! The library of plans compared with the second implementation. `values` and
-//! `face` are the C face, `second` answers the same calls by the reference,
+//! `bindings` are the C interface, `second` answers the same calls by the reference,
 //! `random` makes inputs, and `checks` compares any offer of the calls with the
 //! second implementation; `tests/` runs the checks on the proved library.
 
+pub mod bindings;
 pub mod calls;
 pub mod checks;
-pub mod face;
 pub mod packed;
 pub mod random;
 pub mod second;
 pub mod values;
 
+pub use bindings::Library;
 pub use calls::Calls;
-pub use face::Library;
 pub use second::Second;
 pub use values::{Compared, Kept, Made, Plan, Verdict, Written, PLACES};

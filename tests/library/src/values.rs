@@ -1,4 +1,4 @@
-//! The values of the C face, laid out as C lays them out: a plan is a fixed
+//! The values of the C interface, laid out as C lays them out: a plan is a fixed
 //! table of 128 pairs of packed words, and every answer begins with a number,
 //! 0 for a job done and else that of the refusal.
 

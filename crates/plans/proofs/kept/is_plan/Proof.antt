@@ -1,15 +1,20 @@
 -- `plans::kept::is_plan` meets its contract: a plan is an accepted value that is reduced and in order. The parts that are lent are the
 -- pairs of the value, whose columns have as many places as a table has pairs.
 use Prim.Native.Nat.{_≤_}
-use mathlib.Core.Path.{_≡_, sym, _∙_}
+use mathlib.Core.Path.{_≡_, sym, _∙_, subst}
+use mathlib.Core.Bool.{false}
 use borrow.Author.Needs.{needs}
 use native.Mathlib.Omega.{arith}
-use lib.ListN.{length}
+use lib.ListN.{length, take}
 use lib.Seq.{length-take-le}
+use Rattle.higman.specs.Bases.{overlap}
+use Rattle.higman.specs.Tables.{froms}
 use Rattle.higman.specs.Limits.{maxPairs}
+use Rattle.higman.proofs.Columns.{column-is-basis}
+use Rattle.columns.proofs.Rearranged.{froms-table}
 use Rattle.higman.proofs.KeptPlans.{arity-of-range, in-range}
 use Rattle.plans.specs.declared.Judgement.the-variants.{Accepted}
-use Rattle.plans.specs.Plans.{shapeOf}
+use Rattle.plans.specs.Plans.{shapeOf, rowsOf}
 use Rattle.plans.specs.Answers.{judged}
 use Rattle.plans.proofs.Sizes.{from-long, to-long}
 use Rattle.plans.proofs.Accepted.{not-accepted, approved, no-plan, plan-normal}
@@ -59,10 +64,14 @@ is-normal-requires : tie.Need-is-normal-requires
 is-normal-requires c κs =
     let e = c .before .before .before .before in
     let p = e .before .before .before .args .p in
-    let range = approved p (accepted e) .in-range in (
-      arity-of-range (shapeOf p) range,
+    let range = approved p (accepted e) .in-range in
+    let arity = arity-of-range (shapeOf p) range in
+    let paired = length-take-le (p .pairs) (p .from) (from-room e) ∙ sym (length-take-le (p .pairs) (p .to) (to-room e)) in (
+      arity,
       in-range (shapeOf p) range .arity-high,
-      length-take-le (p .pairs) (p .from) (from-room e) ∙ sym (length-take-le (p .pairs) (p .to) (to-room e)),
+      paired,
+      subst (λ w. overlap w ≡ false) (froms-table (take (p .pairs) (p .from)) (take (p .pairs) (p .to)) paired)
+          (column-is-basis (shapeOf p) arity (froms (rowsOf p)) .0 (approved p (accepted e) .bases .from-basis) .apart),
     )
 
 returns : tie.Need-returns

@@ -1,4 +1,4 @@
-//! The proved library through its C face: the declarations of the static
+//! The proved library through its C interface: the declarations of the static
 //! library, and a safe wrapper of each call. Plans go in and out by value;
 //! codes and buffers are lent as a pointer and a length.
 
