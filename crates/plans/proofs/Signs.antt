@@ -1,4 +1,5 @@
--- Signed numbers, as a power's is one: the number that the machine reads back from 32 bits, and its size, the number without its sign.
+-- Signed numbers, as a power's is one: the number that the machine reads back from its bits, at any width, and its size, the number
+-- without its sign.
 use Prim.Native.Nat.{ℕ, suc, _≤_, _<_}
 use native.Mathlib.Nat.{zero-add}
 use native.Mathlib.Omega.{arith}
@@ -8,7 +9,7 @@ use lib.Dec.{T, leb→le, ltb→lt}
 use lib.IntN.{ℤ, pos, negsuc, natAbs, _-ℤ_}
 use lib.Signed.{ltZ, nonNeg, _≤ℤ_, _<ℤ_, ltZ-yes, ltZ-no, yes-nonNeg}
 use Rattle.higman.proofs.Tests.{T-of}
-use mir.Syntax.{w32}
+use mir.Syntax.{Width}
 use mir.Val.{Fits, SFits, toZ, ofZ}
 use mir.ValLaws.{toZ-ofZ}
 
@@ -18,9 +19,6 @@ is-less e = ltZ-yes (T-of e)
 
 pub is-not-less : {a b : ℤ} → ltZ a b ≡ false → b ≤ℤ a
 is-not-less e = ltZ-no (T-of (ap not e))
-
-abbrev pub read : ℤ → ℤ
-read k = toZ w32 (ofZ w32 k)
 
 pub size-low : (k : ℤ) (n : ℕ) → k <ℤ negsuc n → suc n < natAbs k
 size-low (pos m) n h = absurd (h .lt)
@@ -38,33 +36,32 @@ opposite : (k : ℤ) → k <ℤ pos 0 → pos 0 -ℤ k ≡ pos (natAbs k)
 opposite (pos m) h = absurd (omega (arith, ltb→lt m 0 (h .lt)))
 opposite (negsuc m) h = ap pos (zero-add (suc m))
 
-small-fits : (n : ℕ) → n ≤ 1000 → SFits w32 (pos n)
-small-fits n l = record { sfits = omega (arith, l) }
+module _ (w : Width) where
+  abbrev pub read : ℤ → ℤ
+  read k = toZ w (ofZ w k)
 
-pub read-is : (k : ℤ) → SFits w32 k → read k ≡ k
-read-is k f = toZ-ofZ w32 k f
+  pub read-is : (k : ℤ) → SFits w k → read k ≡ k
+  read-is k f = toZ-ofZ w k f
 
-module _ (k : ℤ) (f : SFits w32 k) (l : natAbs k ≤ 1000) where
-  size-fits : Fits w32 (natAbs k)
-  size-fits = record { fits = omega (arith, l) }
+  -- a number whose size fits
+  module _ (k : ℤ) (f : SFits w k) (size-fits : Fits w (natAbs k)) where
+    -- zero or above
+    pub cast-fits : pos 0 ≤ℤ read k → T (nonNeg (read k)) × Fits w (natAbs (read k))
+    cast-fits h = (yes-nonNeg h, subst (λ (z : ℤ). Fits w (natAbs z)) (sym (read-is k f)) size-fits)
 
-  -- zero or above
-  pub cast-fits : pos 0 ≤ℤ read k → T (nonNeg (read k)) × Fits w32 (natAbs (read k))
-  cast-fits h = (yes-nonNeg h, subst (λ (z : ℤ). Fits w32 (natAbs z)) (sym (read-is k f)) size-fits)
+    -- below zero, where its opposite fits too
+    module _ (g : SFits w (pos (natAbs k))) (h : read k <ℤ pos 0) where
+      opposite-is : pos 0 -ℤ read k ≡ pos (natAbs k)
+      opposite-is = opposite (read k) h ∙ ap (λ z. pos (natAbs z)) (read-is k f)
 
-  -- below zero
-  module _ (h : read k <ℤ pos 0) where
-    opposite-is : pos 0 -ℤ read k ≡ pos (natAbs k)
-    opposite-is = opposite (read k) h ∙ ap (λ z. pos (natAbs z)) (read-is k f)
+      pub opposite-fits : SFits w (pos 0 -ℤ read k)
+      opposite-fits = subst (SFits w) (sym opposite-is) g
 
-    pub opposite-fits : SFits w32 (pos 0 -ℤ read k)
-    opposite-fits = subst (SFits w32) (sym opposite-is) (small-fits (natAbs k) l)
+      opposite-read : read (pos 0 -ℤ read k) ≡ pos (natAbs k)
+      opposite-read = toZ-ofZ w (pos 0 -ℤ read k) opposite-fits ∙ opposite-is
 
-    opposite-read : read (pos 0 -ℤ read k) ≡ pos (natAbs k)
-    opposite-read = toZ-ofZ w32 (pos 0 -ℤ read k) opposite-fits ∙ opposite-is
+      pub opposite-size : natAbs (read (pos 0 -ℤ read k)) ≡ natAbs k
+      opposite-size = ap natAbs opposite-read
 
-    pub opposite-size : natAbs (read (pos 0 -ℤ read k)) ≡ natAbs k
-    opposite-size = ap natAbs opposite-read
-
-    pub opposite-cast : T (nonNeg (read (pos 0 -ℤ read k))) × Fits w32 (natAbs (read (pos 0 -ℤ read k)))
-    opposite-cast = subst (λ (z : ℤ). T (nonNeg z) × Fits w32 (natAbs z)) (sym opposite-read) (tt, size-fits)
+      pub opposite-cast : T (nonNeg (read (pos 0 -ℤ read k))) × Fits w (natAbs (read (pos 0 -ℤ read k)))
+      opposite-cast = subst (λ (z : ℤ). T (nonNeg z) × Fits w (natAbs z)) (sym opposite-read) (tt, size-fits)

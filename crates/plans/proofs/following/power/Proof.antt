@@ -7,6 +7,8 @@ use borrow.Author.Needs.{needs}
 use native.Mathlib.Omega.{arith}
 use lib.IntN.{ℤ, pos, negsuc, natAbs}
 use lib.Signed.{_<ℤ_, _≤ℤ_, yes-nonNeg}
+use mir.Syntax.{w32}
+use mir.Val.{Fits, SFits}
 use Rattle.higman.specs.Limits.{maxPower}
 use Rattle.plans.specs.Plans.{planOf, isPlan}
 use Rattle.plans.specs.Answers.{repeating}
@@ -20,8 +22,8 @@ plan : (c : tie.Else1) → isPlan (c .before .before .args .a) ≡ true
 plan c = sym (c .before .is-plan .ensures) ∙ not-false (c .before .is-plan .result) (c .if1 .left)
 
 -- what the machine reads back of the number
-number : (s : tie.Start) → read (s .args .k) ≡ s .args .k
-number s = read-is (s .args .k) (s .fits .k)
+number : (s : tie.Start) → read w32 (s .args .k) ≡ s .args .k
+number s = read-is w32 (s .args .k) (s .fits .k)
 
 -- where the number is within the limits
 small : (c : tie.Else3) → natAbs (c .before .before .before .before .args .k) ≤ 1000
@@ -33,6 +35,13 @@ small c =
 
 within : (c : tie.Else3) → natAbs (c .before .before .before .before .args .k) ≤ maxPower
 within c = omega (arith, power-limit, small c)
+
+-- and so fits, with its opposite
+size-fits : (c : tie.Else3) → Fits w32 (natAbs (c .before .before .before .before .args .k))
+size-fits c = record { fits = omega (arith, small c) }
+
+size-signed : (c : tie.Else3) → SFits w32 (pos (natAbs (c .before .before .before .before .args .k)))
+size-signed c = record { sfits = omega (arith, small c) }
 
 is-plan-requires : tie.Need-is-plan-requires
 is-plan-requires c κs = search needs
@@ -75,13 +84,13 @@ sub-repeat : tie.Need-sub-repeat
 sub-repeat c =
     let t = c .before .before in
     let s = t .before .before .before .before .before in
-    opposite-fits (s .args .k) (s .fits .k) (small (t .before)) (is-less (t .if4 .taken))
+    opposite-fits w32 (s .args .k) (s .fits .k) (size-fits (t .before)) (size-signed (t .before)) (is-less (t .if4 .taken))
 
 cast-repeat : tie.Need-cast-repeat
 cast-repeat c =
     let t = c .before .before in
     let s = t .before .before .before .before .before in
-    opposite-cast (s .args .k) (s .fits .k) (small (t .before)) (is-less (t .if4 .taken))
+    opposite-cast w32 (s .args .k) (s .fits .k) (size-fits (t .before)) (size-signed (t .before)) (is-less (t .if4 .taken))
 
 repeat-requires : tie.Need-repeat-requires
 repeat-requires c κs =
@@ -97,13 +106,13 @@ returns-4 c =
     let s = e .before .before in
     let below = subst (λ (z : ℤ). z <ℤ pos 0) (number s) (is-less (t .if4 .taken)) in
     c .repeat .ensures
-    ∙ ap (repeating (planOf (b .inverse .result .plan))) (opposite-size (s .args .k) (s .fits .k) (small (t .before)) (is-less (t .if4 .taken)))
+    ∙ ap (repeating (planOf (b .inverse .result .plan))) (opposite-size w32 (s .args .k) (s .fits .k) (size-fits (t .before)) (size-signed (t .before)) (is-less (t .if4 .taken)))
     ∙ raising-back (s .args .a) (plan e) (b .inverse .result) (b .inverse .ensures) (s .args .k) below (within (t .before))
 
 cast-repeat-2 : tie.Need-cast-repeat-2
 cast-repeat-2 c =
     let s = c .before .before .before .before .before in
-    cast-fits (s .args .k) (s .fits .k) (small (c .before)) (is-not-less (c .if4 .left))
+    cast-fits w32 (s .args .k) (s .fits .k) (size-fits (c .before)) (is-not-less (c .if4 .left))
 
 repeat-requires-2 : tie.Need-repeat-requires-2
 repeat-requires-2 c κs = plan (c .before .before .before)
