@@ -148,14 +148,14 @@ pub fn has_gap(column: &[u64], arity: u8, roots: u8) -> bool
     ensures { λ r. ⌜ r ≡ gap (shape arity roots) (wordsOf (now (column .entry))) ⌝ }
 {
     let mut at = 0;
-    let mut belt: u8 = 1;
-    while belt <= roots {
-        let Cover::UpTo(next) = covered_block(column, arity, words::child(0, belt), MAX_WAYS, at)
+    let mut root: u8 = 1;
+    while root <= roots {
+        let Cover::UpTo(next) = covered_block(column, arity, words::child(0, root), MAX_WAYS, at)
         else {
             return true;
         };
         at = next;
-        belt += 1;
+        root += 1;
     }
     false
 }

@@ -68,10 +68,10 @@ pub parent-child : (b : ℕ) (v : Word) (i : ℕ) → parent (child (b ∷ v) i)
 parent-child b [] i = refl
 parent-child b (c ∷ v) i = rw (parent-child c v i, parent)
 
-parent-belted : (w v : Word) → parent w ≡ some v → Belted v
-parent-belted [] v e = absurd (Option·none-ne-some v e)
-parent-belted (a ∷ []) v e = absurd (Option·none-ne-some v e)
-parent-belted (a ∷ b ∷ w) v e = go (parent (b ∷ w)) e
+parent-rooted : (w v : Word) → parent w ≡ some v → Belted v
+parent-rooted [] v e = absurd (Option·none-ne-some v e)
+parent-rooted (a ∷ []) v e = absurd (Option·none-ne-some v e)
+parent-rooted (a ∷ b ∷ w) v e = go (parent (b ∷ w)) e
   where
     go : (o : Option Word) → elim o as (λ _. Option Word) [ none ↦ some (a ∷ []) | some u ↦ some (a ∷ u) ] ≡ some v → Belted v
     go none k = (a, [], sym (Option·some-injective _ _ k))
@@ -100,7 +100,7 @@ parts-of-joint n (p ∷ t) v e = go (parent (p .to)) refl e
     go none h k = absurd (Option·none-ne-some v k)
     go (some x) h k =
         let (q, r) = test x (sameTable (p ∷ t) (parts n x)) refl k in
-        (parent-belted (p .to) v (h ∙ ap some q), r ∙ ap (parts n) q)
+        (parent-rooted (p .to) v (h ∙ ap some q), r ∙ ap (parts n) q)
 
 -- a join leaves the table alone, or the table is the parts of a block and one row is put for the whole
 abbrev pub JoinCases : ℕ → Table → Type 0

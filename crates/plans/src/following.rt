@@ -99,9 +99,9 @@ fn identity(arity: u8, roots: u8) -> Plan
     requires { ⌜ T (shapeInRange (shape arity roots)) ⌝ }
     ensures { λ r. ⌜ r ≡ packed (identityPlan (shape arity roots)) ⌝ }
 {
-    let belts: [u64; 9] = [1, 2, 3, 4, 5, 6, 7, 8, 9];
+    let digits: [u64; 9] = [1, 2, 3, 4, 5, 6, 7, 8, 9];
     let n = roots as usize;
-    filled(&belts, &belts, n, arity, roots)
+    filled(&digits, &digits, n, arity, roots)
 }
 
 // F: "a then b applies a first". 15, 10, 11.

@@ -22,7 +22,7 @@ use Rattle.columns.specs.Packed.{wordsOf, table, rowsAt}
 use Rattle.columns.specs.Columns.{wordAt}
 use Rattle.tables.specs.Reduction.{prefixed}
 use Rattle.tables.specs.Spreading.{pair}
-use Rattle.tables.specs.Joining.{isBelted, above, joinsFirst, hasJoin, isNormal}
+use Rattle.tables.specs.Joining.{isRooted, above, joinsFirst, hasJoin, isNormal}
 use Rattle.columns.proofs.Rearranged.{froms-table}
 use Rattle.columns.proofs.Rows.{table-length}
 use Rattle.tables.proofs.Cuts.{prefixed-length}
@@ -31,13 +31,13 @@ use Rattle.tables.proofs.Lookup.{table-left}
 
 -- the first n pairs join, p being the first of them
 record Found (n : ℕ) (p : Pair) (t : Table) : Type 0 where
-  from-belt : T (isBelted (above (p .from)))
-  to-belt : T (isBelted (above (p .to)))
+  from-belt : T (isRooted (above (p .from)))
+  to-belt : T (isRooted (above (p .to)))
   first : take n (p ∷ t) ≡ prefixed (above (p .from)) (parts n (above (p .to)))
 
 module _ (n : ℕ) (p : Pair) (t : Table) where
   belts : Bool
-  belts = isBelted (above (p .from)) && isBelted (above (p .to))
+  belts = isRooted (above (p .from)) && isRooted (above (p .to))
 
   same : Bool
   same = sameTable (take n (p ∷ t)) (prefixed (above (p .from)) (parts n (above (p .to))))
@@ -47,8 +47,8 @@ module _ (n : ℕ) (p : Pair) (t : Table) where
   found e =
       let both = and-left belts same (T-of e) in
       record {
-        from-belt = and-left (isBelted (above (p .from))) (isBelted (above (p .to))) both;
-        to-belt = and-right (isBelted (above (p .from))) (isBelted (above (p .to))) both;
+        from-belt = and-left (isRooted (above (p .from))) (isRooted (above (p .to))) both;
+        to-belt = and-right (isRooted (above (p .from))) (isRooted (above (p .to))) both;
         first = same-table (take n (p ∷ t)) (prefixed (above (p .from)) (parts n (above (p .to)))) (and-right belts same (T-of e));
       }
 
@@ -57,7 +57,7 @@ module _ (n : ℕ) (p : Pair) (t : Table) where
   test-of-found x =
       so (joinsFirst n (p ∷ t))
       (and-intro belts same
-      (and-intro (isBelted (above (p .from))) (isBelted (above (p .to))) (x .from-belt) (x .to-belt))
+      (and-intro (isRooted (above (p .from))) (isRooted (above (p .to))) (x .from-belt) (x .to-belt))
       (subst (λ l. T (sameTable (take n (p ∷ t)) l)) (x .first) (same-table-refl (take n (p ∷ t)))))
 
   not-found : (Found n p t → ⊥) → joinsFirst n (p ∷ t) ≡ false
@@ -81,9 +81,9 @@ rows-take (suc k) [] t = refl
 rows-take (suc k) (x ∷ f) [] = refl
 rows-take (suc k) (x ∷ f) (y ∷ t) = ap (λ l. pair (unpack x) (unpack y) ∷ l) (rows-take k f t)
 
-belted : (x : ℕ) (u : Word) → unpack x ≡ u → (x ≡ 0 → ⊥) → isBelted u ≡ true
-belted x [] e h = absurd (h (unpack-injective x 0 (e ∙ sym unpack-zero)))
-belted x (a ∷ u) e h = refl
+rooted : (x : ℕ) (u : Word) → unpack x ≡ u → (x ≡ 0 → ⊥) → isRooted u ≡ true
+rooted x [] e h = absurd (h (unpack-injective x 0 (e ∙ sym unpack-zero)))
+rooted x (a ∷ u) e h = refl
 
 -- a place of two columns with a pair at it
 module _ (n : ℕ) (some-part : 1 ≤ n) (f t : List ℕ) (at : ℕ) (h : at < length f) (h′ : at < length t) where
@@ -107,10 +107,10 @@ module _ (n : ℕ) (some-part : 1 ≤ n) (f t : List ℕ) (at : ℕ) (h : at < l
 
   module _ (w v : ℕ) (e : unpack w ≡ above (wordAt f at)) (e′ : unpack v ≡ above (wordAt t at)) where
     pub from-belt : w ≡ 0 → joinsFirst n (table (drop at f) (drop at t)) ≡ false
-    from-belt z = none-at (λ x. subst (λ u. T (isBelted u)) (sym e ∙ ap unpack z ∙ unpack-zero) (x .from-belt))
+    from-belt z = none-at (λ x. subst (λ u. T (isRooted u)) (sym e ∙ ap unpack z ∙ unpack-zero) (x .from-belt))
 
     pub to-belt : v ≡ 0 → joinsFirst n (table (drop at f) (drop at t)) ≡ false
-    to-belt z = none-at (λ x. subst (λ u. T (isBelted u)) (sym e′ ∙ ap unpack z ∙ unpack-zero) (x .to-belt))
+    to-belt z = none-at (λ x. subst (λ u. T (isRooted u)) (sym e′ ∙ ap unpack z ∙ unpack-zero) (x .to-belt))
 
     -- below two words of at least a belt the parts decide
     pub by-parts : (w ≡ 0 → ⊥) → (v ≡ 0 → ⊥)
@@ -119,7 +119,7 @@ module _ (n : ℕ) (some-part : 1 ≤ n) (f t : List ℕ) (at : ℕ) (h : at < l
     by-parts k k′ =
         let p = pair (wordAt f at) (wordAt t at) in
         ap₂ (λ l y. sameTable l y) (rows-take n (drop at f) (drop at t) ∙ ap (take n) stands) (ap₂ (λ x y. prefixed x (parts n y)) e e′)
-        ∙ sym (ap₂ (λ x y. x && y && same n p rest) (belted w (above (wordAt f at)) e k) (belted v (above (wordAt t at)) e′ k′))
+        ∙ sym (ap₂ (λ x y. x && y && same n p rest) (rooted w (above (wordAt f at)) e k) (rooted v (above (wordAt t at)) e′ k′))
         ∙ ap (joinsFirst n) (sym stands)
 
   -- a join at the place, or behind it
@@ -148,7 +148,7 @@ part-listed n w v i m =
     Memᴰ·map (λ p. pair (w ++ p .from) (p .to)) (mem-gather (digits n) (λ j. whole (child v j)) i (pair [] (child v i)) m (List·Memᴰ·head refl))
 
 -- what is found is a join
-join-of-test : (n : ℕ) (t : Table) → hasJoin n t ≡ true → (w : Word) × (v : Word) × T (isBelted w) × T (isBelted v) × Joinable n t w v
+join-of-test : (n : ℕ) (t : Table) → hasJoin n t ≡ true → (w : Word) × (v : Word) × T (isRooted w) × T (isRooted v) × Joinable n t w v
 join-of-test n [] e = absurd (clash e refl)
 join-of-test n (p ∷ t) e = go (or-cases (joinsFirst n (p ∷ t)) (hasJoin n t) e) (λ k. join-of-test n t k)
   where
@@ -164,15 +164,15 @@ join-of-test n (p ∷ t) e = go (or-cases (joinsFirst n (p ∷ t)) (hasJoin n t)
         (Memᴰ·append-left (drop n (p ∷ t)) (subst (List·Memᴰ (pair (child w i) (child v i))) (sym (x .first)) (part-listed n w v i m)))
 
     go : (joinsFirst n (p ∷ t) ≡ true) ⊎ (hasJoin n t ≡ true)
-        → (hasJoin n t ≡ true → (w : Word) × (v : Word) × T (isBelted w) × T (isBelted v) × Joinable n t w v)
-        → (w : Word) × (v : Word) × T (isBelted w) × T (isBelted v) × Joinable n (p ∷ t) w v
+        → (hasJoin n t ≡ true → (w : Word) × (v : Word) × T (isRooted w) × T (isRooted v) × Joinable n t w v)
+        → (w : Word) × (v : Word) × T (isRooted w) × T (isRooted v) × Joinable n (p ∷ t) w v
     go (inl h) onward = let x = found n p t h in (w, v, x .from-belt, x .to-belt, here x)
     go (inr h) onward = let (u, y, a, b, j) = onward h in (u, y, a, b, λ i m. List·Memᴰ·tail (j i m))
 
 none-of-reduced : (n : ℕ) (t : Table) → Reduced n t → hasJoin n t ≡ false
 none-of-reduced n t r = go (passes (hasJoin n t))
   where
-    never : (w v : Word) → T (isBelted w) → T (isBelted v) → Joinable n t w v → ⊥
+    never : (w v : Word) → T (isRooted w) → T (isRooted v) → Joinable n t w v → ⊥
     never [] v a b j = a
     never (c ∷ w) [] a b j = b
     never (c ∷ w) (d ∷ v) a b j = r c d w v j
@@ -258,7 +258,7 @@ module _ (w v : Word) where
       (run m (suc i) q t (s .1) second (λ j k. behind i j p (q ∷ t) e (count-bounds (suc i) (suc m) j k .0) (l j (List·Memᴰ·tail k))))
 
   -- n pairs that join are found
-  test-of-join : (m : ℕ) → T (isBelted w) → T (isBelted v) → (t : Table) → Sorted (froms t) → Joinable (suc m) t w v → hasJoin (suc m) t ≡ true
+  test-of-join : (m : ℕ) → T (isRooted w) → T (isRooted v) → (t : Table) → Sorted (froms t) → Joinable (suc m) t w v → hasJoin (suc m) t ≡ true
   unfolding part
   test-of-join m a b [] s j = absurd (List·Memᴰ·not-nil (j 1 (List·Memᴰ·head refl)))
   test-of-join m a b (p ∷ t) s j = go (List·Memᴰ·cases-cons (j 1 (List·Memᴰ·head refl))) (λ k. test-of-join m a b t (s .1) k)
@@ -268,8 +268,8 @@ module _ (w v : Word) where
           let from : w ≡ above (p .from) = sym (parent-of-child w 1) ∙ ap (λ q. above (q .from)) e in
           let to : v ≡ above (p .to) = sym (parent-of-child v 1) ∙ ap (λ q. above (q .to)) e in
           record {
-            from-belt = subst (λ u. T (isBelted u)) from a;
-            to-belt = subst (λ u. T (isBelted u)) to b;
+            from-belt = subst (λ u. T (isRooted u)) from a;
+            to-belt = subst (λ u. T (isRooted u)) to b;
             first = run m 1 p t s (sym e) j ∙ ap₂ (λ x y. prefixed x (parts (suc m) y)) from to;
           }
 

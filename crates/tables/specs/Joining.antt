@@ -12,9 +12,9 @@ use Rattle.words.specs.Packed.{orEmpty}
 use Rattle.tables.specs.Reduction.{prefixed}
 
 -- a word of at least a belt
-abbrev pub isBelted : Word → Bool
-isBelted [] = false
-isBelted (a ∷ w) = true
+abbrev pub isRooted : Word → Bool
+isRooted [] = false
+isRooted (a ∷ w) = true
 
 -- the word without its last digit; the empty word where no digit is left
 abbrev pub above : Word → Word
@@ -25,7 +25,7 @@ above w = orEmpty (parent w)
 unfoldable pub joinsFirst : ℕ → Table → Bool
 joinsFirst n [] = false
 joinsFirst n (p ∷ t) =
-    isBelted (above (p .from)) && isBelted (above (p .to)) && sameTable (take n (p ∷ t)) (prefixed (above (p .from)) (parts n (above (p .to))))
+    isRooted (above (p .from)) && isRooted (above (p .to)) && sameTable (take n (p ∷ t)) (prefixed (above (p .from)) (parts n (above (p .to))))
 
 -- the n pairs from some place on join
 abbrev pub hasJoin : ℕ → Table → Bool

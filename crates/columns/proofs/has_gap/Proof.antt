@@ -1,5 +1,5 @@
--- `columns::has_gap` meets its contract. The invariant: all belts are covered exactly if those from the present one on are, and
--- the words before the cursor stand before the present belt. The measure is the number of belts that are left. A word of 64 bits is no
+-- `columns::has_gap` meets its contract. The invariant: all roots are covered exactly if those from the present one on are, and
+-- the words before the cursor stand before the present root. The measure is the number of roots that are left. A word of 64 bits is no
 -- longer than the depth to which the blocks are looked at.
 use Prim.Native.Nat.{ℕ, _+_, _-_, _≤_}
 use mathlib.Core.Path.{_≡_, sym, _∙_, ap, subst}
@@ -23,28 +23,28 @@ use Rattle.columns.proofs.Walks.{at-start, at-later, walked-same}
 use Rattle.columns.proofs.has_gap.Statement.{statement}
 use Rattle.columns.proofs.has_gap.Tie as tie
 
--- a belt is covered, looked at as deep as a plan's words reach
-abbrev beltCovered : List ℕ → ℕ → ℕ → Bool
-beltCovered column arity a = covered arity (wordsOf column) 15 (a ∷ [])
+-- a root is covered, looked at as deep as a plan's words reach
+abbrev rootCovered : List ℕ → ℕ → ℕ → Bool
+rootCovered column arity a = covered arity (wordsOf column) 15 (a ∷ [])
 
 abbrev Inv-loop : tie.InvT-loop
-Inv-loop column arity roots at₀ belt₀ at belt =
-    (1 ≤ belt)
-    × (belt ≤ roots + 1)
-    × (all (beltCovered column arity) (digits roots) ≡ all (beltCovered column arity) (count belt (roots + 1 - belt)))
-    × AtBlock column (belt ∷ []) at
+Inv-loop column arity roots at₀ root₀ at root =
+    (1 ≤ root)
+    × (root ≤ roots + 1)
+    × (all (rootCovered column arity) (digits roots) ≡ all (rootCovered column arity) (count root (roots + 1 - root)))
+    × AtBlock column (root ∷ []) at
 
 abbrev μ-loop : tie.MeasureT-loop
-μ-loop column arity roots at₀ belt₀ at belt = roots + 1 - belt
+μ-loop column arity roots at₀ root₀ at root = roots + 1 - root
 
 loop-holds : tie.Need-loop-holds Inv-loop μ-loop
 loop-holds c =
     let a = c .before .args in
     let n : a .roots ≡ a .roots + 1 - 1 = omega arith in
-    (omega arith, omega arith, ap (λ m. all (beltCovered (a .column .now) (a .arity)) (count 1 m)) n, at-start (a .column .now) (1 ∷ []))
+    (omega arith, omega arith, ap (λ m. all (rootCovered (a .column .now) (a .arity)) (count 1 m)) n, at-start (a .column .now) (1 ∷ []))
 
 -- what is left to look at decides
-gap-left : (c : tie.At-loop Inv-loop μ-loop) → let a = c .before .before .args in gap (shape (a .arity) (a .roots)) (wordsOf (a .column .now)) ≡ not (all (beltCovered (a .column .now) (a .arity)) (count (c .loop .belt) (a .roots + 1 - c .loop .belt)))
+gap-left : (c : tie.At-loop Inv-loop μ-loop) → let a = c .before .before .args in gap (shape (a .arity) (a .roots)) (wordsOf (a .column .now)) ≡ not (all (rootCovered (a .column .now) (a .arity)) (count (c .loop .root) (a .roots + 1 - c .loop .root)))
 unfolding maxDigits
 gap-left c =
     let start = c .before .before in
@@ -52,15 +52,15 @@ gap-left c =
     let fits = longest-fits (a .column .now) (λ i. c .before .shared-slice-known .given i .fits) in
     gap-deep (a .arity) (a .roots) (wordsOf (a .column .now)) 15 (start .pre .1 .0) fits ∙ ap not (c .loop .inv .2)
 
--- the word of the belt
-belt-word : (c : tie.After-child Inv-loop μ-loop) → unpack (c .child .result) ≡ c .before .before .loop .belt ∷ []
-belt-word c = c .child .ensures ∙ ap (λ w. child w (c .before .before .loop .belt)) unpack-zero
+-- the word of the root
+root-word : (c : tie.After-child Inv-loop μ-loop) → unpack (c .child .result) ≡ c .before .before .loop .root ∷ []
+root-word c = c .child .ensures ∙ ap (λ w. child w (c .before .before .loop .root)) unpack-zero
 
--- what the walk over the belt answers
-belt-walked : (c : tie.After-covered-block Inv-loop μ-loop) (r : Cover) → c .covered-block .result ≡ r → let l = c .before .before .before in let a = l .before .before .args in Walked (a .column .now) (l .loop .belt ∷ []) (beltCovered (a .column .now) (a .arity) (l .loop .belt)) r
-belt-walked c r e =
+-- what the walk over the root answers
+root-walked : (c : tie.After-covered-block Inv-loop μ-loop) (r : Cover) → c .covered-block .result ≡ r → let l = c .before .before .before in let a = l .before .before .args in Walked (a .column .now) (l .loop .root ∷ []) (rootCovered (a .column .now) (a .arity) (l .loop .root)) r
+root-walked c r e =
     let a = c .before .before .before .before .before .args in
-    walked-same (a .column .now) (covered (a .arity) (wordsOf (a .column .now)) 15) (belt-word (c .before)) e (c .covered-block .ensures)
+    walked-same (a .column .now) (covered (a .arity) (wordsOf (a .column .now)) 15) (root-word (c .before)) e (c .covered-block .ensures)
 
 child-requires : tie.Need-child-requires Inv-loop μ-loop
 unfolding maxDigits
@@ -72,7 +72,7 @@ covered-block-requires c κs =
     let l = c .before .before in
     let start = l .before .before in
     let a = start .args in
-    (start .pre .0, (start .pre .1 .0, start .pre .1 .1, omega (arith, ap length (belt-word c)), subst (λ w. AtBlock (a .column .now) w (l .loop .at)) (sym (belt-word c)) (l .loop .inv .3)))
+    (start .pre .0, (start .pre .1 .0, start .pre .1 .1, omega (arith, ap length (root-word c)), subst (λ w. AtBlock (a .column .now) w (l .loop .at)) (sym (root-word c)) (l .loop .inv .3)))
 
 enum-known-next : tie.Need-enum-known-next Inv-loop μ-loop
 enum-known-next c = search needs
@@ -85,11 +85,11 @@ returns c =
     let call = c .before .before in
     let l = call .before .before .before in
     let a = l .before .before .args in
-    let stop = all-stop (beltCovered (a .column .now) (a .arity)) (l .loop .belt) (a .roots) (call .before .before .loop-test .taken) (belt-walked call Gap (c .enum-told .given .1)) in
+    let stop = all-stop (rootCovered (a .column .now) (a .arity)) (l .loop .root) (a .roots) (call .before .before .loop-test .taken) (root-walked call Gap (c .enum-told .given .1)) in
     sym (gap-left l ∙ ap not stop)
 
-add-belt : tie.Need-add-belt Inv-loop μ-loop
-add-belt c = omega arith
+add-root : tie.Need-add-root Inv-loop μ-loop
+add-root c = omega arith
 
 loop-less : tie.Need-loop-less Inv-loop μ-loop
 loop-less c = omega arith
@@ -100,17 +100,17 @@ loop-again c =
     let call = known .before .before in
     let l = call .before .before .before in
     let a = l .before .before .args in
-    let belt = l .loop .belt in
+    let root = l .loop .root in
     let next = known .next .given .0 .0 in
-    let walked = belt-walked call (UpTo next) (known .next .given .1) in
-    let pass = all-pass (beltCovered (a .column .now) (a .arity)) belt (a .roots) (call .before .before .loop-test .taken) (walked .0) in
-    (omega arith, omega arith, l .loop .inv .2 ∙ pass, at-later (a .column .now) [] next belt (belt + 1) (omega arith) (walked .1))
+    let walked = root-walked call (UpTo next) (known .next .given .1) in
+    let pass = all-pass (rootCovered (a .column .now) (a .arity)) root (a .roots) (call .before .before .loop-test .taken) (walked .0) in
+    (omega arith, omega arith, l .loop .inv .2 ∙ pass, at-later (a .column .now) [] next root (root + 1) (omega arith) (walked .1))
 
 returns-2 : tie.Need-returns-2 Inv-loop μ-loop
 returns-2 c =
     let l = c .before in
     let a = l .before .before .args in
-    sym (gap-left l ∙ ap not (all-done (beltCovered (a .column .now) (a .arity)) (l .loop .belt) (a .roots) (c .loop-test .left)))
+    sym (gap-left l ∙ ap not (all-done (rootCovered (a .column .now) (a .arity)) (l .loop .root) (a .roots) (c .loop-test .left)))
 
 pub has-gap-spec : {M : Type 1} → statement M
 has-gap-spec =
@@ -124,7 +124,7 @@ has-gap-spec =
     enum-known-next
     enum-told
     returns
-    add-belt
+    add-root
     loop-less
     loop-again
     returns-2)
