@@ -7,9 +7,9 @@ use mathlib.Core.Option.{Option, none}
 use borrow.Author.Tests.{leb-true, lt-leb}
 use lib.Dec.{T, leb, le→leb}
 use lib.ListN.{length, drop, length-append, length-drop}
-use Rattle.higman.specs.Cases.{Letter}
+use Rattle.higman.specs.Refusals.{Letter}
 use Rattle.higman.proofs.Tests.{so, T-of}
-use Rattle.desk.specs.Text.{Bytes}
+use Rattle.higman.specs.Text.{Bytes}
 use Rattle.desk.specs.Desk.{Desk, IsDesk, isDesk, dropped}
 use Rattle.desk.specs.Replies.{Reply, Outcome, refuse, pass, _>>=_, Effect, settle}
 use Rattle.desk.specs.Bytes.{Order, replyBytes}

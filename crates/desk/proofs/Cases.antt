@@ -1,9 +1,10 @@
 -- The sessions of specs/Cases.antt, each by computing.
 use mathlib.Core.Path.{refl}
 use Rattle.higman.specs.Normal.{joined, normal, normalForm, keep, compose, inverse, identity}
-use Rattle.higman.specs.Limits.{maxPairs, maxDigits, maxCode, maxPower, shapeInRange, granted, isCode}
+use Rattle.higman.specs.Limits.{maxPairs, maxDigits, maxCode, maxPower, shapeInRange, granted, isCode, isPlanWord, slotCount}
+use Rattle.higman.specs.Text.{digitOf}
 use Rattle.higman.specs.Answers.{verdict, followed, inverted, raised, powered, same, routed}
-use Rattle.desk.specs.Limits.{slotCount, maxChanges, maxLine, maxNumeral}
+use Rattle.desk.specs.Limits.{maxChanges, maxLine, maxNumeral}
 use Rattle.desk.specs.Desk.{freshDesk, changed, withDraft, dropped}
 use Rattle.desk.specs.Records.{grammar, parse}
 use Rattle.desk.specs.Replies.{_>>=_, operation, lineOperation, respondLine}
@@ -12,7 +13,7 @@ use Rattle.desk.specs.Session.{feedByte, feed, finish, session}
 use Rattle.desk.specs.Cases.{starSessions, otherSessions, surveySessions, DeskCases}
 
 pub desk-cases : DeskCases
-unfolding starSessions otherSessions surveySessions session finish feed feedByte replyBytes _>>=_ respondLine lineOperation operation parse grammar freshDesk changed withDraft dropped slotCount maxChanges maxLine maxNumeral maxPairs maxDigits maxCode maxPower shapeInRange granted isCode verdict followed inverted raised powered same routed keep compose inverse identity normalForm normal joined
+unfolding starSessions otherSessions surveySessions session finish feed feedByte replyBytes _>>=_ respondLine lineOperation operation parse grammar freshDesk changed withDraft dropped slotCount maxChanges maxLine maxNumeral isPlanWord digitOf maxPairs maxDigits maxCode maxPower shapeInRange granted isCode verdict followed inverted raised powered same routed keep compose inverse identity normalForm normal joined
 desk-cases =
     record {
       star = λ order. (refl, (refl, (refl, (refl, (refl, (refl, (refl, (refl, (refl, (refl, tt))))))))));

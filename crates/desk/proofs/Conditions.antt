@@ -13,12 +13,14 @@ use Rattle.higman.specs.Words.{Shape, Word, given}
 use Rattle.higman.specs.Bases.{overlap, gap}
 use Rattle.higman.specs.Tables.{Table, froms, tos, image, sameTable}
 use Rattle.higman.specs.Normal.{compose}
-use Rattle.higman.specs.Limits.{Plan, shapeInRange, granted, isCode, maxPairs, maxPower}
+use Rattle.higman.specs.Limits.{Plan, shapeInRange, granted, isCode, maxPairs, maxPower, isPlanWord}
 use Rattle.higman.specs.Answers.{Reason, Overlap, Gap, Verdict, Accepted, InFrom, InTo, verdict, Answer, Granted, Refused, ShapesDiffer, LimitBroken, BadCode, Comparison, Alike, NotCompared, Route, Image, TooShort, NotRouted, sameShape, raised, repeatable, followed, inverted, powered, same, routed}
-use Rattle.higman.specs.Cases.{Letter}
-use Rattle.desk.specs.Desk.{Draft, Desk, held, isPlanWord}
+use Rattle.higman.specs.Refusals.{Letter}
+use Rattle.desk.specs.Desk.{Draft, Desk, held}
 use Rattle.desk.specs.Records.{Record, P, M, E, F, I, K, S, W, L, C, T, U}
-use Rattle.desk.specs.Replies.{Outcome, refuse, pass, _>>=_, _when_, isOpen, outside, slotNumber, atLimit, wordOf, openPlan, planIn, ofVerdict, ofAnswer, ofComparison, ofRoute, operation}
+use Rattle.higman.specs.Listing.{slotNumber}
+use Rattle.higman.specs.Text.{wordOf}
+use Rattle.desk.specs.Replies.{Outcome, refuse, pass, _>>=_, _when_, isOpen, outside, atLimit, openPlan, planIn, ofVerdict, ofAnswer, ofComparison, ofRoute, operation}
 use Rattle.desk.specs.Conditions.{Condition, _if_, inColumn, isEmpty, ofPlan, ofBoth, conditions, firstOf, refusalOf}
 
 -- an outcome is refused as the first condition that holds says

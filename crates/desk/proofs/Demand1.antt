@@ -12,10 +12,9 @@ use lib.ListN.{length}
 use borrow.Author.Tests.{eq-eqb}
 use Rattle.higman.specs.Words.{Word, spelled}
 use Rattle.higman.specs.Bases.{all}
-use Rattle.higman.specs.Listing.{tab, lineEnd, digitByte, wordBytes}
-use Rattle.higman.specs.Cases.{Letter}
+use Rattle.higman.specs.Text.{tab, lineEnd, digitByte, wordBytes, Bytes, bytes}
+use Rattle.higman.specs.Refusals.{Letter}
 use Rattle.higman.proofs.Tests.{so, T-of, clash, or-cases, or-true-left, or-true-right, all-at}
-use Rattle.desk.specs.Text.{Bytes, bytes}
 use Rattle.desk.specs.Limits.{maxLine}
 use Rattle.desk.specs.Desk.{Desk}
 use Rattle.desk.specs.Records.{Record, P, M, E, F, I, K, S, W, L, C, T as Tᴿ, U, parse}

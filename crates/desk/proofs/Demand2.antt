@@ -13,7 +13,7 @@ use borrow.Author.Tests.{leb-false, lt-leb}
 use Rattle.higman.specs.Words.{Word, isWord}
 use Rattle.higman.specs.Tables.{image, sameTable}
 use Rattle.higman.specs.Normal.{andThen, power}
-use Rattle.higman.specs.Limits.{Plan, Bases, Kept, isCode}
+use Rattle.higman.specs.Limits.{Plan, Bases, Kept, isCode, slotCount}
 use Rattle.higman.specs.Answers.{Verdict, Accepted, InFrom, InTo, verdict, Answer, Granted, Refused, followed, inverted, powered, Comparison, Alike, NotCompared, same, sameShape, Route, Image, TooShort, NotRouted, BadCode, ShapesDiffer, routed}
 use Rattle.higman.specs.Theorems.{ActAlike}
 use Rattle.higman.specs.Bases.{all}
@@ -22,11 +22,12 @@ use Rattle.higman.proofs.KeptPlans.{arity-of-range}
 use Rattle.higman.proofs.Answers.{followed-cases, inverted-cases, shape-path}
 use Rattle.higman.proofs.Demand3.{demand3}
 use Rattle.higman.proofs.Statements.{normal-form, group-acts, answers-exact}
-use Rattle.desk.specs.Text.{Bytes}
-use Rattle.desk.specs.Limits.{slotCount, maxChanges}
+use Rattle.higman.specs.Text.{Bytes, wordOf}
+use Rattle.desk.specs.Limits.{maxChanges}
 use Rattle.desk.specs.Desk.{Draft, Desk, held, IsDraft, IsDesk}
 use Rattle.desk.specs.Records.{E, F, I, K, S, W}
-use Rattle.desk.specs.Replies.{Outcome, refuse, pass, _>>=_, _when_, Effect, Reply, silent, ok, okNumber, okWord, lists, surveys, refuses, slotNumber, isSlot, wordOf, bit, openPlan, planIn, ofVerdict, ofAnswer, ofComparison, ofRoute, atLimit, keepIn, closed, operation}
+use Rattle.higman.specs.Listing.{slotNumber, isSlot}
+use Rattle.desk.specs.Replies.{Outcome, refuse, pass, _>>=_, _when_, Effect, Reply, silent, ok, okNumber, okWord, lists, surveys, refuses, bit, openPlan, planIn, ofVerdict, ofAnswer, ofComparison, ofRoute, atLimit, keepIn, closed, operation}
 use Rattle.desk.specs.Demands.{KeptAsTyped, KeptIn, Demand2, Demands}
 use Rattle.desk.proofs.ReadBack.{typed-in, listing-read-back}
 use Rattle.desk.proofs.Outcomes.{Passes, stops, passes, passes-then, any-then, passed, test-failed, plan-held, plan-open}

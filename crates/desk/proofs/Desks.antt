@@ -7,11 +7,11 @@ use mathlib.Core.List.{List, [], _∷_}
 use mathlib.Core.Option.{Option, none, some, Option·some-injective, Option·none-ne-some}
 use lib.Dec.{T, leb, eqb, leb→le, le→leb, eqb→eq, eqb-refl}
 use lib.ListN.{length, getD}
-use Rattle.higman.specs.Limits.{Plan, Kept}
+use Rattle.higman.specs.Limits.{Plan, Kept, slotCount}
 use Rattle.higman.specs.Answers.{isTableOf, isKept}
 use Rattle.higman.proofs.Statements.{table-of, test-table, answers-exact}
 use Rattle.higman.proofs.Tests.{and-left, and-right, and-intro}
-use Rattle.desk.specs.Limits.{slotCount, maxChanges}
+use Rattle.desk.specs.Limits.{maxChanges}
 use Rattle.desk.specs.Desk.{Draft, Desk, IsDraft, IsDesk, allHeld, isDraft, isDesk}
 use Rattle.desk.specs.Theorems.{DeskTest}
 

@@ -5,11 +5,12 @@ use mathlib.Core.Path.{_≡_, refl, sym, ap, subst}
 use mathlib.Core.Bool.{Bool, true, false}
 use mathlib.Core.Option.{Option, none, some}
 use Rattle.higman.specs.Limits.{Plan}
-use Rattle.higman.specs.Cases.{Letter}
-use Rattle.desk.specs.Text.{Bytes}
+use Rattle.higman.specs.Refusals.{Letter}
+use Rattle.higman.specs.Text.{Bytes}
 use Rattle.desk.specs.Desk.{Draft, Desk, held, dropped}
 use Rattle.desk.specs.Records.{Record, P, M, E, F, I, K, S, W, L, C, T, U}
-use Rattle.desk.specs.Replies.{Reply, silent, ok, okNumber, okWord, lists, surveys, refuses, Outcome, refuse, pass, _>>=_, _when_, slotNumber, planIn, openPlan, Effect, settle, operation, lineOperation, respondLine}
+use Rattle.higman.specs.Listing.{slotNumber}
+use Rattle.desk.specs.Replies.{Reply, silent, ok, okNumber, okWord, lists, surveys, refuses, Outcome, refuse, pass, _>>=_, _when_, planIn, openPlan, Effect, settle, operation, lineOperation, respondLine}
 use Rattle.desk.specs.Theorems.{RefusalDrops}
 
 pub data Passes {A : Type 0} (Q : A → Type 0) : Outcome A → Type 0 where

@@ -12,19 +12,21 @@ use lib.ListN.{length, length-append, length-map}
 use Rattle.higman.specs.Words.{Shape, Word, isWord}
 use Rattle.higman.specs.Bases.{all}
 use Rattle.higman.specs.Tables.{Pair, Table, froms, tos}
-use Rattle.higman.specs.Limits.{shapeInRange, granted, fits, pairFits, maxPairs, maxDigits}
+use Rattle.higman.specs.Limits.{shapeInRange, granted, fits, pairFits, maxPairs, maxDigits, slotCount, isPlanWord}
 use Rattle.higman.specs.Normal.{keep}
 use Rattle.higman.specs.Answers.{Accepted, verdict}
-use Rattle.higman.specs.Listing.{tab, lineEnd, digitByte, wordBytes, openRecord, pairRecord, pairRecords, joinLines, closeRecord}
+use Rattle.higman.specs.Text.{tab, lineEnd, digitByte, wordBytes, Bytes, wordOf}
+use Rattle.higman.specs.Listing.{openRecord, pairRecord, pairRecords, joinLines, closeRecord, slotNumber, slotByte, isSlot}
 use Rattle.higman.proofs.Tests.{so, and-left, and-right, and-intro, all-cons}
 use Rattle.higman.proofs.Statements.{table-of, test-table, normal-form, answers-exact}
 use Rattle.higman.proofs.Columns.{column-is-basis}
 use Rattle.higman.proofs.KeptPlans.{in-range, arity-of-range}
-use Rattle.desk.specs.Text.{Bytes}
-use Rattle.desk.specs.Limits.{slotCount, maxChanges, maxLine}
-use Rattle.desk.specs.Desk.{Draft, Desk, isPlanWord, withDraft, withPair, changed, dropped}
+use Rattle.higman.proofs.PlanWords.{plan-word-of, plan-word-length, plan-word-ways}
+use Rattle.higman.proofs.Text.{word-of-bytes}
+use Rattle.desk.specs.Limits.{maxChanges, maxLine}
+use Rattle.desk.specs.Desk.{Draft, Desk, withDraft, withPair, changed, dropped}
 use Rattle.desk.specs.Records.{Record, P, M, E, fields, digitField, isNumeral, numeralValue, grammar, parse, applied, readFields}
-use Rattle.desk.specs.Replies.{lists, pass, _>>=_, _when_, Effect, silent, okNumber, slotNumber, slotByte, isSlot, wordOf, newDraft, operation, recordOf, lineOperation, settle, respondLine}
+use Rattle.desk.specs.Replies.{lists, pass, _>>=_, _when_, Effect, silent, okNumber, newDraft, operation, recordOf, lineOperation, settle, respondLine}
 use Rattle.desk.specs.Bytes.{Order, replyBytes}
 use Rattle.desk.specs.Session.{State, idle, grown, feedByte, feed}
 use Rattle.desk.specs.Theorems.{TypedIn, ListingReadBack}
@@ -53,10 +55,6 @@ fields-first (b ∷ f) rest h = rw (h .0, fields, fields-first f rest (h .1))
 
 value-of-digit : (a : ℕ) → numeralValue (digitByte a) ≡ a
 value-of-digit a = omega arith
-
-word-of-bytes : (w : Word) → wordOf (wordBytes w) ≡ w
-word-of-bytes [] = refl
-word-of-bytes (a ∷ w) = rw (value-of-digit a, word-of-bytes w)
 
 digit-field : (a : ℕ) → a ≤ 9 → digitField (digitByte a ∷ []) ≡ some a
 digit-field a h = rw (numeral, digitField) (ap some (value-of-digit a))
@@ -104,10 +102,20 @@ operation-open : (d : Desk) (b : ℕ) (s : Shape) → T (isSlot b) → T (shapeI
 unfolding _>>=_ operation dropped withDraft
 operation-open d b s h k = rw (when-held 8 (all isSlot (b ∷ [])) (all-cons isSlot b [] h tt), when-held 3 (shapeInRange s) k)
 
-operation-pair : (d : Desk) (o : Draft) (p : Pair) → T (isPlanWord (o .shape) (p .from) && isPlanWord (o .shape) (p .to)) → length (o .rows) < maxPairs
+operation-pair : (d : Desk) (o : Draft) (p : Pair) → T (shapeInRange (o .shape)) → T (isPlanWord (o .shape) (p .from) && isPlanWord (o .shape) (p .to))
+    → length (o .rows) < maxPairs
     → operation (withDraft d o) (M (wordBytes (p .from)) (wordBytes (p .to))) ≡ pass (withDraft d (withPair o p), silent)
 unfolding _>>=_ operation withDraft
-operation-pair d o p h k = rw (word-of-bytes (p .from), word-of-bytes (p .to), when-held 4 (isPlanWord (o .shape) (p .from) && isPlanWord (o .shape) (p .to)) h, lt-leb maxPairs (length (o .rows)) k)
+operation-pair d o p r h k = rw (spelt-back (p .from) from, spelt-back (p .to) to, when-held 4 (isPlanWord (o .shape) (p .from) && isPlanWord (o .shape) (p .to)) h, lt-leb maxPairs (length (o .rows)) k)
+  where
+    from : T (isPlanWord (o .shape) (p .from))
+    from = and-left (isPlanWord (o .shape) (p .from)) (isPlanWord (o .shape) (p .to)) h
+
+    to : T (isPlanWord (o .shape) (p .to))
+    to = and-right (isPlanWord (o .shape) (p .from)) (isPlanWord (o .shape) (p .to)) h
+
+    spelt-back : (w : Word) → T (isPlanWord (o .shape) w) → wordOf (wordBytes w) ≡ w
+    spelt-back w t = word-of-bytes w (plan-word-ways (o .shape) w t r)
 
 operation-close : (d : Desk) (o : Draft) → verdict (o .shape) (o .rows) ≡ Accepted → keep (o .shape) (o .rows) ≡ o .rows → d .changes < maxChanges
     → operation (withDraft d o) E ≡ pass (changed d (o .slot) (some (record { shape = o .shape; rows = o .rows })), okNumber (length (o .rows)))
@@ -133,13 +141,10 @@ spelt s (p ∷ t) f g h =
     let g′ = all-first (isWord s) (p .to) (tos t) g in
     let h′ = all-first pairFits p t h in (
       and-intro (isPlanWord s (p .from)) (isPlanWord s (p .to))
-          (and-intro (isWord s (p .from)) (fits (p .from)) (f′ .0) (and-left (fits (p .from)) (fits (p .to)) (h′ .0)))
-          (and-intro (isWord s (p .to)) (fits (p .to)) (g′ .0) (and-right (fits (p .from)) (fits (p .to)) (h′ .0))),
+          (plan-word-of s (p .from) (f′ .0) (and-left (fits (p .from)) (fits (p .to)) (h′ .0)))
+          (plan-word-of s (p .to) (g′ .0) (and-right (fits (p .from)) (fits (p .to)) (h′ .0))),
       spelt s t (f′ .1) (g′ .1) (h′ .1),
     )
-
-word-fits : (s : Shape) (w : Word) → T (isPlanWord s w) → length w ≤ maxDigits
-word-fits s w h = leb→le (length w) maxDigits (and-right (isWord s w) (fits w) h)
 
 pair-line-fits : (p : Pair) → length (p .from) ≤ maxDigits → length (p .to) ≤ maxDigits → length (pairLine p) ≤ maxLine
 unfolding maxDigits maxLine
@@ -178,15 +183,15 @@ module _ (order : Order) where
   feed-record : (d : Desk) (line : Bytes) (r : Record) (e : Effect) (rest : Bytes) → Without lineEnd line → length line ≤ maxLine → parse line ≡ some r → operation d r ≡ pass e → feed order (idle d) (line ++ lineEnd ∷ rest) ≡ after e rest
   feed-record d line r e rest w h q o = feed-line d [] line rest w h ∙ ap (λ x. after x rest) (respond-record d line r h q ∙ ap (settle d) o)
 
-  feed-pairs : (d : Desk) (i : ℕ) (s : Shape) (todo past : Table) (rest : Bytes) → Spelt s todo → length (past ++ todo) ≤ maxPairs → feed order (idle (withDraft d (draftOf i s past))) (joinLines (pairRecords todo) ++ rest) ≡ feed order (idle (withDraft d (draftOf i s (past ++ todo)))) rest
+  feed-pairs : (d : Desk) (i : ℕ) (s : Shape) (todo past : Table) (rest : Bytes) → T (shapeInRange s) → Spelt s todo → length (past ++ todo) ≤ maxPairs → feed order (idle (withDraft d (draftOf i s past))) (joinLines (pairRecords todo) ++ rest) ≡ feed order (idle (withDraft d (draftOf i s (past ++ todo)))) rest
   unfolding replyBytes
-  feed-pairs d i s [] past rest w h = rw append-nil
-  feed-pairs d i s (p ∷ todo) past rest w h =
+  feed-pairs d i s [] past rest r w h = rw append-nil
+  feed-pairs d i s (p ∷ todo) past rest r w h =
       let room : length past < maxPairs = omega (arith, simp length-append at h) in
       let more : Bytes = joinLines (pairRecords todo) ++ rest in
       ap (feed order (idle (withDraft d (draftOf i s past)))) (append-assoc (pairRecord p) (joinLines (pairRecords todo)) rest ∙ pair-record p more)
-      ∙ feed-record (withDraft d (draftOf i s past)) (pairLine p) (M (wordBytes (p .from)) (wordBytes (p .to))) (withDraft d (draftOf i s (past ++ (p ∷ []))), silent) more (pair-line-inside p) (pair-line-fits p (word-fits s (p .from) (and-left (isPlanWord s (p .from)) (isPlanWord s (p .to)) (w .0))) (word-fits s (p .to) (and-right (isPlanWord s (p .from)) (isPlanWord s (p .to)) (w .0)))) (parse-pair p) (operation-pair d (draftOf i s past) p (w .0) room)
-      ∙ feed-pairs d i s todo (past ++ (p ∷ [])) rest (w .1) (rw append-assoc h)
+      ∙ feed-record (withDraft d (draftOf i s past)) (pairLine p) (M (wordBytes (p .from)) (wordBytes (p .to))) (withDraft d (draftOf i s (past ++ (p ∷ []))), silent) more (pair-line-inside p) (pair-line-fits p (plan-word-length s (p .from) (and-left (isPlanWord s (p .from)) (isPlanWord s (p .to)) (w .0))) (plan-word-length s (p .to) (and-right (isPlanWord s (p .from)) (isPlanWord s (p .to)) (w .0)))) (parse-pair p) (operation-pair d (draftOf i s past) p r (w .0) room)
+      ∙ feed-pairs d i s todo (past ++ (p ∷ [])) rest r (w .1) (rw append-assoc h)
       ∙ ap (λ t. feed order (idle (withDraft d (draftOf i s t))) rest) (append-assoc past (p ∷ []) todo)
 
   -- nothing is left of the input
@@ -226,7 +231,7 @@ typed-in order d e b h s t k rest =
     let range = in-range s (table .in-range) in
     ap (λ x. feed order (idle x) (openRecord b s ++ (joinLines (pairRecords t) ++ rest))) (without-draft d e)
     ∙ feed-record order (dropped d) (openLine b s) (P b (s .arity) (s .roots)) (withDraft d (newDraft b s), silent) (joinLines (pairRecords t) ++ rest) (open-line-inside b s (slot-plain b lineEnd h (lit< tt))) (open-line-fits b s) (parse-open b s (slot-plain b tab h (lit< tt)) (range .arity-high) (range .roots-high)) (operation-open d b s h (table .in-range))
-    ∙ feed-pairs order d (slotNumber b) s t [] rest (spelt s t (table .from-words) (table .to-words) (and-right (leb (length t) maxPairs) (all pairFits t) (table .within))) (leb→le (length t) maxPairs (and-left (leb (length t) maxPairs) (all pairFits t) (table .within)))
+    ∙ feed-pairs order d (slotNumber b) s t [] rest (table .in-range) (spelt s t (table .from-words) (table .to-words) (and-right (leb (length t) maxPairs) (all pairFits t) (table .within))) (leb→le (length t) maxPairs (and-left (leb (length t) maxPairs) (all pairFits t) (table .within)))
 
 pub listing-read-back : ListingReadBack
 unfolding replyBytes

@@ -7,13 +7,13 @@ use mathlib.Core.List.{List, [], _∷_}
 use mathlib.Core.Option.{Option, none, some}
 use lib.ListN.{length, getD, set}
 use Rattle.higman.specs.Words.{given}
-use Rattle.higman.specs.Limits.{Plan}
+use Rattle.higman.specs.Limits.{Plan, slotCount}
 use Rattle.higman.proofs.Tests.{clash}
-use Rattle.desk.specs.Text.{Bytes}
-use Rattle.desk.specs.Limits.{slotCount}
+use Rattle.higman.specs.Text.{Bytes, wordOf}
 use Rattle.desk.specs.Desk.{Draft, Desk, held, changed, withDraft, withPair, dropped}
 use Rattle.desk.specs.Records.{Record, P, M, E, F, I, K, S, W, L, C, T, U}
-use Rattle.desk.specs.Replies.{Outcome, pass, _when_, Effect, silent, ok, okNumber, lists, surveys, isOpen, heldFrom, slotNumber, wordOf, newDraft, operation}
+use Rattle.higman.specs.Listing.{slotNumber}
+use Rattle.desk.specs.Replies.{Outcome, pass, _when_, Effect, silent, ok, okNumber, lists, surveys, isOpen, heldFrom, newDraft, operation}
 use Rattle.desk.specs.Demands.{isChange, RepliesExact, DeskParts}
 use Rattle.desk.proofs.Outcomes.{Passes, stops, passes, passes-then, any-then, passed, test-failed, plan-held, plan-open}
 

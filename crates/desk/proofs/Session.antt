@@ -9,8 +9,8 @@ use mathlib.Core.Option.{none}
 use lib.Dec.{leb, ltb, eqb, leb→le, ltb→lt, nltb→le, not-T}
 use lib.ListN.{length, length-append}
 use Rattle.higman.proofs.Tests.{so, T-of, clash}
-use Rattle.higman.specs.Listing.{lineEnd, joinLines}
-use Rattle.desk.specs.Text.{Bytes}
+use Rattle.higman.specs.Text.{lineEnd, Bytes}
+use Rattle.higman.specs.Listing.{joinLines}
 use Rattle.desk.specs.Limits.{maxLine}
 use Rattle.desk.specs.Desk.{Desk}
 use Rattle.desk.specs.Replies.{_>>=_, refuse, settle, recordOf, lineOperation, respondLine}

@@ -12,17 +12,19 @@ use lib.ListN.{length, getD, set, replicate, length-set, length-append, length-r
 use Rattle.higman.specs.Words.{Shape, Word, isWord}
 use Rattle.higman.specs.Bases.{all}
 use Rattle.higman.specs.Tables.{Pair, Table, froms, tos}
-use Rattle.higman.specs.Limits.{Plan, Kept, shapeInRange, granted, fits, pairFits, maxPairs}
+use Rattle.higman.specs.Limits.{Plan, Kept, shapeInRange, granted, fits, pairFits, maxPairs, slotCount, isPlanWord}
 use Rattle.higman.specs.Answers.{Verdict, Accepted, InFrom, InTo, verdict, Answer, Granted, Refused, followed, inverted, powered}
 use Rattle.higman.proofs.Demand3.{demand3}
 use Rattle.higman.proofs.Statements.{answers-exact}
 use Rattle.higman.proofs.Tests.{so, clash, and-left, and-right, and-intro, all-cons, all-at}
 use Rattle.higman.proofs.KeptPlans.{arity-of-range}
-use Rattle.desk.specs.Text.{Bytes, byte}
-use Rattle.desk.specs.Limits.{slotCount, maxChanges}
-use Rattle.desk.specs.Desk.{Draft, Desk, freshDesk, held, isPlanWord, IsDraft, IsDesk, changed, withDraft, dropped, withPair}
+use Rattle.higman.specs.Text.{Bytes, byte, wordOf}
+use Rattle.higman.proofs.PlanWords.{word-of-plan-word, plan-word-fits}
+use Rattle.desk.specs.Limits.{maxChanges}
+use Rattle.desk.specs.Desk.{Draft, Desk, freshDesk, held, IsDraft, IsDesk, changed, withDraft, dropped, withPair}
 use Rattle.desk.specs.Records.{Record, P, M, E, F, I, K, S, W, L, C, T as Tᴿ, U}
-use Rattle.desk.specs.Replies.{Outcome, refuse, pass, _when_, openPlan, slotNumber, slotByte, isSlot, planIn, atLimit, wordOf, ofVerdict, ofAnswer, Effect, newDraft, closed, operation, recordOf, lineOperation, settle, respondLine}
+use Rattle.higman.specs.Listing.{slotNumber, slotByte, isSlot}
+use Rattle.desk.specs.Replies.{Outcome, refuse, pass, _when_, openPlan, planIn, atLimit, ofVerdict, ofAnswer, Effect, newDraft, closed, operation, recordOf, lineOperation, settle, respondLine}
 use Rattle.desk.specs.Theorems.{DeskStays}
 use Rattle.desk.proofs.Outcomes.{Passes, stops, passes, passes-then, any-then}
 
@@ -115,14 +117,6 @@ new-draft : (a : ℕ) (s : Shape) → T (all isSlot (a ∷ [])) → T (shapeInRa
 unfolding granted maxPairs
 new-draft a s h k = record { slot-named = slot-below a (all-at isSlot (a ∷ []) h a (List·Memᴰ·head refl)); in-range = k; within = tt; from-words = tt; to-words = tt }
 
--- a word in a plan, as M tests it
-module _ (s : Shape) (w : Word) (h : T (isPlanWord s w)) where
-  plan-word : T (isWord s w)
-  plan-word = and-left (isWord s w) (fits w) h
-
-  plan-fits : T (fits w)
-  plan-fits = and-right (isWord s w) (fits w) h
-
 granted-snoc : (t : Table) (p : Pair) → T (granted t) → T (pairFits p) → leb maxPairs (length t) ≡ false → T (granted (t ++ (p ∷ [])))
 unfolding granted
 granted-snoc t p h k e =
@@ -136,9 +130,9 @@ longer-draft o h p k e =
     record {
       slot-named = h .slot-named;
       in-range = h .in-range;
-      within = granted-snoc (o .rows) p (h .within) (and-intro (fits (p .from)) (fits (p .to)) (plan-fits s (p .from) from) (plan-fits s (p .to) to)) e;
-      from-words = rw map-append (all-snoc (isWord s) (froms (o .rows)) (p .from) (h .from-words) (plan-word s (p .from) from));
-      to-words = rw map-append (all-snoc (isWord s) (tos (o .rows)) (p .to) (h .to-words) (plan-word s (p .to) to));
+      within = granted-snoc (o .rows) p (h .within) (and-intro (fits (p .from)) (fits (p .to)) (plan-word-fits s (p .from) from) (plan-word-fits s (p .to) to)) e;
+      from-words = rw map-append (all-snoc (isWord s) (froms (o .rows)) (p .from) (h .from-words) (word-of-plan-word s (p .from) from));
+      to-words = rw map-append (all-snoc (isWord s) (tos (o .rows)) (p .to) (h .to-words) (word-of-plan-word s (p .to) to));
     }
   where
     s : Shape

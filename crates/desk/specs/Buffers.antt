@@ -7,8 +7,9 @@ use mathlib.Core.List.{[], _++_}
 use mathlib.Core.Option.{none}
 use lib.Dec.{leb}
 use lib.ListN.{length, drop}
-use Rattle.desk.specs.Text.{Bytes, bytes}
-use Rattle.desk.specs.Limits.{slotCount, maxChanges}
+use Rattle.higman.specs.Text.{Bytes, bytes}
+use Rattle.higman.specs.Limits.{slotCount}
+use Rattle.desk.specs.Limits.{maxChanges}
 use Rattle.desk.specs.Desk.{Desk, freshDesk, dropped, isDesk}
 use Rattle.desk.specs.Records.{T}
 use Rattle.desk.specs.Replies.{Reply, okNumber, Outcome, refuse, pass, _>>=_, Effect, settle, operation}

@@ -7,10 +7,10 @@ use mathlib.Core.Option.{Option, none, some}
 use lib.ListN.{length}
 use Rattle.higman.specs.Words.{spelled, spell}
 use Rattle.higman.specs.Tables.{row}
-use Rattle.higman.specs.Listing.{tab, lineEnd, wordBytes, joinLines, listing}
-use Rattle.higman.specs.Cases.{Letter}
-use Rattle.desk.specs.Text.{Bytes, bytes}
-use Rattle.desk.specs.Replies.{Held, Reply, silent, ok, okNumber, okWord, lists, surveys, refuses, slotByte}
+use Rattle.higman.specs.Text.{tab, lineEnd, wordBytes, Bytes, bytes}
+use Rattle.higman.specs.Listing.{joinLines, listing, slotByte}
+use Rattle.higman.specs.Refusals.{Letter}
+use Rattle.desk.specs.Replies.{Held, Reply, silent, ok, okNumber, okWord, lists, surveys, refuses}
 
 -- a number in decimal, 0 as one digit
 abbrev pub decimal : ℕ → Bytes

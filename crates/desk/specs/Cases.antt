@@ -3,7 +3,7 @@
 use mathlib.Core.Path.{_≡_}
 use Prim.Native.String.{String}
 use mathlib.Core.List.{List, [], _∷_, _++_}
-use Rattle.desk.specs.Text.{lines}
+use Rattle.higman.specs.Text.{lines}
 use Rattle.desk.specs.Bytes.{Order}
 use Rattle.desk.specs.Session.{session}
 

@@ -15,14 +15,14 @@ use Rattle.higman.specs.Words.{given}
 use Rattle.higman.specs.Bases.{overlap, gap}
 use Rattle.higman.specs.Tables.{froms, tos, image}
 use Rattle.higman.specs.Normal.{compose}
-use Rattle.higman.specs.Limits.{Plan, shapeInRange, granted, isCode, maxPairs, maxPower}
+use Rattle.higman.specs.Limits.{Plan, shapeInRange, granted, isCode, maxPairs, maxPower, slotCount, isPlanWord}
 use Rattle.higman.specs.Answers.{sameShape, raised, repeatable}
-use Rattle.higman.specs.Cases.{Letter}
-use Rattle.desk.specs.Text.{byte}
-use Rattle.desk.specs.Limits.{slotCount}
-use Rattle.desk.specs.Desk.{Draft, Desk, freshDesk, held, isPlanWord}
+use Rattle.higman.specs.Refusals.{Letter}
+use Rattle.higman.specs.Text.{byte, wordOf}
+use Rattle.desk.specs.Desk.{Draft, Desk, freshDesk, held}
 use Rattle.desk.specs.Records.{Record, P, M, E, F, I, K, S, W, L, C, T, U}
-use Rattle.desk.specs.Replies.{Outcome, refuse, pass, isOpen, outside, slotNumber, atLimit, wordOf}
+use Rattle.higman.specs.Listing.{slotNumber}
+use Rattle.desk.specs.Replies.{Outcome, refuse, pass, isOpen, outside, atLimit}
 
 -- a refusal's number, the column it adds, and the condition it is given under
 pub record Condition : Type 0 where

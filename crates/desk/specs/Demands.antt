@@ -12,15 +12,15 @@ use lib.ListN.{length}
 use Rattle.higman.specs.Words.{Word, isWord}
 use Rattle.higman.specs.Tables.{image}
 use Rattle.higman.specs.Normal.{andThen, power}
-use Rattle.higman.specs.Limits.{Plan, Bases, Kept}
-use Rattle.higman.specs.Listing.{lineEnd}
+use Rattle.higman.specs.Limits.{Plan, Bases, Kept, slotCount}
+use Rattle.higman.specs.Text.{lineEnd, Bytes, wordOf}
 use Rattle.higman.specs.Theorems.{ActAlike, Demand3}
-use Rattle.higman.specs.Cases.{Letter}
-use Rattle.desk.specs.Text.{Bytes}
-use Rattle.desk.specs.Limits.{slotCount, maxChanges}
+use Rattle.higman.specs.Refusals.{Letter}
+use Rattle.desk.specs.Limits.{maxChanges}
 use Rattle.desk.specs.Desk.{Draft, Desk, held, IsDesk, changed, withDraft, withPair, dropped}
 use Rattle.desk.specs.Records.{Record, P, M, E, F, I, K, S, W, L, C, T as Tᴿ, U}
-use Rattle.desk.specs.Replies.{refuse, pass, Effect, silent, ok, okNumber, okWord, lists, surveys, refuses, heldFrom, operation, lineOperation, respondLine, recordOf, newDraft, closed, slotNumber, wordOf}
+use Rattle.higman.specs.Listing.{slotNumber}
+use Rattle.desk.specs.Replies.{refuse, pass, Effect, silent, ok, okNumber, okWord, lists, surveys, refuses, heldFrom, operation, lineOperation, respondLine, recordOf, newDraft, closed}
 use Rattle.desk.specs.Bytes.{Order, replyBytes}
 use Rattle.desk.specs.Conditions.{conditions, firstOf, refusalOf}
 use Rattle.desk.specs.Theorems.{RefusalDrops, DeskStays, TypedIn, ListingReadBack}

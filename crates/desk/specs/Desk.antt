@@ -11,9 +11,9 @@ use Rattle.higman.specs.Words.{Shape, Word, isWord, spell}
 use Rattle.higman.specs.Bases.{all}
 use Rattle.higman.specs.Tables.{Pair, Table, froms, tos, row, ψ}
 use Rattle.higman.specs.Normal.{joined, normal, normalForm, keep}
-use Rattle.higman.specs.Limits.{Plan, Kept, shapeInRange, granted, fits, maxPairs, maxDigits}
+use Rattle.higman.specs.Limits.{Plan, Kept, shapeInRange, granted, fits, maxPairs, maxDigits, slotCount}
 use Rattle.higman.specs.Answers.{verdict, isTableOf, isKept}
-use Rattle.desk.specs.Limits.{slotCount, maxChanges}
+use Rattle.desk.specs.Limits.{maxChanges}
 
 -- An open plan: the slot it is meant for, from 0 for A, its shape, and its pairs in the order in which M added them.
 pub record Draft : Type 0 where
@@ -34,10 +34,6 @@ freshDesk = record { slots = replicate slotCount none; draft = none; changes = 0
 -- the plan in a slot, if it holds one
 abbrev pub held : Desk → ℕ → Option Plan
 held d i = getD (d .slots) i none
-
--- "a word that is empty, too long or has a wrong digit" is not a word in a plan
-abbrev pub isPlanWord : Shape → Word → Bool
-isPlanWord s w = isWord s w && fits w
 
 -- An open plan as P and M make one: nothing is known of its columns but that they hold words.
 pub record IsDraft (o : Draft) : Type 0 where
@@ -82,11 +78,6 @@ isDraft (some o) = leb (o .slot + 1) slotCount && isTableOf (o .shape) (o .rows)
 
 unfoldable pub isDesk : Desk → Bool
 isDesk d = eqb (length (d .slots)) slotCount && allHeld (d .slots) && isDraft (d .draft) && leb (d .changes) maxChanges
-
--- "A word of 16 digits passes, 17 is 4."; no digits, a wrong belt and a wrong way
-isPlanWord-example : map (isPlanWord (record { arity = 2; roots = 1 })) (replicate 16 1 ∷ replicate 17 1 ∷ [] ∷ spell 21 ∷ spell 13 ∷ []) ≡ true ∷ false ∷ false ∷ false ∷ false ∷ []
-unfolding maxDigits
-isPlanWord-example = refl
 
 -- a fresh desk; one that holds ψ in slot B; one that holds a plan that is not reduced
 isDesk-example : isDesk freshDesk ≡ true

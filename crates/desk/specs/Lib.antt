@@ -1,7 +1,6 @@
 -- The definitions, in reading order: text as bytes; the limits; the desk; records; replies; reply bytes; a session; the library's
 -- calls with a lent buffer; then the statements of the theorems, the table of refusals, the three demands and worked sessions.
 -- proofs/ has a term of each statement.
-pub mod Text
 pub mod Limits
 pub mod Desk
 pub mod Records

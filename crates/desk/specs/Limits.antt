@@ -2,10 +2,6 @@
 -- Read Desk.antt next.
 use Prim.Native.Nat.{ℕ}
 
--- "The desk has slots A to H"
-unfoldable pub slotCount : ℕ
-slotCount = 8
-
 -- "a count of changes from 0 to 4,000,000,000"
 unfoldable pub maxChanges : ℕ
 maxChanges = 4_000_000_000

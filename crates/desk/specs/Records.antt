@@ -9,8 +9,7 @@ use lib.Dec.{leb, eqb}
 use lib.IntN.{ℤ, pos, negsuc}
 use lib.ListN.{length}
 use Rattle.higman.specs.Bases.{all}
-use Rattle.higman.specs.Listing.{tab}
-use Rattle.desk.specs.Text.{Bytes, byte, bytes}
+use Rattle.higman.specs.Text.{tab, Bytes, byte, bytes}
 use Rattle.desk.specs.Limits.{maxNumeral}
 
 -- A record, by its letter. A slot is the byte that names it, a word or code the bytes that spell it.

@@ -13,13 +13,14 @@ use Rattle.higman.specs.Words.{Shape, Word, given, spell}
 use Rattle.higman.specs.Bases.{all}
 use Rattle.higman.specs.Tables.{Table, row, φ, ψ}
 use Rattle.higman.specs.Normal.{joined, normal, normalForm, keep, compose, inverse}
-use Rattle.higman.specs.Limits.{Plan, shapeInRange, granted, isCode, maxPairs, maxDigits, maxCode, maxPower}
+use Rattle.higman.specs.Limits.{Plan, shapeInRange, granted, isCode, maxPairs, maxDigits, maxCode, maxPower, slotCount, isPlanWord}
 use Rattle.higman.specs.Answers.{Verdict, Accepted, InFrom, InTo, verdict, reasonNumber, Answer, Granted, Refused, PowerOutside, refusalNumber, followed, inverted, powered, Comparison, Alike, NotCompared, same, Route, Image, TooShort, NotRouted, routeNumber, routed}
-use Rattle.higman.specs.Cases.{Letter}
-use Rattle.desk.specs.Text.{Bytes, byte, bytes}
-use Rattle.desk.specs.Limits.{slotCount, maxChanges, maxLine}
-use Rattle.desk.specs.Desk.{Draft, Desk, freshDesk, held, isPlanWord, changed, withDraft, withPair, dropped}
-use Rattle.desk.specs.Records.{Record, P, M, E, F, I, K, S, W, L, C, T, U, numeralValue, grammar, parse}
+use Rattle.higman.specs.Refusals.{Letter}
+use Rattle.higman.specs.Text.{Bytes, byte, bytes, digitOf, wordOf}
+use Rattle.higman.specs.Listing.{slotNumber, isSlot}
+use Rattle.desk.specs.Limits.{maxChanges, maxLine}
+use Rattle.desk.specs.Desk.{Draft, Desk, freshDesk, held, changed, withDraft, withPair, dropped}
+use Rattle.desk.specs.Records.{Record, P, M, E, F, I, K, S, W, L, C, T, U, grammar, parse}
 
 -- a slot that holds a plan
 pub record Held : Type 0 where
@@ -63,16 +64,6 @@ isOpen d = given (d .draft)
 abbrev pub openPlan : Desk → Outcome Draft
 openPlan d = elim (d .draft) [ none ↦ refuse 2 none | some o ↦ pass o ]
 
--- slots A to H
-abbrev pub slotNumber : ℕ → ℕ
-slotNumber b = b - byte "A"
-
-abbrev pub slotByte : ℕ → ℕ
-slotByte i = byte "A" + i
-
-abbrev pub isSlot : ℕ → Bool
-isSlot b = leb (byte "A") b && leb (suc b) (slotByte slotCount)
-
 -- 8, "a slot byte outside A to H"
 abbrev pub outside : List ℕ → Bool
 outside bs = not (all isSlot bs)
@@ -84,10 +75,6 @@ planIn d b = elim (held d (slotNumber b)) [ none ↦ refuse 9 none | some p ↦ 
 -- 16, "the count is at its limit"
 abbrev pub atLimit : Desk → Bool
 atLimit d = leb maxChanges (d .changes)
-
--- The word that bytes spell. A byte that is no digit from 1 to 9 gives 0 or a number above 9, which is a digit of no word.
-abbrev pub wordOf : Bytes → Word
-wordOf w = map numeralValue w
 
 -- E: "both made of the from column and after that both of the to column", with the column's letter
 abbrev pub ofVerdict : Verdict → Outcome (Unit {0})
@@ -253,10 +240,6 @@ respond-example : map (λ r. respond freshDesk r .1) (T ∷ U ∷ M [] [] ∷ P 
 unfolding _>>=_ respond operation freshDesk slotCount shapeInRange maxPower
 respond-example = refl
 
--- bytes that are no digits from 1 to 9 give digits of no word
-wordOf-example : wordOf (bytes "1290/:A") ≡ 1 ∷ 2 ∷ 9 ∷ 0 ∷ 0 ∷ 10 ∷ 17 ∷ []
-wordOf-example = refl
-
 -- "Lines hold at most 1,100 bytes": W with a code so long that the line has 1,100, and one byte more
 recordOf-example : map (λ k. recordOf (bytes "W\tA\t" ++ replicate k (byte "1"))) (1_096 ∷ 1_097 ∷ []) ≡ pass (W (byte "A") (replicate 1_096 (byte "1"))) ∷ refuse 1 none ∷ []
 unfolding parse grammar maxLine
@@ -265,7 +248,7 @@ recordOf-example = refl
 -- with a plan open: any record but M and E is refused with 2
 open-example : map (λ r. respond (withDraft freshDesk (newDraft (byte "A") (record { arity = 2; roots = 1 }))) r .1) (T ∷ U ∷ P (byte "A") 2 1 ∷ L (byte "A") ∷ M (bytes "1") (bytes "1") ∷ E ∷ [])
     ≡ refuses 2 none ∷ refuses 2 none ∷ refuses 2 none ∷ refuses 2 none ∷ silent ∷ refuses 7 (some Letter.F) ∷ []
-unfolding _>>=_ respond operation freshDesk withDraft slotCount maxPairs maxDigits verdict
+unfolding _>>=_ respond operation freshDesk withDraft slotCount isPlanWord maxPairs maxDigits verdict digitOf
 open-example = refl
 
 -- a line that is no record, and a record
@@ -279,7 +262,7 @@ fullCount = record { slots = set (replicate slotCount none) 0 (some (record { sh
 
 full-count-example : map (λ r. respond fullCount r .1) (T ∷ C (byte "A") ∷ C (byte "B") ∷ I (byte "A") (byte "B") ∷ K (byte "A") (pos 1001) (byte "B") ∷ W (byte "A") (bytes "12") ∷ [])
     ≡ okNumber 4_000_000_000 ∷ refuses 16 none ∷ refuses 9 none ∷ refuses 16 none ∷ refuses 12 none ∷ okWord (spell 122) ∷ []
-unfolding _>>=_ respond operation slotCount maxChanges maxPower inverted inverse keep normalForm normal joined routed isCode maxCode
+unfolding _>>=_ respond operation slotCount maxChanges maxPower inverted inverse keep normalForm normal joined routed isCode maxCode digitOf
 full-count-example = refl
 
 -- ψ in slot A and φ in slot B

@@ -8,11 +8,10 @@ use mathlib.Core.Option.{none}
 use lib.Dec.{eqb, ltb}
 use lib.ListN.{length, replicate}
 use Rattle.higman.specs.Normal.{joined, normal, normalForm, keep, compose, inverse, identity}
-use Rattle.higman.specs.Limits.{maxPairs, maxDigits, maxCode, maxPower, shapeInRange, granted, isCode}
+use Rattle.higman.specs.Limits.{isPlanWord, maxPairs, maxDigits, maxCode, maxPower, shapeInRange, granted, isCode, slotCount}
 use Rattle.higman.specs.Answers.{verdict, followed, inverted, raised, powered, routed}
-use Rattle.higman.specs.Listing.{lineEnd}
-use Rattle.desk.specs.Text.{Bytes, byte, bytes, lines}
-use Rattle.desk.specs.Limits.{slotCount, maxChanges, maxLine, maxNumeral}
+use Rattle.higman.specs.Text.{digitOf, lineEnd, Bytes, byte, bytes, lines}
+use Rattle.desk.specs.Limits.{maxChanges, maxLine, maxNumeral}
 use Rattle.desk.specs.Desk.{Desk, freshDesk, changed, withDraft, dropped}
 use Rattle.desk.specs.Records.{grammar, parse}
 use Rattle.desk.specs.Replies.{_>>=_, Effect, refuse, settle, operation, lineOperation, respondLine}
@@ -111,5 +110,5 @@ unfolding feed feedByte replyBytes _>>=_ respondLine lineOperation operation par
 overlong-example order = refl
 
 session-in-full : (order : Order) → session order inputInFull ≡ outputInFull
-unfolding session finish feed feedByte replyBytes _>>=_ respondLine lineOperation operation parse grammar freshDesk changed withDraft dropped slotCount maxChanges maxLine maxNumeral maxPairs maxDigits maxCode maxPower shapeInRange granted isCode verdict followed inverted raised powered routed keep compose inverse identity normalForm normal joined
+unfolding session finish feed feedByte replyBytes _>>=_ respondLine lineOperation operation parse grammar freshDesk changed withDraft dropped slotCount maxChanges maxLine maxNumeral isPlanWord digitOf maxPairs maxDigits maxCode maxPower shapeInRange granted isCode verdict followed inverted raised powered routed keep compose inverse identity normalForm normal joined
 session-in-full order = refl

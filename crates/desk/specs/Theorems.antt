@@ -8,17 +8,17 @@ use mathlib.Core.Bool.{true, false}
 use mathlib.Core.List.{List, [], _∷_, _++_, map, List·Memᴰ, List·Permᴰ}
 use mathlib.Core.Option.{Option, none, some}
 use lib.Dec.{T, eqb}
-use Rattle.higman.specs.Cases.{Letter}
+use Rattle.higman.specs.Refusals.{Letter}
 use lib.ListN.{length}
 use Rattle.higman.specs.Words.{Shape}
 use Rattle.higman.specs.Tables.{Table}
 use Rattle.higman.specs.Limits.{Plan, Kept}
 use Rattle.higman.specs.Answers.{isTableOf}
-use Rattle.higman.specs.Listing.{lineEnd, openRecord, pairRecords, joinLines}
-use Rattle.desk.specs.Text.{Bytes, bytes}
+use Rattle.higman.specs.Text.{lineEnd, Bytes, bytes}
+use Rattle.higman.specs.Listing.{openRecord, pairRecords, joinLines, slotNumber, isSlot}
 use Rattle.desk.specs.Limits.{maxChanges}
 use Rattle.desk.specs.Desk.{Desk, held, IsDesk, isDesk, freshDesk, changed, withDraft, dropped}
-use Rattle.desk.specs.Replies.{refuse, pass, Effect, lists, Held, heldFrom, slotNumber, isSlot, okNumber, refuses, respondLine}
+use Rattle.desk.specs.Replies.{refuse, pass, Effect, lists, Held, heldFrom, okNumber, refuses, respondLine}
 use Rattle.desk.specs.Bytes.{heldLine, Order, IsOrder, replyBytes}
 use Rattle.desk.specs.Session.{State, idle, feed, session}
 use Rattle.desk.specs.Buffers.{Work, overwritten, lentCall, plainCall}

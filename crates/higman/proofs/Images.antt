@@ -3,13 +3,13 @@
 use Prim.Native.Nat.{ℕ, zero, suc, _<_}
 use mathlib.Core.Path.{_≡_, refl, sym, _∙_, ap}
 use mathlib.Core.Logic.{_⊎_, inl, inr}
-use mathlib.Core.Bool.{true, _||_}
-use mathlib.Core.List.{[], _∷_, _++_, append-assoc, List·Memᴰ, List·Memᴰ·head, List·Memᴰ·tail, List·Memᴰ·cases-cons, List·Memᴰ·not-nil, Memᴰ·map}
+use mathlib.Core.Bool.{true}
+use mathlib.Core.List.{List, [], _∷_, _++_, append-assoc, List·Memᴰ, List·Memᴰ·head, List·Memᴰ·tail, List·Memᴰ·cases-cons, List·Memᴰ·not-nil, Memᴰ·map}
 use mathlib.Core.Option.{Option, none, some, Option·none-ne-some, Option·some-injective}
 use native.Mathlib.Omega.{arith}
 use borrow.Author.Tests.{eq-eqb, ne-eqb}
 use Rattle.higman.specs.Words.{Word, count, after, given}
-use Rattle.higman.specs.Tables.{Pair, Table, froms, tos, swapped, image, longEnough}
+use Rattle.higman.specs.Tables.{Pair, Table, froms, tos, swapped, firstMatch, image, longEnough}
 use Rattle.higman.specs.Normal.{under, gather}
 use Rattle.higman.proofs.Tests.{clash, count-bounds}
 use Rattle.higman.proofs.Prefixes.{after-append, after-some, comparable}
@@ -43,10 +43,10 @@ image-of-row [] a p m x = absurd (List·Memᴰ·not-nil m)
 image-of-row (q ∷ t) a p m x = go (List·Memᴰ·cases-cons m) (λ k. image-of-row t (a .1) p k x)
   where
     here : after (q .from) (q .from ++ x) ≡ some x → image (q ∷ t) (q .from ++ x) ≡ some (q .to ++ x)
-    here e = rw (e, image)
+    here e = rw (e, firstMatch)
 
     skip : after (q .from) (p .from ++ x) ≡ none → image t (p .from ++ x) ≡ some (p .to ++ x) → image (q ∷ t) (p .from ++ x) ≡ some (p .to ++ x)
-    skip e h = rw (e, image) h
+    skip e h = rw (e, firstMatch) h
 
     go : (p ≡ q) ⊎ List·Memᴰ p t → (List·Memᴰ p t → image t (p .from ++ x) ≡ some (p .to ++ x)) → image (q ∷ t) (p .from ++ x) ≡ some (p .to ++ x)
     go (inl e) rest = rw e (here (after-append (q .from) x))
@@ -62,11 +62,11 @@ image-steady t a w v x e = let (p, y, m, f, g) = row-of-image t w v e in go p y 
 -- the pairs of one part of the block see the words of that part, and no others
 pub image-under-same : (t : Table) (u : Table) (i : ℕ) (x : Word) → image u (i ∷ x) ≡ none → image (under i t ++ u) (i ∷ x) ≡ image t x
 image-under-same [] u i x h = h
-image-under-same (p ∷ t) u i x h = rw (eq-eqb i i refl, image, after) (ap (λ o. elim (after (p .from) x) as (λ _. Option Word) [ none ↦ o | some y ↦ some (p .to ++ y) ]) (image-under-same t u i x h))
+image-under-same (p ∷ t) u i x h = rw (eq-eqb i i refl, firstMatch, after) (ap (λ o. elim (after (p .from) x) as (λ _. Option Word) [ none ↦ o | some y ↦ some (p .to ++ y) ]) (image-under-same t u i x h))
 
 pub image-under-other : (t : Table) (u : Table) (j i : ℕ) (x : Word) → (j ≡ i → ⊥) → image (under j t ++ u) (i ∷ x) ≡ image u (i ∷ x)
 image-under-other [] u j i x h = refl
-image-under-other (p ∷ t) u j i x h = rw (ne-eqb j i h, image, after) (image-under-other t u j i x h)
+image-under-other (p ∷ t) u j i x h = rw (ne-eqb j i h, firstMatch, after) (image-under-other t u j i x h)
 
 image-gather-outside : (a m : ℕ) (g : ℕ → Table) (i : ℕ) (x : Word) → i < a → image (gather (count a m) g) (i ∷ x) ≡ none
 image-gather-outside a zero g i x h = refl
@@ -87,23 +87,31 @@ image-gather a (suc m) g i x h = go (List·Memᴰ·cases-cons h) (λ k. image-ga
         image-under-other (g a) rest a i x (λ e. omega arith) ∙ later k
 
 -- a code is long enough exactly where it has an image
+module _ {A B C : Type 0} (word : A → Word) where
+  -- whether something is found does not depend on what is made of it
+  given-match : (f : ℕ → A → Word → B) (g : ℕ → A → Word → C) (l : List A) (w : Word)
+      → given (firstMatch word f l w) ≡ given (firstMatch word g l w)
+  given-match f g [] w = refl
+  given-match f g (x ∷ l) w = by-tail (after (word x) w) (given-match (λ k. f (suc k)) (λ k. g (suc k)) l w)
+    where
+      by-tail : (o : Option Word) → given (firstMatch word (λ k. f (suc k)) l w) ≡ given (firstMatch word (λ k. g (suc k)) l w)
+          → given {A = B} (elim o as (λ _. Option B) [ none ↦ firstMatch word (λ k. f (suc k)) l w | some y ↦ some (f 0 x y) ])
+          ≡ given {A = C} (elim o as (λ _. Option C) [ none ↦ firstMatch word (λ k. g (suc k)) l w | some y ↦ some (g 0 x y) ])
+      by-tail none e = e
+      by-tail (some y) e = refl
+
+long-enough-given : (t : Table) (w : Word) → longEnough t w ≡ given (image t w)
+long-enough-given t w = given-match (λ p. p .from) (λ _ p _. p) (λ _ p x. p .to ++ x) t w
+
 pub image-of-long-enough : (t : Table) (w : Word) → longEnough t w ≡ true → (v : Word) × (image t w ≡ some v)
-image-of-long-enough [] w e = absurd (clash e refl)
-image-of-long-enough (p ∷ t) w e = go (after (p .from) w) refl e (λ k. image-of-long-enough t w k)
+image-of-long-enough t w e = by-image (image t w) refl (sym (long-enough-given t w) ∙ e)
   where
-    go : (o : Option Word) → after (p .from) w ≡ o → (given o || longEnough t w) ≡ true → (longEnough t w ≡ true → (v : Word) × (image t w ≡ some v))
-        → (v : Word) × (elim o as (λ _. Option Word) [ none ↦ image t w | some x ↦ some (p .to ++ x) ] ≡ some v)
-    go none h k rest = rest k
-    go (some x) h k rest = (p .to ++ x, refl)
+    by-image : (o : Option Word) → image t w ≡ o → given o ≡ true → (v : Word) × (image t w ≡ some v)
+    by-image none i g = absurd (clash g refl)
+    by-image (some v) i g = (v, i)
 
 pub long-enough-of-image : (t : Table) (w v : Word) → image t w ≡ some v → longEnough t w ≡ true
-long-enough-of-image [] w v e = absurd (Option·none-ne-some v e)
-long-enough-of-image (p ∷ t) w v e = go (after (p .from) w) e (λ k. long-enough-of-image t w v k)
-  where
-    go : (o : Option Word) → elim o as (λ _. Option Word) [ none ↦ image t w | some x ↦ some (p .to ++ x) ] ≡ some v → (image t w ≡ some v → longEnough t w ≡ true)
-        → (given o || longEnough t w) ≡ true
-    go none k rest = rest k
-    go (some x) k rest = refl
+long-enough-of-image t w v e = long-enough-given t w ∙ ap given e
 
 -- the columns of a table with its columns swapped
 pub froms-swapped : (t : Table) → froms (swapped t) ≡ tos t

@@ -1,6 +1,7 @@
 -- The arguments, each file after those it leans on. The terms of the statements of specs/Theorems.antt and specs/Cases.antt are in
 -- Columns (bases), Statements (normal form, group, answers), Demand3, Listing and Cases.
 pub mod Tests
+pub mod Text
 pub mod Prefixes
 pub mod Blocks
 pub mod Proper
@@ -16,6 +17,7 @@ pub mod Elements
 pub mod Group
 pub mod Smallest
 pub mod KeptPlans
+pub mod PlanWords
 pub mod Answers
 pub mod Powers
 pub mod Listing

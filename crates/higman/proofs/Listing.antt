@@ -7,9 +7,11 @@ use native.Mathlib.Omega.{arith}
 use Rattle.higman.specs.Words.{Word}
 use Rattle.higman.specs.Tables.{Pair, Table}
 use Rattle.higman.specs.Limits.{Plan}
-use Rattle.higman.specs.Listing.{tab, lineEnd, digitByte, wordBytes, pairRecord, closeRecord, pairRecords, joinLines, listing}
+use Rattle.higman.specs.Text.{tab, lineEnd, digitByte, wordBytes}
+use Rattle.higman.specs.Listing.{pairRecord, closeRecord, pairRecords, joinLines, listing}
 use Rattle.higman.specs.Theorems.{ListingFaithful}
-use Rattle.higman.proofs.Tests.{pair-path}
+use Rattle.higman.proofs.Tests.{pair-path, ways-of-test}
+use Rattle.higman.proofs.Text.{word-of-bytes}
 
 digit-of-byte : (d c : ℕ) → digitByte d ≡ digitByte c → d ≡ c
 digit-of-byte d c e = omega arith
@@ -47,6 +49,7 @@ plan-read-back slot a b e =
 
 pub listing-faithful : ListingFaithful
 listing-faithful = record {
+  words = λ w h. word-of-bytes w (ways-of-test 9 w h);
   records = λ t u. (λ e. lines-read-back t u (ap joinLines e), ap pairRecords);
   lines = λ t u. (lines-read-back t u, ap (λ t. joinLines (pairRecords t)));
   whole-listing = λ slot a b. (plan-read-back slot a b, ap (listing slot));

@@ -14,7 +14,7 @@ use lib.ListN.{length}
 use borrow.Author.Tests.{eqb-true, eq-eqb}
 use Rattle.higman.specs.Words.{Shape, Word, digits, after, child}
 use Rattle.higman.specs.Bases.{longest}
-use Rattle.higman.specs.Tables.{Pair, Table, BlockMap, image, froms}
+use Rattle.higman.specs.Tables.{Pair, Table, BlockMap, firstMatch, image, froms}
 use Rattle.higman.specs.Normal.{below, gather, whole, parts, joint, joined, normal, normalForm, keep, Joinable, Reduced, ordered}
 use Rattle.higman.proofs.Tests.{clash, Digit, Ways, IsWord, digit-of-mem, mem-of-digit, pair-path}
 use Rattle.higman.proofs.Prefixes.{after-some}
@@ -187,7 +187,7 @@ image-in-part n (p ∷ t) h i x =
 -- no from-word is empty, so the block itself has no image
 pub image-of-block : (n : ℕ) (t : Table) → Headed n t → image t [] ≡ none
 image-of-block n [] h = refl
-image-of-block n (p ∷ t) h = let r = h p (List·Memᴰ·head refl) in rw (r .3, image, after) (image-of-block n t (headed-tail h))
+image-of-block n (p ∷ t) h = let r = h p (List·Memᴰ·head refl) in rw (r .3, firstMatch, after) (image-of-block n t (headed-tail h))
 
 joined-no-join : (n : ℕ) (t : Table) → NoJoin n t → joined n t ≡ t
 joined-no-join n t h = go (joined-cases n t)

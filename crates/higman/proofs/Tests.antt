@@ -124,18 +124,18 @@ abbrev pub IsWord : Shape → Word → Type 0
 IsWord s [] = ⊥
 IsWord s (a ∷ x) = Digit (s .roots) a × Ways (s .arity) x
 
-digit-of-test : (n i : ℕ) → T (isDigit n i) → Digit n i
+pub digit-of-test : (n i : ℕ) → T (isDigit n i) → Digit n i
 digit-of-test n i t = (leb→le 1 i (and-left (leb 1 i) (leb i n) t), leb→le i n (and-right (leb 1 i) (leb i n) t))
 
-test-of-digit : (n i : ℕ) → Digit n i → T (isDigit n i)
+pub test-of-digit : (n i : ℕ) → Digit n i → T (isDigit n i)
 test-of-digit n i d = and-intro (leb 1 i) (leb i n) (le→leb 1 i (d .0)) (le→leb i n (d .1))
 
-ways-of-test : (n : ℕ) (x : Word) → T (isWays n x) → Ways n x
+pub ways-of-test : (n : ℕ) (x : Word) → T (isWays n x) → Ways n x
 ways-of-test n [] t = tt
 ways-of-test n (i ∷ x) t =
     (digit-of-test n i (and-left (isDigit n i) (isWays n x) t), ways-of-test n x (and-right (isDigit n i) (isWays n x) t))
 
-test-of-ways : (n : ℕ) (x : Word) → Ways n x → T (isWays n x)
+pub test-of-ways : (n : ℕ) (x : Word) → Ways n x → T (isWays n x)
 test-of-ways n [] h = tt
 test-of-ways n (i ∷ x) h = and-intro (isDigit n i) (isWays n x) (test-of-digit n i (h .0)) (test-of-ways n x (h .1))
 

@@ -1,5 +1,5 @@
--- What the calls answer: the verdict on two columns, and a granted plan or a refusal for F, I, K, S and W. Each refusal has the
--- number that document 01 gives it. The contracts of the calls cite these answers. Read Listing.antt next.
+-- What the calls answer: the verdict on two columns, and a granted plan or a refusal for F, I, K, S and W. Each refusal has its
+-- number of Refusals.antt. The contracts of the calls cite these answers. Read Listing.antt next.
 use Prim.Native.Nat.{ℕ, zero, suc}
 use mathlib.Core.Path.{_≡_, refl}
 use mathlib.Core.Bool.{Bool, true, false, _&&_}
@@ -11,6 +11,7 @@ use Rattle.higman.specs.Words.{Shape, Word, isWord, spell}
 use Rattle.higman.specs.Bases.{all, overlap, gap}
 use Rattle.higman.specs.Tables.{Table, froms, tos, image, sameTable, row, φ, ψ}
 use Rattle.higman.specs.Normal.{joined, normal, normalForm, keep, compose, inverse, identity}
+use Rattle.higman.specs.Refusals.{badWord, wordsOverlap, rootUncovered, shapesDiffer, limitBroken, powerOutside, codeTooShort}
 use Rattle.higman.specs.Limits.{Plan, shapeInRange, granted, isCode, maxPairs, maxDigits, maxCode, maxPower}
 
 -- "6, one word begins or equals another; 7, a belt isn't covered"
@@ -25,8 +26,8 @@ pub data Verdict : Type 0 where
   InTo : Reason → Verdict
 
 abbrev pub reasonNumber : Reason → ℕ
-reasonNumber Overlap = 6
-reasonNumber Gap = 7
+reasonNumber Overlap = wordsOverlap
+reasonNumber Gap = rootUncovered
 
 -- what is wrong with a column, overlap before gap
 abbrev pub fault : Shape → List Word → Option Reason
@@ -57,10 +58,10 @@ pub data Refusal : Type 0 where
   PowerOutside : Refusal
 
 abbrev pub refusalNumber : Refusal → ℕ
-refusalNumber BadCode = 4
-refusalNumber ShapesDiffer = 10
-refusalNumber LimitBroken = 11
-refusalNumber PowerOutside = 12
+refusalNumber BadCode = badWord
+refusalNumber ShapesDiffer = shapesDiffer
+refusalNumber LimitBroken = limitBroken
+refusalNumber PowerOutside = powerOutside
 
 -- the plan that F, I or K would keep, or why not
 pub data Answer : Type 0 where
@@ -125,7 +126,7 @@ pub data Route : Type 0 where
 -- the number of a route's refusal; an image has none
 abbrev pub routeNumber : Route → Option ℕ
 routeNumber (Image w) = none
-routeNumber TooShort = some 13
+routeNumber TooShort = some codeTooShort
 routeNumber (NotRouted r) = some (refusalNumber r)
 
 -- W: "4; 13, the code is a proper beginning of a from-word"

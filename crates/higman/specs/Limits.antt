@@ -1,12 +1,12 @@
 -- The limits of document 01, named in this one place, and the plans that keep to them. Everything before and after speaks of the
--- names; only here are they numbers. Read Answers.antt next.
+-- names; only here are they numbers. Read Refusals.antt next.
 use Prim.Native.Nat.{ℕ}
 use mathlib.Core.Path.{_≡_, refl}
 use mathlib.Core.Bool.{Bool, true, false, _&&_}
 use mathlib.Core.List.{[], _∷_, map}
 use lib.Dec.{T, leb}
 use lib.ListN.{length, replicate}
-use Rattle.higman.specs.Words.{Shape, Word, isWord}
+use Rattle.higman.specs.Words.{Shape, Word, isWord, spell}
 use Rattle.higman.specs.Bases.{Basis, all}
 use Rattle.higman.specs.Tables.{Pair, Table, froms, tos, row, ψ}
 use Rattle.higman.specs.Normal.{Reduced, ordered}
@@ -31,8 +31,16 @@ maxCode = 1024
 unfoldable pub maxPower : ℕ
 maxPower = 1000
 
+-- "The desk has slots A to H"
+unfoldable pub slotCount : ℕ
+slotCount = 8
+
 abbrev pub fits : Word → Bool
 fits w = leb (length w) maxDigits
+
+-- a word that a plan of the shape may hold, not one "that is empty, too long or has a wrong digit"
+unfoldable pub isPlanWord : Shape → Word → Bool
+isPlanWord s w = isWord s w && fits w
 
 abbrev pub pairFits : Pair → Bool
 pairFits p = fits (p .from) && fits (p .to)
@@ -71,6 +79,12 @@ digitsOf k = record { from = replicate k 1; to = replicate 1 1 } ∷ []
 granted-example : map granted (ψ ∷ digitsOf 16 ∷ digitsOf 17 ∷ replicate 128 (row 1 1) ∷ replicate 129 (row 1 1) ∷ []) ≡ true ∷ true ∷ false ∷ true ∷ false ∷ []
 unfolding granted maxPairs maxDigits
 granted-example = refl
+
+-- "A word of 16 digits passes, 17 is 4."; no digits, a wrong belt and a wrong way
+isPlanWord-example : map (isPlanWord (record { arity = 2; roots = 1 })) (replicate 16 1 ∷ replicate 17 1 ∷ [] ∷ spell 21 ∷ spell 13 ∷ [])
+    ≡ true ∷ false ∷ false ∷ false ∷ false ∷ []
+unfolding isPlanWord maxDigits
+isPlanWord-example = refl
 
 -- a code of 1,024 digits and one of 1,025
 isCode-example : map (isCode (record { arity = 2; roots = 1 })) (replicate 1024 1 ∷ replicate 1025 1 ∷ []) ≡ true ∷ false ∷ []

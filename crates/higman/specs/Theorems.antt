@@ -9,7 +9,8 @@ use mathlib.Core.Option.{some}
 use lib.Dec.{T, leb}
 use lib.ListN.{length}
 use lib.IntN.{ℤ, pos, negsuc, natAbs, _+ℤ_, _*ℤ_}
-use Rattle.higman.specs.Words.{Shape, Word, isWord}
+use Rattle.higman.specs.Words.{Shape, Word, isWays, isWord}
+use Rattle.higman.specs.Text.{wordBytes, wordOf}
 use Rattle.higman.specs.Bases.{Basis, Column, all}
 use Rattle.higman.specs.Tables.{Pair, Table, froms, tos, image, longEnough}
 use Rattle.higman.specs.Normal.{keep, andThen, times, compose, inverse, identity, repeated, power, Reduced, ordered, Joins}
@@ -102,6 +103,8 @@ pub record Demand3 : Type 0 where
 
 -- "a listing read back is the same plan" rests on this: the bytes determine the slot's plan, and the M records the table.
 pub record ListingFaithful : Type 0 where
+  -- the bytes of a word of digits 1 to 9 spell it
+  pub words : (w : Word) → T (isWays 9 w) → wordOf (wordBytes w) ≡ w
   pub records : (t u : Table) → (pairRecords t ≡ pairRecords u) ↔ (t ≡ u)
   pub lines : (t u : Table) → (joinLines (pairRecords t) ≡ joinLines (pairRecords u)) ↔ (t ≡ u)
   pub whole-listing : (slot : ℕ) (a b : Plan) → (listing slot a ≡ listing slot b) ↔ (a ≡ b)

@@ -14,11 +14,11 @@ use Rattle.higman.specs.Tables.{image, froms}
 use Rattle.higman.specs.Limits.{shapeInRange, isCode, maxCode}
 use Rattle.higman.specs.Answers as Of
 use Rattle.higman.specs.Answers.{routed}
-use Rattle.higman.specs.Listing.{wordBytes}
-use Rattle.higman.proofs.Tests.{T-of, and-left, word-of-test}
+use Rattle.higman.specs.Text.{wordBytes, digitOf, wordOf}
+use Rattle.higman.proofs.Tests.{T-of, and-left, word-of-test, test-of-ways}
 use Rattle.higman.proofs.KeptPlans.{in-range}
-use Rattle.words.specs.Bytes.{digitOf, digitsOf, written}
-use Rattle.words.proofs.Packed.{ways-of-word, test-of-ways}
+use Rattle.higman.specs.Buffers.{written}
+use Rattle.higman.proofs.PlanWords.{ways-of-word}
 use Rattle.columns.specs.Packed.{wordsOf}
 use Rattle.tables.specs.Routing.{IsCode, Searchable, matchedDigits, further, routedIn, routedInto}
 use Rattle.tables.specs.declared.routing.Routed.{Routed}
@@ -38,23 +38,23 @@ code-limit = refl
 
 module _ (s : Shape) (code : List ℕ) where
   within : Bool → Bool
-  within b = isWord s (digitsOf code) && b
+  within b = isWord s (wordOf code) && b
 
-  pub code-long : maxCode < length code → false ≡ isCode s (digitsOf code)
+  pub code-long : maxCode < length code → false ≡ isCode s (wordOf code)
   unfolding isCode within
   code-long h =
-      sym (ap (λ n. within (leb n maxCode)) (length-map code digitOf) ∙ ap within (lt-leb (length code) maxCode h) ∙ and-false (isWord s (digitsOf code)))
+      sym (ap (λ n. within (leb n maxCode)) (length-map code digitOf) ∙ ap within (lt-leb (length code) maxCode h) ∙ and-false (isWord s (wordOf code)))
 
-  pub code-short : length code ≤ maxCode → isWord s (digitsOf code) ≡ isCode s (digitsOf code)
+  pub code-short : length code ≤ maxCode → isWord s (wordOf code) ≡ isCode s (wordOf code)
   unfolding isCode within
   code-short h =
-      sym (ap (λ n. within (leb n maxCode)) (length-map code digitOf) ∙ ap within (le-leb (length code) maxCode h) ∙ and-true (isWord s (digitsOf code)))
+      sym (ap (λ n. within (leb n maxCode)) (length-map code digitOf) ∙ ap within (le-leb (length code) maxCode h) ∙ and-true (isWord s (wordOf code)))
 
   -- the digits of such a code are those that packed words have
-  pub digits-of-code : T (shapeInRange s) → isCode s (digitsOf code) ≡ true → IsCode code
+  pub digits-of-code : T (shapeInRange s) → isCode s (wordOf code) ≡ true → IsCode code
   unfolding isCode
   digits-of-code r h =
-      let w = digitsOf code in
+      let w = wordOf code in
       let range = in-range s r in
       test-of-ways 9 w (ways-of-word s w (range .arity-high) (range .roots-high) (word-of-test s w (and-left (isWord s w) (leb (length w) maxCode) (T-of h))))
 
@@ -93,27 +93,27 @@ module _ (p : Plan) (code : List ℕ) where
   routing-no-plan out h = (sym (rw (h, routing)), sym (rw (h, routedBuffer)))
 
   module _ (h : isPlan p ≡ true) where
-    pub matched-no-code : isCode (shapeOf p) (digitsOf code) ≡ false → matched p code ≡ 0
+    pub matched-no-code : isCode (shapeOf p) (wordOf code) ≡ false → matched p code ≡ 0
     unfolding matched
     matched-no-code k = rw (h, k, matched)
 
-    pub routing-no-code : (out : List ℕ) → isCode (shapeOf p) (digitsOf code) ≡ false → (Refused 4 ≡ routing p code (length out)) × (out ≡ routedBuffer p code out)
+    pub routing-no-code : (out : List ℕ) → isCode (shapeOf p) (wordOf code) ≡ false → (Refused 4 ≡ routing p code (length out)) × (out ≡ routedBuffer p code out)
     unfolding routing routedBuffer routed
     routing-no-code out k = (sym (rw (h, k, routing, routed)), sym (rw (h, k, routedBuffer, routed)))
 
-    module _ (k : isCode (shapeOf p) (digitsOf code) ≡ true) where
+    module _ (k : isCode (shapeOf p) (wordOf code) ≡ true) where
       pub code-digits : IsCode code
       code-digits = digits-of-code (shapeOf p) code (kept p h .in-range) k
 
-      routed-is : routed (planOf p) (digitsOf code) ≡ found (image (rowsOf p) (digitsOf code))
+      routed-is : routed (planOf p) (wordOf code) ≡ found (image (rowsOf p) (wordOf code))
       unfolding routed
       routed-is = rw (k, routed)
 
-      pub routing-found : (out : List ℕ) (r : Routed) (out′ : List ℕ) → r ≡ routedIn (image (rowsOf p) (digitsOf code)) (length out)
-          → out′ ≡ routedInto (image (rowsOf p) (digitsOf code)) out → (replied r ≡ routing p code (length out)) × (out′ ≡ routedBuffer p code out)
+      pub routing-found : (out : List ℕ) (r : Routed) (out′ : List ℕ) → r ≡ routedIn (image (rowsOf p) (wordOf code)) (length out)
+          → out′ ≡ routedInto (image (rowsOf p) (wordOf code)) out → (replied r ≡ routing p code (length out)) × (out′ ≡ routedBuffer p code out)
       unfolding routing routedBuffer
       routing-found out r out′ e f =
-          let o = image (rowsOf p) (digitsOf code) in (
+          let o = image (rowsOf p) (wordOf code) in (
             ap replied e ∙ replied-is o (length out) ∙ ap (λ x. routingIn x (length out)) (sym routed-is) ∙ sym (rw (h, routing)),
             f ∙ buffer-is o out ∙ ap (λ x. imageInto x out) (sym routed-is) ∙ sym (rw (h, routedBuffer)),
           )
@@ -125,8 +125,8 @@ module _ (p : Plan) (code : List ℕ) where
         pub searchable : Searchable from
         searchable = let o = operand p h lf lt in record { packed = o .plain .from-packed; in-order = o .in-order; apart = o .apart }
 
-        pub matched-found : matchedDigits (wordsOf from) (digitsOf code) ≡ matched p code
+        pub matched-found : matchedDigits (wordsOf from) (wordOf code) ≡ matched p code
         unfolding matched
         matched-found =
-            ap (λ c. matchedDigits c (digitsOf code)) (sym (froms-table from (take (p .pairs) (p .to)) (length-take-le (p .pairs) (p .from) lf ∙ sym (length-take-le (p .pairs) (p .to) lt))))
+            ap (λ c. matchedDigits c (wordOf code)) (sym (froms-table from (take (p .pairs) (p .to)) (length-take-le (p .pairs) (p .from) lf ∙ sym (length-take-le (p .pairs) (p .to) lt))))
             ∙ sym (rw (h, k, matched))

@@ -12,11 +12,10 @@ use lib.ListN.{length, take, drop, length-take}
 use Rattle.higman.specs.Words.{Shape, Word, isWord}
 use Rattle.higman.specs.Bases.{all}
 use Rattle.higman.specs.Tables.{Pair, Table, froms, tos}
-use Rattle.higman.specs.Limits.{shapeInRange, granted, maxPairs, fits, pairFits}
+use Rattle.higman.specs.Limits.{shapeInRange, granted, maxPairs, fits, pairFits, isPlanWord}
 use Rattle.higman.specs.Answers as Of
 use Rattle.higman.proofs.Tests.{passes, so, T-of, clash, and-left, and-right, and-intro, all-at, all-of}
 use Rattle.higman.proofs.Statements.{TableOf, table-of, test-table}
-use Rattle.words.specs.Bytes.{isPlanWord}
 use Rattle.plans.specs.declared.Plan.{Plan}
 use Rattle.plans.specs.declared.Fault.{Fault}
 use Rattle.plans.specs.declared.Fault.the-variants.{Sound, Faulty}

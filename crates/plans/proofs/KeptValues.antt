@@ -14,14 +14,13 @@ use Rattle.higman.specs.Words.{Shape, Word, isWord, begins}
 use Rattle.higman.specs.Bases.{Basis, all, overlap}
 use Rattle.higman.specs.Tables.{Pair, froms, tos}
 use Rattle.higman.specs.Normal.{before, ordered}
-use Rattle.higman.specs.Limits.{Kept, shapeInRange, granted, fits, pairFits, maxPairs}
+use Rattle.higman.specs.Limits.{Kept, shapeInRange, granted, fits, pairFits, maxPairs, isPlanWord}
 use Rattle.higman.specs.Answers.{isKept}
 use Rattle.higman.proofs.Tests.{so, T-of, and-left, and-right, and-intro, or-true-left, all-at, all-of}
 use Rattle.higman.proofs.Columns.{column-is-basis}
 use Rattle.higman.proofs.KeptPlans.{arity-of-range}
 use Rattle.higman.proofs.Statements.{answers-exact}
 use Rattle.words.specs.Packed.{unpack, isPacked}
-use Rattle.words.specs.Bytes.{isPlanWord}
 use Rattle.words.proofs.Packed.{packed-word}
 use Rattle.columns.specs.Packed.{wordsOf}
 use Rattle.columns.proofs.WordOrder.{sorted-of-ordered}

@@ -7,7 +7,7 @@ use borrow.Author.Tests.{le-leb, lt-leb}
 use lib.Dec.{leb}
 use lib.ListN.{length}
 use Rattle.higman.specs.Listing.{listing as linesOf}
-use Rattle.words.specs.Bytes.{written}
+use Rattle.higman.specs.Buffers.{written}
 use Rattle.plans.specs.declared.Plan.{Plan}
 use Rattle.plans.specs.declared.Listed.the-variants.{Bytes, Refused}
 use Rattle.plans.specs.Plans.{planOf, isPlan}

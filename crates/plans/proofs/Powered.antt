@@ -11,8 +11,7 @@ use lib.Signed.{nonNeg, _<ℤ_}
 use Rattle.higman.specs.Words.{Shape}
 use Rattle.higman.specs.Tables.{Table}
 use Rattle.higman.specs.Normal.{inverse}
-use Rattle.higman.specs.Limits.{Kept, maxPower}
-use Rattle.higman.specs.Limits.{Plan as PlanOf}
+use Rattle.higman.specs.Limits.{Kept, maxPower, Plan as PlanOf}
 use Rattle.higman.specs.Answers as Of
 use Rattle.higman.specs.Answers.{raised, powered, inverted, repeatable}
 use Rattle.higman.proofs.Group.{inverse-member}

@@ -12,8 +12,7 @@ use borrow.Author.Tests.{leb-true, leb-false}
 use Rattle.higman.specs.Words.{Shape}
 use Rattle.higman.specs.Tables.{Table}
 use Rattle.higman.specs.Normal.{compose, identity}
-use Rattle.higman.specs.Limits.{Kept, granted}
-use Rattle.higman.specs.Limits.{Plan as PlanOf}
+use Rattle.higman.specs.Limits.{Kept, granted, Plan as PlanOf}
 use Rattle.higman.specs.Answers as Of
 use Rattle.higman.specs.Answers.{Answer as HigmanAnswer, grant, followed, raised, identityPlan}
 use Rattle.higman.proofs.Tests.{passes, T-of}

@@ -18,7 +18,7 @@ use Rattle.higman.proofs.KeptPlans.{in-range}
 use Rattle.higman.proofs.Elements.{Element}
 use Rattle.words.specs.Packed.{pack}
 use Rattle.words.proofs.Packing.{pack-unpack, unpack-pack}
-use Rattle.words.proofs.Packed.{ways-of-word}
+use Rattle.higman.proofs.PlanWords.{ways-of-word}
 use Rattle.plans.specs.declared.Plan.{Plan}
 use Rattle.columns.specs.Packed.{wordsOf, table, rows}
 use Rattle.plans.specs.Plans.{rowsOf, zeros, inTable, column, packed}

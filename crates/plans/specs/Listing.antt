@@ -12,7 +12,8 @@ use Rattle.higman.specs.Limits.{shapeInRange, granted, maxPairs, maxDigits}
 use Rattle.higman.specs.Answers.{verdict, isKept}
 use Rattle.higman.specs.Listing.{listing as linesOf}
 use Rattle.words.specs.Packed.{packOn, pack, unpackIn, unpack}
-use Rattle.words.specs.Bytes.{shape, written}
+use Rattle.higman.specs.Buffers.{written}
+use Rattle.words.specs.Bytes.{shape}
 use Rattle.plans.specs.declared.Plan.{Plan}
 use Rattle.plans.specs.declared.Listed.{Listed}
 use Rattle.plans.specs.declared.Listed.the-variants.{Bytes, Refused}

@@ -10,10 +10,10 @@ use Rattle.higman.specs.Words.{Shape, Word}
 use Rattle.higman.specs.Bases.{all}
 use Rattle.higman.specs.Tables.{Table, froms, tos, row, φ}
 use Rattle.higman.specs.Normal.{joined, normal, normalForm, keep}
-use Rattle.higman.specs.Limits.{Plan as PlanOf, shapeInRange, granted, maxPairs, maxDigits}
+use Rattle.higman.specs.Limits.{Plan as PlanOf, shapeInRange, granted, maxPairs, maxDigits, isPlanWord}
 use Rattle.higman.specs.Answers.{verdict, isTableOf, isKept}
 use Rattle.words.specs.Packed.{packOn, pack, unpackIn, unpack}
-use Rattle.words.specs.Bytes.{shape, isPlanWord}
+use Rattle.words.specs.Bytes.{shape}
 use Rattle.plans.specs.declared.Plan.{Plan}
 use Rattle.columns.specs.Packed.{wordsOf, rows}
 

@@ -10,9 +10,10 @@ use Rattle.higman.specs.Tables.{froms, ψ}
 use Rattle.higman.specs.Normal.{joined, normal, normalForm, keep}
 use Rattle.higman.specs.Limits.{shapeInRange, granted, isCode, maxPairs, maxDigits, maxCode}
 use Rattle.higman.specs.Answers as Of
-use Rattle.higman.specs.Listing.{wordBytes}
+use Rattle.higman.specs.Text.{wordBytes, digitOf, wordOf}
 use Rattle.words.specs.Packed.{packOn, pack, unpackIn, unpack}
-use Rattle.words.specs.Bytes.{shape, digitOf, digitsOf, written}
+use Rattle.higman.specs.Buffers.{written}
+use Rattle.words.specs.Bytes.{shape}
 use Rattle.tables.specs.Routing.{matchedDigits}
 use Rattle.plans.specs.declared.Plan.{Plan}
 use Rattle.plans.specs.declared.Route.{Route}
@@ -24,7 +25,7 @@ unfoldable pub matched : Plan → List ℕ → ℕ
 matched p code =
     elim
     (isPlan p) [
-      | true ↦ elim (isCode (shapeOf p) (digitsOf code)) [ true ↦ matchedDigits (froms (rowsOf p)) (digitsOf code) | false ↦ 0 ]
+      | true ↦ elim (isCode (shapeOf p) (wordOf code)) [ true ↦ matchedDigits (froms (rowsOf p)) (wordOf code) | false ↦ 0 ]
       | false ↦ 0
     ]
 
@@ -46,11 +47,11 @@ imageInto (Of.NotRouted r) out = out
 
 -- W: 15, 4, 13, 14
 unfoldable pub routing : Plan → List ℕ → ℕ → Route
-routing p code room = elim (isPlan p) [ true ↦ routingIn (Of.routed (planOf p) (digitsOf code)) room | false ↦ Refused 15 ]
+routing p code room = elim (isPlan p) [ true ↦ routingIn (Of.routed (planOf p) (wordOf code)) room | false ↦ Refused 15 ]
 
 -- what the buffer then holds
 unfoldable pub routedBuffer : Plan → List ℕ → List ℕ → List ℕ
-routedBuffer p code out = elim (isPlan p) [ true ↦ imageInto (Of.routed (planOf p) (digitsOf code)) out | false ↦ out ]
+routedBuffer p code out = elim (isPlan p) [ true ↦ imageInto (Of.routed (planOf p) (wordOf code)) out | false ↦ out ]
 
 -- the number of a route's refusal; 0 for an image
 abbrev pub routingNumber : Route → ℕ

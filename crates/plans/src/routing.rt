@@ -3,7 +3,8 @@
 ghost use mathlib.Core.Path.{_≡_};
 ghost use lib.ListN.{length};
 ghost use Rattle.higman.specs.Limits.{isCode};
-ghost use Rattle.words.specs.Bytes.{shape, digitsOf};
+ghost use Rattle.higman.specs.Text.{wordOf};
+ghost use Rattle.words.specs.Bytes.{shape};
 ghost use Rattle.tables.specs.Routing.{further};
 ghost use Rattle.plans.specs.Routing.{matched, matching, routing, routedBuffer};
 use crate::Plan;
@@ -16,7 +17,7 @@ const MAX_CODE: usize = 1024;
 
 // Whether a code is one that a plan of the shape routes.
 fn is_code(code: &[u8], arity: u8, roots: u8) -> bool
-    ensures { λ r. ⌜ r ≡ isCode (shape arity roots) (digitsOf (now (code .entry))) ⌝ }
+    ensures { λ r. ⌜ r ≡ isCode (shape arity roots) (wordOf (now (code .entry))) ⌝ }
 {
     if MAX_CODE < code.len() {
         return false;

@@ -13,7 +13,7 @@ use lib.ListN.{length, getD, drop, length-append}
 use lib.Seq.{drop-cons}
 use Rattle.higman.specs.Words.{Word, after, given, begins}
 use Rattle.higman.specs.Bases.{meets, overlap}
-use Rattle.higman.specs.Tables.{image}
+use Rattle.higman.specs.Tables.{firstMatch, image}
 use Rattle.higman.specs.Limits.{maxDigits}
 use Rattle.higman.proofs.Tests.{passes, clash, or-left-false, or-right-false, all-at, Ways}
 use Rattle.higman.proofs.Prefixes.{after-some, begins-append, tail-of-begins, comparable, ways-append, ways-right}
@@ -68,17 +68,17 @@ overlap-rest f column o = or-right-false (meets (unpack f) (wordsOf column)) (ov
 pub image-at : (from to : List ℕ) → length from ≡ length to → overlap (wordsOf from) ≡ false → (k : ℕ) → k < length from → (w x : Word) → after (wordAt from k) w ≡ some x → image (table from to) w ≡ some (wordAt to k ++ x)
 image-at [] to l o k h w x e = absurd (omega arith)
 image-at (f ∷ from) [] l o k h w x e = absurd (omega arith)
-image-at (f ∷ from) (t ∷ to) l o zero h w x e = rw (e, image)
+image-at (f ∷ from) (t ∷ to) l o zero h w x e = rw (e, firstMatch)
 image-at (f ∷ from) (t ∷ to) l o (suc k) h w x e =
     let n = after-none (unpack f) w (first-apart f from o k (omega arith) w (ap given e)) in
-    rw (n, image) (image-at from to (omega arith) (overlap-rest f from o) k (omega arith) w x e)
+    rw (n, firstMatch) (image-at from to (omega arith) (overlap-rest f from o) k (omega arith) w x e)
 
 pub image-nowhere : (from to : List ℕ) (w : Word) → ((u : Word) → List·Memᴰ u (wordsOf from) → begins u w ≡ false) → image (table from to) w ≡ none
 image-nowhere [] to w h = refl
 image-nowhere (f ∷ from) [] w h = refl
 image-nowhere (f ∷ from) (t ∷ to) w h =
     let n = after-none (unpack f) w (h (unpack f) (List·Memᴰ·head refl)) in
-    rw (n, image) (image-nowhere from to w (λ u m. h u (List·Memᴰ·tail m)))
+    rw (n, firstMatch) (image-nowhere from to w (λ u m. h u (List·Memᴰ·tail m)))
 
 mem-number : (column : List ℕ) (k : ℕ) → k < length column → List·Memᴰ (getD column k 0) column
 mem-number [] k h = absurd (omega arith)

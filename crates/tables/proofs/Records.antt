@@ -10,8 +10,9 @@ use lib.Seq.{drop-cons}
 use Rattle.higman.specs.Words.{Shape, Word}
 use Rattle.higman.specs.Tables.{Pair, Table}
 use Rattle.higman.specs.Limits.{maxDigits}
-use Rattle.higman.specs.Listing.{digitByte, wordBytes, pairRecord, pairRecords, joinLines, closeRecord, listing}
-use Rattle.words.specs.Bytes.{written}
+use Rattle.higman.specs.Text.{digitByte, wordBytes}
+use Rattle.higman.specs.Listing.{pairRecord, pairRecords, joinLines, closeRecord, listing}
+use Rattle.higman.specs.Buffers.{written}
 use Rattle.words.proofs.Limit.{word-fits}
 use Rattle.tables.specs.Lines.{Wrote, pairOf, pairLines}
 

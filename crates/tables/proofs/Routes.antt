@@ -15,15 +15,16 @@ use borrow.Author.Tests.{le-leb, lt-leb, leb-true, leb-false}
 use Rattle.higman.specs.Words.{Word, begins}
 use Rattle.higman.specs.Bases.{overlap}
 use Rattle.higman.specs.Tables.{image}
-use Rattle.higman.specs.Listing.{digitByte, wordBytes}
+use Rattle.higman.specs.Text.{digitByte, wordBytes, digitOf, wordOf}
 use Rattle.higman.specs.Limits.{maxDigits}
-use Rattle.higman.proofs.Tests.{passes, Ways}
+use Rattle.higman.proofs.Tests.{passes, Ways, ways-of-test}
 use Rattle.higman.proofs.Prefixes.{tail-of-begins, ways-left, ways-right}
 use Rattle.words.specs.Packed.{pack, unpack}
-use Rattle.words.specs.Bytes.{digitOf, digitsOf, written}
+use Rattle.higman.specs.Buffers.{written}
 use Rattle.words.proofs.Packing.{unpack-pack}
-use Rattle.words.proofs.Packed.{more-ways, ways-of-test, packed-length}
-use Rattle.words.proofs.Bytes.{digit-under, digit-over, digit-within}
+use Rattle.higman.proofs.PlanWords.{more-ways}
+use Rattle.words.proofs.Packed.{packed-length}
+use Rattle.higman.proofs.Text.{digit-under, digit-over, digit-within}
 use Rattle.words.proofs.Codes.{digits-take, digits-drop, begins-take, after-drop}
 use Rattle.columns.specs.Packed.{wordsOf, table}
 use Rattle.columns.specs.Columns.{wordAt, BegunAt}
@@ -37,13 +38,13 @@ use Rattle.tables.proofs.Lookup.{first-apart, overlap-rest, image-at, p
 pub here : (place : ℕ × ℕ) → place ≡ further 0 place
 here place = ap (λ n. (place .0, n)) (sym (zero-add (place .1)))
 
-pub code-ways : (code : List ℕ) → IsCode code → Ways 9 (digitsOf code)
-code-ways code t = ways-of-test 9 (digitsOf code) t
+pub code-ways : (code : List ℕ) → IsCode code → Ways 9 (wordOf code)
+code-ways code t = ways-of-test 9 (wordOf code) t
 
 -- the first k digits of a code, packed, hold the first k digits of its word
-pub front-of-code : (code : List ℕ) (k : ℕ) → IsCode code → unpack (pack (digitsOf (take k code))) ≡ take k (digitsOf code)
+pub front-of-code : (code : List ℕ) (k : ℕ) → IsCode code → unpack (pack (wordOf (take k code))) ≡ take k (wordOf code)
 front-of-code code k t =
-    let w = digitsOf code in
+    let w = wordOf code in
     let ways = ways-left 9 (take k w) (drop k w) (subst (Ways 9) (sym (take-append-drop k w)) (code-ways code t)) in
     ap (λ u. unpack (pack u)) (digits-take k code) ∙ unpack-pack (take k w) (more-ways (take k w) (lit≤ tt) ways)
 
@@ -70,9 +71,9 @@ matched-none [] w h = refl
 matched-none (u ∷ c) w h = rw (h u (List·Memᴰ·head refl), matchedDigits) (matched-none c w (λ v m. h v (List·Memᴰ·tail m)))
 
 -- a word that begins a code has no more digits than the code has bytes
-pub begins-within : (p : Word) (code : List ℕ) → begins p (digitsOf code) ≡ true → length p ≤ length code
+pub begins-within : (p : Word) (code : List ℕ) → begins p (wordOf code) ≡ true → length p ≤ length code
 begins-within p code b =
-    let t = tail-of-begins p (digitsOf code) b in
+    let t = tail-of-begins p (wordOf code) b in
     omega (arith, ap length (t .1), length-append p (t .0), length-map code digitOf)
 
 byte-of-digit : (b : ℕ) → 1 ≤ digitOf b → digitByte (digitOf b) ≡ b
@@ -84,35 +85,35 @@ byte-of-digit b h = go (passes (leb 49 b)) (passes (leb b 57))
     go (inr p) q = absurd (omega (arith, digit-under b (leb-false 49 b p)))
 
 -- the bytes of a code are those of its word
-bytes-of-code : (code : List ℕ) → Ways 9 (digitsOf code) → wordBytes (digitsOf code) ≡ code
+bytes-of-code : (code : List ℕ) → Ways 9 (wordOf code) → wordBytes (wordOf code) ≡ code
 bytes-of-code [] h = refl
 bytes-of-code (b ∷ code) h = ap₂ _∷_ (byte-of-digit b (h .0 .0)) (bytes-of-code code (h .1))
 
 -- what the from-word at a place that begins a code gives: the to-word, and behind it the tail
-module _ (from to : List ℕ) (o : Operand from to) (code : List ℕ) (t : IsCode code) (k : ℕ) (h : k < length from) (b : begins (wordAt from k) (digitsOf code) ≡ true) where
+module _ (from to : List ℕ) (o : Operand from to) (code : List ℕ) (t : IsCode code) (k : ℕ) (h : k < length from) (b : begins (wordAt from k) (wordOf code) ≡ true) where
   tail : List ℕ
   tail = drop (length (wordAt from k)) code
 
   pub routed-word : Word
-  routed-word = wordAt to k ++ digitsOf tail
+  routed-word = wordAt to k ++ wordOf tail
 
-  pub image-of-code : image (table from to) (digitsOf code) ≡ some routed-word
+  pub image-of-code : image (table from to) (wordOf code) ≡ some routed-word
   unfolding tail routed-word
   image-of-code =
-      image-at from to (o .plain .long) (o .apart) k h (digitsOf code) (drop (length (wordAt from k)) (digitsOf code)) (after-drop (wordAt from k) (digitsOf code) b)
+      image-at from to (o .plain .long) (o .apart) k h (wordOf code) (drop (length (wordAt from k)) (wordOf code)) (after-drop (wordAt from k) (wordOf code) b)
       ∙ ap (λ x. some (wordAt to k ++ x)) (sym (digits-drop (length (wordAt from k)) code))
 
   pub routed-length : length routed-word ≡ length (wordAt to k) + length (drop (length (wordAt from k)) code)
   unfolding tail routed-word
-  routed-length = length-append (wordAt to k) (digitsOf tail) ∙ ap (λ n. length (wordAt to k) + n) (length-map tail digitOf)
+  routed-length = length-append (wordAt to k) (wordOf tail) ∙ ap (λ n. length (wordAt to k) + n) (length-map tail digitOf)
 
   pub routed-bytes : wordBytes routed-word ≡ wordBytes (wordAt to k) ++ drop (length (wordAt from k)) code
   unfolding tail routed-word
   routed-bytes =
       let n = length (wordAt from k) in
-      let w = digitsOf code in
+      let w = wordOf code in
       let ways = ways-right 9 (take n w) (drop n w) (subst (Ways 9) (sym (take-append-drop n w)) (code-ways code t)) in
-      map-append digitByte (wordAt to k) (digitsOf tail)
+      map-append digitByte (wordAt to k) (wordOf tail)
       ∙ ap (λ l. wordBytes (wordAt to k) ++ l) (bytes-of-code tail (subst (Ways 9) (sym (digits-drop n code)) ways))
 
 -- bytes written to the start, and more bytes to the part behind them

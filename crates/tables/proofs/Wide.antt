@@ -13,7 +13,7 @@ use lib.Dec.{T, leb}
 use lib.ListN.{length, length-append}
 use Rattle.higman.specs.Words.{Shape, Word, after, child}
 use Rattle.higman.specs.Bases.{all, longest}
-use Rattle.higman.specs.Tables.{Pair, Table, BlockMap, froms, image}
+use Rattle.higman.specs.Tables.{Pair, Table, BlockMap, froms, firstMatch, image}
 use Rattle.higman.specs.Normal.{keep, andThen, compose}
 use Rattle.higman.specs.Limits.{fits, pairFits, granted, maxPairs}
 use Rattle.higman.proofs.Tests.{passes, so, T-of, clash, and-left, and-right, and-intro, all-at, pair-path, Ways, IsWord}
@@ -34,10 +34,10 @@ abbrev told : Word → Word → Table → Table
 told c Q b = record { from = c; to = Q } ∷ b
 
 told-here : (c Q : Word) (b : Table) (x : Word) → image (told c Q b) (c ++ x) ≡ some (Q ++ x)
-told-here c Q b x = rw (after-append c x, image)
+told-here c Q b x = rw (after-append c x, firstMatch)
 
 told-elsewhere : (c Q : Word) (b : Table) (w : Word) → after c w ≡ none → image (told c Q b) w ≡ image b w
-told-elsewhere c Q b w e = rw (e, image)
+told-elsewhere c Q b w e = rw (e, firstMatch)
 
 in-block-or-not : (c w : Word) → ((x : Word) × (w ≡ c ++ x)) ⊎ (after c w ≡ none)
 in-block-or-not c w = go (after c w) refl

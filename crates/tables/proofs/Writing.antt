@@ -7,7 +7,7 @@ use native.Mathlib.Numerals.{add-one}
 use native.Mathlib.Omega.{arith}
 use lib.ListN.{length, take, drop, set, length-append}
 use lib.Seq.{length-take-le, take-at, drop-append-add, drop-drop, set-split}
-use Rattle.words.specs.Bytes.{written}
+use Rattle.higman.specs.Buffers.{written}
 use Rattle.words.proofs.Bytes.{written-none}
 use Rattle.tables.specs.Lines.{Wrote}
 

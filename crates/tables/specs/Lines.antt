@@ -8,7 +8,8 @@ use Rattle.higman.specs.Tables.{Pair}
 use Rattle.higman.specs.Limits.{Plan}
 use Rattle.higman.specs.Listing.{pairRecords, joinLines}
 use Rattle.words.specs.Packed.{unpack}
-use Rattle.words.specs.Bytes.{shape, written}
+use Rattle.higman.specs.Buffers.{written}
+use Rattle.words.specs.Bytes.{shape}
 use Rattle.columns.specs.Packed.{table}
 
 pub record Wrote (bytes buffer : List ℕ) (at : ℕ) (buffer′ : List ℕ) (end : ℕ) : Type 0 where

@@ -9,8 +9,8 @@ use lib.Dec.{T, leb}
 use lib.ListN.{length, drop}
 use Rattle.higman.specs.Words.{Word, isWays, begins, spell}
 use Rattle.higman.specs.Bases.{overlap}
-use Rattle.higman.specs.Listing.{wordBytes}
-use Rattle.words.specs.Bytes.{digitOf, digitsOf, written}
+use Rattle.higman.specs.Text.{wordBytes, digitOf, wordOf}
+use Rattle.higman.specs.Buffers.{written}
 use Rattle.columns.specs.Packed.{wordsOf, sorted}
 use Rattle.columns.specs.Columns.{wordAt}
 use Rattle.tables.specs.Spreading.{packedWords}
@@ -19,7 +19,7 @@ use Rattle.tables.specs.declared.routing.Routed.the-variants.{Image, Too
 
 -- "A code is a string of digits"
 abbrev pub IsCode : List ℕ → Type 0
-IsCode code = T (isWays 9 (digitsOf code))
+IsCode code = T (isWays 9 (wordOf code))
 
 -- a column in which the word that begins a code is looked up
 pub record Searchable (column : List ℕ) : Type 0 where
@@ -40,7 +40,7 @@ matchedDigits (u ∷ c) w = elim (begins u w) [ true ↦ length u | false ↦ ma
 
 -- "The library's match hands back the unmatched tail .. Where no from-word begins the code .. that part is the whole code."
 abbrev pub unmatched : List Word → List ℕ → List ℕ
-unmatched c code = drop (matchedDigits c (digitsOf code)) code
+unmatched c code = drop (matchedDigits c (wordOf code)) code
 
 -- "as a part of the parcel's code": where a part starts that leaves out so many bytes, by the place where the code starts
 abbrev pub further : ℕ → ℕ × ℕ → ℕ × ℕ

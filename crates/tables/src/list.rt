@@ -6,9 +6,11 @@ ghost use Prim.Native.Nat.{ℕ, _+_, _≤_, _<_};
 ghost use lib.ListN.{length};
 ghost use Rattle.higman.specs.Words.{Shape};
 ghost use Rattle.higman.specs.Limits.{maxPairs};
-ghost use Rattle.higman.specs.Listing.{tab, wordBytes, openRecord, pairRecord, closeRecord, listing};
+ghost use Rattle.higman.specs.Text.{tab, wordBytes};
+ghost use Rattle.higman.specs.Listing.{openRecord, pairRecord, closeRecord, listing};
 ghost use Rattle.words.specs.Packed.{unpack};
-ghost use Rattle.words.specs.Bytes.{shape, written};
+ghost use Rattle.higman.specs.Buffers.{written};
+ghost use Rattle.words.specs.Bytes.{shape};
 ghost use Rattle.columns.specs.Packed.{table};
 ghost use Rattle.tables.specs.Lines.{Wrote, pairOf, pairLines, planOf};
 

@@ -6,7 +6,8 @@ ghost use lib.ListN.{length, take, drop};
 ghost use Rattle.higman.specs.Limits.{maxDigits};
 ghost use Rattle.higman.specs.Tables.{image};
 ghost use Rattle.words.specs.Packed.{unpack};
-ghost use Rattle.words.specs.Bytes.{digitsOf, written};
+ghost use Rattle.higman.specs.Text.{wordOf};
+ghost use Rattle.higman.specs.Buffers.{written};
 ghost use Rattle.columns.specs.Packed.{wordsOf, table};
 ghost use Rattle.tables.specs.Spreading.{Operand};
 ghost use Rattle.tables.specs.Routing.{IsCode, Searchable, MatchedAt, matchedDigits, unmatched, further, routedIn, routedInto};
@@ -27,7 +28,7 @@ pub enum Routed {
 // The first digits of a code, packed: as many as a plan word may have, or all where there are fewer.
 pub fn front(code: &[u8]) -> u64
     requires { ⌜ IsCode (now code) ⌝ }
-    ensures { λ r. ⌜ unpack r ≡ take maxDigits (digitsOf (now (code .entry))) ⌝ }
+    ensures { λ r. ⌜ unpack r ≡ take maxDigits (wordOf (now (code .entry))) ⌝ }
 {
     if code.len() <= MAX_DIGITS {
         words::pack(code)
@@ -40,7 +41,7 @@ pub fn front(code: &[u8]) -> u64
 pub fn place_of(from: &[u64], code: &[u8]) -> usize
     requires { ⌜ Searchable (now from) ⌝ }
     requires { ⌜ IsCode (now code) ⌝ }
-    ensures { λ r. ⌜ MatchedAt (now (from .entry)) (digitsOf (now (code .entry))) r ⌝ }
+    ensures { λ r. ⌜ MatchedAt (now (from .entry)) (wordOf (now (code .entry))) r ⌝ }
 {
     columns::begun_by(from, front(code))
 }
@@ -60,7 +61,7 @@ pub fn matched<'a>(from: &[u64], code: &'a [u8]) -> &'a [u8]
     requires { ⌜ Searchable (now from) ⌝ }
     requires { ⌜ IsCode (now code) ⌝ }
     ensures { λ r. ⌜ now r ≡ unmatched (wordsOf (now (from .entry))) (now (code .entry)) ⌝ }
-    ensures { λ r. ⌜ r .ptr ≡ further (matchedDigits (wordsOf (now (from .entry))) (digitsOf (now (code .entry)))) ((code .entry) .ptr) ⌝ }
+    ensures { λ r. ⌜ r .ptr ≡ further (matchedDigits (wordsOf (now (from .entry))) (wordOf (now (code .entry)))) ((code .entry) .ptr) ⌝ }
 {
     let k = place_of(from, code);
     if k < from.len() {
@@ -86,8 +87,8 @@ fn copy(tail: &[u8], out: &mut [u8])
 pub fn route_into(from: &[u64], to: &[u64], code: &[u8], out: &mut [u8]) -> Routed
     requires { ⌜ Operand (now from) (now to) ⌝ }
     requires { ⌜ IsCode (now code) ⌝ }
-    ensures { λ r. ⌜ r ≡ routedIn (image (table (now (from .entry)) (now (to .entry))) (digitsOf (now (code .entry)))) (length (now (out .entry))) ⌝ }
-    ensures { λ r. ⌜ now (out .exit) ≡ routedInto (image (table (now (from .entry)) (now (to .entry))) (digitsOf (now (code .entry)))) (now (out .entry)) ⌝ }
+    ensures { λ r. ⌜ r ≡ routedIn (image (table (now (from .entry)) (now (to .entry))) (wordOf (now (code .entry)))) (length (now (out .entry))) ⌝ }
+    ensures { λ r. ⌜ now (out .exit) ≡ routedInto (image (table (now (from .entry)) (now (to .entry))) (wordOf (now (code .entry)))) (now (out .entry)) ⌝ }
 {
     let k = place_of(from, code);
     if from.len() <= k {

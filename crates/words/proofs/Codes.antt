@@ -14,20 +14,21 @@ use Rattle.higman.specs.Limits.{maxDigits}
 use Rattle.higman.proofs.Tests.{T-of, Ways, word-of-test}
 use Rattle.higman.proofs.Prefixes.{after-append, tail-of-begins}
 use Rattle.words.specs.Packed.{pack, unpack, isPacked}
-use Rattle.words.specs.Bytes.{digitOf, digitsOf}
+use Rattle.higman.specs.Text.{digitOf, wordOf}
 use Rattle.words.proofs.Packing.{unpack-pack}
-use Rattle.words.proofs.Packed.{more-ways, packed-pack}
-use Rattle.words.proofs.Bytes.{digit-below}
+use Rattle.higman.proofs.PlanWords.{more-ways}
+use Rattle.words.proofs.Packed.{packed-pack}
+use Rattle.higman.proofs.Text.{digit-below}
 
 -- the digits of a code's bytes are at most 9, so one that is a digit at all is one from 1 to 9
-digits-ways : (n : ℕ) (code : List ℕ) → Ways n (digitsOf code) → Ways 9 (digitsOf code)
+digits-ways : (n : ℕ) (code : List ℕ) → Ways n (wordOf code) → Ways 9 (wordOf code)
 digits-ways n [] h = tt
 digits-ways n (b ∷ code) h = ((h .0 .0, digit-below b), digits-ways n code (h .1))
 
-pub spelled-ways : (s : Shape) (code : List ℕ) → isWord s (digitsOf code) ≡ true → Ways 9 (digitsOf code)
+pub spelled-ways : (s : Shape) (code : List ℕ) → isWord s (wordOf code) ≡ true → Ways 9 (wordOf code)
 spelled-ways s [] e = tt
 spelled-ways s (b ∷ code) e =
-    let h = word-of-test s (digitsOf (b ∷ code)) (T-of e) in
+    let h = word-of-test s (wordOf (b ∷ code)) (T-of e) in
     ((h .0 .0, digit-below b), digits-ways (s .arity) code (h .1))
 
 take-ways : (n k : ℕ) (w : Word) → Ways n w → Ways n (take k w)
@@ -35,28 +36,28 @@ take-ways n zero w h = tt
 take-ways n (suc k) [] h = tt
 take-ways n (suc k) (a ∷ w) h = (h .0, take-ways n k w (h .1))
 
-pub digits-take : (k : ℕ) (code : List ℕ) → digitsOf (take k code) ≡ take k (digitsOf code)
+pub digits-take : (k : ℕ) (code : List ℕ) → wordOf (take k code) ≡ take k (wordOf code)
 digits-take zero code = refl
 digits-take (suc k) [] = refl
 digits-take (suc k) (b ∷ code) = ap (λ w. digitOf b ∷ w) (digits-take k code)
 
-pub digits-drop : (k : ℕ) (code : List ℕ) → digitsOf (drop k code) ≡ drop k (digitsOf code)
+pub digits-drop : (k : ℕ) (code : List ℕ) → wordOf (drop k code) ≡ drop k (wordOf code)
 digits-drop zero code = refl
 digits-drop (suc k) [] = refl
 digits-drop (suc k) (b ∷ code) = digits-drop k code
 
 -- the front of a code, packed, holds the front of its word
-pub unpack-front-of-code : (s : Shape) (code : List ℕ) (k : ℕ) → isWord s (digitsOf code) ≡ true → unpack (pack (digitsOf (take k code))) ≡ take k (digitsOf code)
+pub unpack-front-of-code : (s : Shape) (code : List ℕ) (k : ℕ) → isWord s (wordOf code) ≡ true → unpack (pack (wordOf (take k code))) ≡ take k (wordOf code)
 unpack-front-of-code s code k e =
     ap (λ w. unpack (pack w)) (digits-take k code)
-    ∙ unpack-pack (take k (digitsOf code)) (more-ways (take k (digitsOf code)) (lit≤ tt) (take-ways 9 k (digitsOf code) (spelled-ways s code e)))
+    ∙ unpack-pack (take k (wordOf code)) (more-ways (take k (wordOf code)) (lit≤ tt) (take-ways 9 k (wordOf code) (spelled-ways s code e)))
 
 -- the whole word that a code spells
-pub unpack-spelled : (s : Shape) (code : List ℕ) → isWord s (digitsOf code) ≡ true → unpack (pack (digitsOf code)) ≡ digitsOf code
-unpack-spelled s code e = unpack-pack (digitsOf code) (more-ways (digitsOf code) (lit≤ tt) (spelled-ways s code e))
+pub unpack-spelled : (s : Shape) (code : List ℕ) → isWord s (wordOf code) ≡ true → unpack (pack (wordOf code)) ≡ wordOf code
+unpack-spelled s code e = unpack-pack (wordOf code) (more-ways (wordOf code) (lit≤ tt) (spelled-ways s code e))
 
-pub packed-spelled : (s : Shape) (code : List ℕ) → isWord s (digitsOf code) ≡ true → length (digitsOf code) ≤ maxDigits → T (isPacked (pack (digitsOf code)))
-packed-spelled s code e l = packed-pack (digitsOf code) (spelled-ways s code e) l
+pub packed-spelled : (s : Shape) (code : List ℕ) → isWord s (wordOf code) ≡ true → length (wordOf code) ≤ maxDigits → T (isPacked (pack (wordOf code)))
+packed-spelled s code e l = packed-pack (wordOf code) (spelled-ways s code e) l
 
 -- a word of at most k digits begins a word exactly if it begins its first k digits
 pub begins-take : (p w : Word) (k : ℕ) → length p ≤ k → begins p (take k w) ≡ begins p w

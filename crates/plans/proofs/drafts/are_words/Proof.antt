@@ -9,7 +9,8 @@ use native.Mathlib.Omega.{arith}
 use lib.ListN.{length, drop}
 use Rattle.higman.specs.Bases.{all}
 use Rattle.words.specs.Packed.{unpack}
-use Rattle.words.specs.Bytes.{shape, isPlanWord}
+use Rattle.higman.specs.Limits.{isPlanWord}
+use Rattle.words.specs.Bytes.{shape}
 use Rattle.columns.specs.Packed.{wordsOf}
 use Rattle.plans.proofs.Checks.{check-fails, check-passes, check-done, check-map}
 use Rattle.plans.proofs.drafts.are_words.Statement.{statement}

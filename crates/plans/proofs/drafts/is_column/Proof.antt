@@ -11,7 +11,8 @@ use lib.ListN.{length, take, drop, length-take, length-drop}
 use lib.Seq.{take-all}
 use Rattle.higman.specs.Words.{Shape}
 use Rattle.higman.specs.Bases.{all}
-use Rattle.words.specs.Bytes.{shape, isPlanWord}
+use Rattle.higman.specs.Limits.{isPlanWord}
+use Rattle.words.specs.Bytes.{shape}
 use Rattle.columns.specs.Packed.{wordsOf}
 use Rattle.plans.specs.Plans.{zeros, isColumn}
 use Rattle.plans.proofs.drafts.is_column.Statement.{statement}

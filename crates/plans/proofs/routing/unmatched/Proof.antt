@@ -8,7 +8,7 @@ use borrow.Author.Tests.{not-true, not-false}
 use lib.ListN.{length, drop}
 use lib.Seq.{length-take-le}
 use Rattle.higman.specs.Limits.{isCode}
-use Rattle.words.specs.Bytes.{digitsOf}
+use Rattle.higman.specs.Text.{wordOf}
 use Rattle.tables.specs.Routing.{further}
 use Rattle.plans.specs.Plans.{shapeOf, isPlan}
 use Rattle.plans.proofs.KeptValues as K
@@ -23,7 +23,7 @@ plan c = sym (c .before .is-plan .ensures) ∙ not-false (c .before .is-plan .re
 abbrev called : tie.Else2 → tie.Start
 called c = c .before .before .before .before .before
 
-code : (c : tie.Else2) → isCode (shapeOf (called c .args .p)) (digitsOf (called c .args .code .now)) ≡ true
+code : (c : tie.Else2) → isCode (shapeOf (called c .args .p)) (wordOf (called c .args .code .now)) ≡ true
 code c = sym (c .before .is-code .ensures) ∙ not-false (c .before .is-code .result) (c .if2 .left)
 
 from-room : (c : tie.Else2) → called c .args .p .pairs ≤ length (called c .args .p .from)

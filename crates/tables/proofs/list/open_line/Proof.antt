@@ -5,7 +5,7 @@ use mathlib.Core.Path.{_≡_, subst}
 use mathlib.Core.List.{List, [], _∷_}
 use borrow.Author.Needs.{needs}
 use native.Mathlib.Omega.{arith}
-use Rattle.higman.specs.Listing.{tab}
+use Rattle.higman.specs.Text.{tab}
 use Rattle.tables.specs.Lines.{Wrote}
 use Rattle.tables.proofs.Writing.{wrote-then}
 use Rattle.tables.proofs.list.open_line.Statement.{statement}

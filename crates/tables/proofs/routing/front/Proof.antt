@@ -5,7 +5,7 @@ use lib.ListN.{take}
 use lib.Seq.{take-all, length-take-le}
 use Rattle.higman.specs.Limits.{maxDigits}
 use Rattle.words.specs.Packed.{pack, unpack}
-use Rattle.words.specs.Bytes.{digitsOf}
+use Rattle.higman.specs.Text.{wordOf}
 use Rattle.words.proofs.Limit.{limit}
 use Rattle.tables.proofs.Routes.{front-of-code}
 use Rattle.tables.proofs.routing.front.Statement.{statement}
@@ -25,14 +25,14 @@ returns c =
     let s = c .before .before .before in
     let code = s .args .code .now in
     ap unpack (c .pack .ensures)
-    ∙ ap (λ l. unpack (pack (digitsOf l))) (sym (take-all maxDigits code (omega (arith, limit))))
+    ∙ ap (λ l. unpack (pack (wordOf l))) (sym (take-all maxDigits code (omega (arith, limit))))
     ∙ front-of-code code maxDigits (s .pre)
 
 returns-2 : tie.Need-returns-2
 returns-2 c =
     let s = c .before .before .before .before in
     let code = s .args .code .now in
-    ap unpack (c .pack2 .ensures) ∙ ap (λ k. unpack (pack (digitsOf (take k code)))) (sym limit) ∙ front-of-code code maxDigits (s .pre)
+    ap unpack (c .pack2 .ensures) ∙ ap (λ k. unpack (pack (wordOf (take k code)))) (sym limit) ∙ front-of-code code maxDigits (s .pre)
 
 pub front-spec : {M : Type 1} → statement M
 front-spec =

@@ -3,7 +3,7 @@ use mathlib.Core.Path.{sym, _∙_, ap}
 use borrow.Author.Needs.{needs}
 use native.Mathlib.Omega.{arith}
 use lib.ListN.{drop}
-use Rattle.words.specs.Bytes.{digitsOf}
+use Rattle.higman.specs.Text.{wordOf}
 use Rattle.columns.specs.Packed.{wordsOf}
 use Rattle.columns.specs.Columns.{wordAt}
 use Rattle.tables.specs.Routing.{further}
@@ -32,14 +32,14 @@ returns c =
     let p = t .before in
     let s = p .before .before .before in
     let a = s .args in
-    let found = sym (matched-digits (a .from .now) (s .pre .0 .apart) (p .place-of .result) (t .if1 .taken) (digitsOf (a .code .now)) (p .place-of .ensures .found (t .if1 .taken))) in
+    let found = sym (matched-digits (a .from .now) (s .pre .0 .apart) (p .place-of .result) (t .if1 .taken) (wordOf (a .code .now)) (p .place-of .ensures .found (t .if1 .taken))) in
     (c .behind .ensures .0 ∙ ap (λ n. drop n (a .code .now)) found, c .behind .ensures .1 ∙ ap (λ n. further n (a .code .ptr)) found)
 
 returns-2 : tie.Need-returns-2
 returns-2 c =
     let p = c .before in
     let a = p .before .before .before .args in
-    let none = sym (matched-none (wordsOf (a .from .now)) (digitsOf (a .code .now)) (p .place-of .ensures .none (omega (arith, p .place-of .ensures .within)))) in
+    let none = sym (matched-none (wordsOf (a .from .now)) (wordOf (a .code .now)) (p .place-of .ensures .none (omega (arith, p .place-of .ensures .within)))) in
     (ap (λ n. drop n (a .code .now)) none, here (a .code .ptr) ∙ ap (λ n. further n (a .code .ptr)) none)
 
 pub matched-spec : {M : Type 1} → statement M

@@ -9,8 +9,8 @@ use native.Mathlib.Omega.{arith}
 use lib.ListN.{length, drop, length-map}
 use Rattle.higman.specs.Words.{Word, begins}
 use Rattle.higman.specs.Tables.{image}
-use Rattle.higman.specs.Listing.{digitByte, wordBytes}
-use Rattle.words.specs.Bytes.{digitsOf, written}
+use Rattle.higman.specs.Text.{digitByte, wordBytes, wordOf}
+use Rattle.higman.specs.Buffers.{written}
 use Rattle.columns.specs.Packed.{table}
 use Rattle.columns.specs.Columns.{wordAt}
 use Rattle.tables.specs.declared.routing.Routed.the-variants.{Image}
@@ -23,7 +23,7 @@ use Rattle.tables.proofs.routing.route_into.Tie as tie
 begun : (c : tie.Else1) →
     let p = c .before in
     let a = p .before .before .before .before .before .args in
-    begins (wordAt (a .from .now) (p .place-of .result)) (digitsOf (a .code .now)) ≡ true
+    begins (wordAt (a .from .now) (p .place-of .result)) (wordOf (a .code .now)) ≡ true
 begun c = c .before .place-of .ensures .found (c .if1 .left)
 
 abbrev routed : tie.Else1 → Word
@@ -35,7 +35,7 @@ routed c =
 
 image-is : (c : tie.Else1) →
     let a = c .before .before .before .before .before .before .args in
-    image (table (a .from .now) (a .to .now)) (digitsOf (a .code .now)) ≡ some (routed c)
+    image (table (a .from .now) (a .to .now)) (wordOf (a .code .now)) ≡ some (routed c)
 image-is c =
     let p = c .before in
     let s = p .before .before .before .before .before in
@@ -68,7 +68,7 @@ returns : tie.Need-returns
 returns c =
     let p = c .before in
     let a = p .before .before .before .before .before .args in
-    route-too-short (a .out .now) (image-nowhere (a .from .now) (a .to .now) (digitsOf (a .code .now)) (p .place-of .ensures .none (omega (arith, p .place-of .ensures .within))))
+    route-too-short (a .out .now) (image-nowhere (a .from .now) (a .to .now) (wordOf (a .code .now)) (p .place-of .ensures .none (omega (arith, p .place-of .ensures .within))))
 
 mul-behind : tie.Need-mul-behind
 mul-behind c = search needs

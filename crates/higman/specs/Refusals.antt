@@ -1,0 +1,82 @@
+-- The numbers of document 01's refusals, each named in this one place beside its condition in the paper's words, and the letters of
+-- the two columns. Definitions, promises and code speak of the names. Read Answers.antt next.
+use Prim.Native.Nat.{ℕ}
+use mathlib.Core.Path.{_≡_, refl}
+use mathlib.Core.List.{[], _∷_, map}
+use Rattle.higman.specs.Text.{byte}
+
+-- "1, unknown letter, wrong number of fields, a field form, or a line too long"
+abbrev pub noRecord : ℕ
+noRecord = 1
+
+-- "2, an M or E with no plan open, or any other record while one is open"
+abbrev pub wrongState : ℕ
+wrongState = 2
+
+-- "3, n or r outside its range"
+abbrev pub shapeOutside : ℕ
+shapeOutside = 3
+
+-- "4, a word that is empty, too long or has a wrong digit"; of a routed code too
+abbrev pub badWord : ℕ
+badWord = 4
+
+-- "5, a 129th pair"
+abbrev pub pairsFull : ℕ
+pairsFull = 5
+
+-- "6, one word begins or equals another"
+abbrev pub wordsOverlap : ℕ
+wordsOverlap = 6
+
+-- "7, a belt isn't covered"
+abbrev pub rootUncovered : ℕ
+rootUncovered = 7
+
+-- "8, a slot byte outside A to H"
+abbrev pub slotOutside : ℕ
+slotOutside = 8
+
+-- "9, a or b empty": a slot that is read holds no plan
+abbrev pub slotEmpty : ℕ
+slotEmpty = 9
+
+-- "10, shapes differ"
+abbrev pub shapesDiffer : ℕ
+shapesDiffer = 10
+
+-- "11, the reduced result breaks a limit"; of a power: "some reduced power from 1 up to the size of k breaks a limit"
+abbrev pub limitBroken : ℕ
+limitBroken = 11
+
+-- "12, k outside −1,000 to 1,000"
+abbrev pub powerOutside : ℕ
+powerOutside = 12
+
+-- "13, the code is a proper beginning of a from-word"
+abbrev pub codeTooShort : ℕ
+codeTooShort = 13
+
+-- "14 last: the lent buffer is shorter than the output"
+abbrev pub bufferTooShort : ℕ
+bufferTooShort = 14
+
+-- "15 before all these: a plan or desk handed in isn't one as described above"
+abbrev pub invalidValue : ℕ
+invalidValue = 15
+
+-- "16, the count is at its limit"
+abbrev pub countFull : ℕ
+countFull = 16
+
+-- "those of E for a column add ⇥F or ⇥T (from, to)"
+pub data Letter : Type 0 where
+  F : Letter
+  T : Letter
+
+abbrev pub letterByte : Letter → ℕ
+letterByte F = byte "F"
+letterByte T = byte "T"
+
+letterByte-example : map letterByte (F ∷ T ∷ []) ≡ 70 ∷ 84 ∷ []
+letterByte-example = refl

@@ -1,0 +1,61 @@
+-- Text as bytes: the letters and lines of document 01 written as they are read, and words as the digits that spell them. Every
+-- text here is plain ASCII, where a character's code is its byte. Read Bases.antt next.
+use Prim.Native.Nat.{ℕ, _+_, _-_}
+use Prim.Native.Char.{Char, code}
+use Prim.Native.String.{String, [] as empty, _∷_ as _before_}
+use mathlib.Core.Path.{_≡_, refl}
+use mathlib.Core.Bool.{true, false, _&&_}
+use mathlib.Core.List.{List, [], _∷_, _++_, map}
+use lib.Dec.{leb}
+use Rattle.higman.specs.Words.{Word, spell}
+
+abbrev pub Bytes : Type 0
+Bytes = List ℕ
+
+abbrev pub byte : Char → ℕ
+byte c = code c
+
+abbrev pub bytes : String → Bytes
+bytes empty = []
+bytes (c before s) = code c ∷ bytes s
+
+-- "fields parted by tabs, lines ended by byte 10"
+abbrev pub tab : ℕ
+tab = 9
+
+abbrev pub lineEnd : ℕ
+lineEnd = 10
+
+-- lines, each ended by byte 10
+abbrev pub lines : List String → Bytes
+lines [] = []
+lines (l ∷ ls) = bytes l ++ lineEnd ∷ lines ls
+
+-- the byte of a digit: '0' is 48
+abbrev pub digitByte : ℕ → ℕ
+digitByte d = 48 + d
+
+abbrev pub wordBytes : Word → Bytes
+wordBytes w = map digitByte w
+
+-- "A code is a string of digits", 1 to 9: 0, which is no digit, for any byte but '1' to '9'.
+unfoldable pub digitOf : ℕ → ℕ
+digitOf b = elim (leb 49 b && leb b 57) [ true ↦ b - 48 | false ↦ 0 ]
+
+-- the word that bytes spell
+abbrev pub wordOf : Bytes → Word
+wordOf code = map digitOf code
+
+bytes-example : bytes "P\t1\n" ≡ 80 ∷ 9 ∷ 49 ∷ 10 ∷ []
+bytes-example = refl
+
+lines-example : lines ("ok" ∷ "no\t1" ∷ []) ≡ bytes "ok\nno\t1\n"
+lines-example = refl
+
+wordBytes-example : wordBytes (spell 1122) ≡ bytes "1122"
+wordBytes-example = refl
+
+-- bytes that are no digits from 1 to 9 give 0, a digit of no word
+wordOf-example : wordOf (bytes "1290/:A\t") ≡ 1 ∷ 2 ∷ 9 ∷ 0 ∷ 0 ∷ 0 ∷ 0 ∷ 0 ∷ []
+unfolding digitOf
+wordOf-example = refl
