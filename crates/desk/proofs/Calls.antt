@@ -1,19 +1,21 @@
 -- Library calls: what each answer says of the desk and of the lent buffer.
-use Prim.Native.Nat.{ℕ, _≤_, _<_}
+use Prim.Native.Nat.{ℕ, _+_, _≤_, _<_}
 use native.Mathlib.Omega.{arith}
 use mathlib.Core.Path.{_≡_, refl, sym, _∙_, ap, subst}
 use mathlib.Core.Bool.{Bool, true, false}
+use mathlib.Core.List.{_++_}
 use mathlib.Core.Option.{Option, none}
 use borrow.Author.Tests.{leb-true, lt-leb}
 use lib.Dec.{T, leb, le→leb}
 use lib.ListN.{length, drop, length-append, length-drop}
-use Rattle.higman.specs.Refusals.{Letter}
+use Rattle.higman.specs.Refusals.{bufferTooShort, invalidValue, Letter}
+use Rattle.higman.specs.Buffers.{written, ifRoom}
 use Rattle.higman.proofs.Tests.{so, T-of}
 use Rattle.higman.specs.Text.{Bytes}
 use Rattle.desk.specs.Desk.{Desk, IsDesk, isDesk, dropped}
 use Rattle.desk.specs.Replies.{Reply, Outcome, refuse, pass, _>>=_, Effect, settle}
 use Rattle.desk.specs.Bytes.{Order, replyBytes}
-use Rattle.desk.specs.Buffers.{Work, Lent, overwritten, lent, outputOf, deskAfter, lentCall, replyOf, plainCall}
+use Rattle.desk.specs.Buffers.{Work, Lent, lent, outputOf, deskLeft, lentCall, replyOf, plainCall}
 use Rattle.desk.specs.Theorems.{CallsExact}
 use Rattle.desk.proofs.Desks.{desk-test}
 
@@ -30,43 +32,48 @@ desk-false d h = go (isDesk d) refl
 
 -- the answer to a piece of work that has been done on a desk
 onDesk : Order → Desk → Outcome Effect → Bytes → Desk × Lent
-onDesk order d o buffer = let l = lent buffer (outputOf order o) in (deskAfter d o (l .answer), l)
+onDesk order d o buffer = let l = lent buffer (outputOf order o) in (deskLeft d o (l .answer), l)
 
 call-on-desk : (order : Order) (d : Desk) (work : Work) (buffer : Bytes) → IsDesk d → lentCall order d work buffer ≡ onDesk order d (work d) buffer
 unfolding lentCall onDesk
 call-on-desk order d work buffer h = rw (desk-true d h, lentCall)
 
-call-no-desk : (order : Order) (d : Desk) (work : Work) (buffer : Bytes) → isDesk d ≡ false → lentCall order d work buffer ≡ (d, record { buffer = buffer; answer = refuse 15 none })
+call-no-desk : (order : Order) (d : Desk) (work : Work) (buffer : Bytes) → isDesk d ≡ false → lentCall order d work buffer ≡ (d, record { buffer = buffer; answer = refuse invalidValue none })
 unfolding lentCall lent
 call-no-desk order d work buffer h = rw (h, lentCall)
 
-lent-short : (buffer output : Bytes) → leb (length output) (length buffer) ≡ false → lent buffer (pass output) ≡ record { buffer = buffer; answer = refuse 14 none }
+lent-short : (buffer output : Bytes) → leb (length output) (length buffer) ≡ false
+    → lent buffer (pass output) ≡ record { buffer = buffer; answer = refuse bufferTooShort none }
 unfolding lent
-lent-short buffer output e = rw (e, lent)
+lent-short buffer output e = rw (e, ifRoom)
 
-lent-long : (buffer output : Bytes) → leb (length output) (length buffer) ≡ true → lent buffer (pass output) ≡ record { buffer = overwritten buffer output; answer = pass (length output) }
+lent-long : (buffer output : Bytes) → leb (length output) (length buffer) ≡ true
+    → lent buffer (pass output) ≡ record { buffer = written buffer 0 output; answer = pass (length output) }
 unfolding lent
-lent-long buffer output e = rw (e, lent)
+lent-long buffer output e = rw (e, ifRoom)
 
-no-room : (order : Order) (d : Desk) (e : Effect) (buffer : Bytes) → length buffer < length (replyBytes order (e .1)) → onDesk order d (pass e) buffer ≡ (dropped d, record { buffer = buffer; answer = refuse 14 none })
+no-room : (order : Order) (d : Desk) (e : Effect) (buffer : Bytes) → length buffer < length (replyBytes order (e .1)) → onDesk order d (pass e) buffer ≡ (dropped d, record { buffer = buffer; answer = refuse bufferTooShort none })
 unfolding onDesk _>>=_
 no-room order d e buffer h =
-    ap (λ l. (deskAfter d (pass e) (l .answer), l)) (lent-short buffer (replyBytes order (e .1)) (lt-leb (length (replyBytes order (e .1))) (length buffer) h))
+    ap (λ l. (deskLeft d (pass e) (l .answer), l)) (lent-short buffer (replyBytes order (e .1)) (lt-leb (length (replyBytes order (e .1))) (length buffer) h))
 
-written : (order : Order) (d : Desk) (e : Effect) (buffer : Bytes) → length (replyBytes order (e .1)) ≤ length buffer
-    → onDesk order d (pass e) buffer ≡ (e .0, record { buffer = overwritten buffer (replyBytes order (e .1)); answer = pass (length (replyBytes order (e .1))) })
+done : (order : Order) (d : Desk) (e : Effect) (buffer : Bytes) → length (replyBytes order (e .1)) ≤ length buffer
+    → onDesk order d (pass e) buffer ≡ (e .0, record { buffer = written buffer 0 (replyBytes order (e .1)); answer = pass (length (replyBytes order (e .1))) })
 unfolding onDesk _>>=_
-written order d e buffer h =
+done order d e buffer h =
     let output = replyBytes order (e .1) in
-    ap (λ l. (deskAfter d (pass e) (l .answer), l)) (lent-long buffer output (so (leb (length output) (length buffer)) (le→leb (length output) (length buffer) h)))
+    ap (λ l. (deskLeft d (pass e) (l .answer), l)) (lent-long buffer output (so (leb (length output) (length buffer)) (le→leb (length output) (length buffer) h)))
 
 stopped : (order : Order) (d : Desk) (n : ℕ) (c : Option Letter) (buffer : Bytes) → onDesk order d (refuse n c) buffer ≡ (dropped d, record { buffer = buffer; answer = refuse n c })
 unfolding onDesk lent _>>=_
 stopped order d n c buffer = refl
 
 -- the length of a buffer after output was written to it
-overwritten-length : (buffer output : Bytes) → length output ≤ length buffer → length (overwritten buffer output) ≡ length buffer
-overwritten-length buffer output h = omega (arith, length-append output (drop (length output) buffer), length-drop (length output) buffer)
+written-length : (buffer output : Bytes) → length output ≤ length buffer → length (written buffer 0 output) ≡ length buffer
+written-length buffer output h = front-length
+  where
+    front-length : length (output ++ drop (0 + length output) buffer) ≡ length buffer
+    front-length = omega (arith, length-append output (drop (0 + length output) buffer), length-drop (0 + length output) buffer)
 
 abbrev IsRefusal : Outcome ℕ → Type 0
 IsRefusal (refuse n c) = Unit {0}
@@ -80,26 +87,27 @@ record Sound (buffer : Bytes) (l : Lent) : Type 0 where
 lent-sound : (buffer : Bytes) (o : Outcome Bytes) → Sound buffer (lent buffer o)
 unfolding lent
 lent-sound buffer (refuse n c) = record { held = λ _. refl; same-length = refl }
-lent-sound buffer (pass output) = go (leb (length output) (length buffer)) refl
+lent-sound buffer (pass output) = by-room (leb (length output) (length buffer)) refl
   where
-    go : (b : Bool) → leb (length output) (length buffer) ≡ b
-        → Sound buffer (elim b as (λ _. Lent) [ true ↦ record { buffer = overwritten buffer output; answer = pass (length output) } | false ↦ record { buffer = buffer; answer = refuse 14 none } ])
-    go true e = record { held = λ r. absurd r; same-length = overwritten-length buffer output (leb-true (length output) (length buffer) e) }
-    go false e = record { held = λ _. refl; same-length = refl }
+    by-room : (b : Bool) → leb (length output) (length buffer) ≡ b → Sound buffer (lent buffer (pass output))
+    by-room true e =
+        let long = written-length buffer output (leb-true (length output) (length buffer) e) in
+        subst (Sound buffer) (sym (lent-long buffer output e)) (record { held = λ r. absurd r; same-length = long })
+    by-room false e = subst (Sound buffer) (sym (lent-short buffer output e)) (record { held = λ _. refl; same-length = refl })
 
 call-sound : (order : Order) (d : Desk) (work : Work) (buffer : Bytes) → Sound buffer (lentCall order d work buffer .1)
 unfolding lentCall
 call-sound order d work buffer = go (isDesk d)
   where
-    go : (b : Bool) → Sound buffer ((elim b as (λ _. Desk × Lent) [ true ↦ (let l = lent buffer (outputOf order (work d)) in (deskAfter d (work d) (l .answer), l)) | false ↦ (d, lent buffer (refuse 15 none)) ]) .1)
+    go : (b : Bool) → Sound buffer ((elim b as (λ _. Desk × Lent) [ true ↦ (let l = lent buffer (outputOf order (work d)) in (deskLeft d (work d) (l .answer), l)) | false ↦ (d, lent buffer (refuse invalidValue none)) ]) .1)
     go true = lent-sound buffer (outputOf order (work d))
-    go false = lent-sound buffer (refuse 15 none)
+    go false = lent-sound buffer (refuse invalidValue none)
 
 plain-on-desk : (d : Desk) (work : Work) → IsDesk d → plainCall d work ≡ (settle d (work d) .0, replyOf (work d))
 unfolding plainCall
 plain-on-desk d work h = rw (desk-true d h, plainCall)
 
-plain-no-desk : (d : Desk) (work : Work) → isDesk d ≡ false → plainCall d work ≡ (d, refuse 15 none)
+plain-no-desk : (d : Desk) (work : Work) → isDesk d ≡ false → plainCall d work ≡ (d, refuse invalidValue none)
 unfolding plainCall
 plain-no-desk d work h = rw (h, plainCall)
 
@@ -113,7 +121,7 @@ calls-exact =
       no-desk = λ order d work buffer h. call-no-desk order d work buffer (desk-false d h);
       refused = λ order d work buffer n c h e. call-on-desk order d work buffer h ∙ ap (λ o. onDesk order d o buffer) e ∙ stopped order d n c buffer;
       no-room = λ order d work buffer e h p k. call-on-desk order d work buffer h ∙ ap (λ o. onDesk order d o buffer) p ∙ no-room order d e buffer k;
-      written = λ order d work buffer e h p k. call-on-desk order d work buffer h ∙ ap (λ o. onDesk order d o buffer) p ∙ written order d e buffer k;
+      done = λ order d work buffer e h p k. call-on-desk order d work buffer h ∙ ap (λ o. onDesk order d o buffer) p ∙ done order d e buffer k;
       buffer-held = λ order d work buffer n c e. call-sound order d work buffer .held (subst IsRefusal (sym e) tt);
       buffer-length = λ order d work buffer. call-sound order d work buffer .same-length;
       plain-no-desk = λ d work h. plain-no-desk d work (desk-false d h);

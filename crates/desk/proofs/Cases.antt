@@ -6,14 +6,14 @@ use Rattle.higman.specs.Text.{digitOf}
 use Rattle.higman.specs.Answers.{verdict, followed, inverted, raised, powered, same, routed}
 use Rattle.desk.specs.Limits.{maxChanges, maxLine, maxNumeral}
 use Rattle.desk.specs.Desk.{freshDesk, changed, withDraft, dropped}
-use Rattle.desk.specs.Records.{grammar, parse}
-use Rattle.desk.specs.Replies.{_>>=_, operation, lineOperation, respondLine}
-use Rattle.desk.specs.Bytes.{Order, replyBytes}
-use Rattle.desk.specs.Session.{feedByte, feed, finish, session}
+use Rattle.desk.specs.Records.{grammar, parse, needsOpen, slotsNamed, isChange}
+use Rattle.desk.specs.Replies.{_>>=_, job, operation, lineOperation, respondLine, run}
+use Rattle.desk.specs.Bytes.{replyBytes}
+use Rattle.desk.specs.Session.{session}
 use Rattle.desk.specs.Cases.{starSessions, otherSessions, surveySessions, DeskCases}
 
 pub desk-cases : DeskCases
-unfolding starSessions otherSessions surveySessions session finish feed feedByte replyBytes _>>=_ respondLine lineOperation operation parse grammar freshDesk changed withDraft dropped slotCount maxChanges maxLine maxNumeral isPlanWord digitOf maxPairs maxDigits maxCode maxPower shapeInRange granted isCode verdict followed inverted raised powered same routed keep compose inverse identity normalForm normal joined
+unfolding starSessions otherSessions surveySessions session run replyBytes _>>=_ respondLine lineOperation operation job needsOpen slotsNamed isChange parse grammar freshDesk changed withDraft dropped slotCount maxChanges maxLine maxNumeral isPlanWord digitOf maxPairs maxDigits maxCode maxPower shapeInRange granted isCode verdict followed inverted raised powered same routed keep compose inverse identity normalForm normal joined
 desk-cases =
     record {
       star = λ order. (refl, (refl, (refl, (refl, (refl, (refl, (refl, (refl, (refl, (refl, tt))))))))));

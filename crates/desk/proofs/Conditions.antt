@@ -1,27 +1,33 @@
--- Each number under its condition and no other: an operation is refused with the first condition of the paper's table that holds, and
--- done where none holds. One law for each kind of step, applied step by step.
+-- Each number under its condition and no other: on a desk an operation is refused with the first condition of the paper's table that
+-- holds, and done where none holds. One law for each kind of step, applied step by step; for 11 of a power and 13 of a code, which the
+-- answers decide in their own way, the theorems of higman say that the paper's words mean the same.
 use Prim.Native.Nat.{ℕ}
+use native.Mathlib.Omega.{arith}
+use mathlib.Core.Logic.{_⊎_, inl, inr}
 use mathlib.Core.Path.{_≡_, refl, sym, _∙_, ap, subst}
 use mathlib.Core.Bool.{Bool, true, false, _&&_, _||_, not}
-use mathlib.Core.List.{List, [], _∷_}
+use mathlib.Core.List.{List, [], _∷_, _++_, List·Memᴰ, List·Memᴰ·head, List·Memᴰ·tail, List·Memᴰ·cases-cons, List·Memᴰ·not-nil, Memᴰ·map, Memᴰ·of-map}
 use mathlib.Core.Option.{Option, none, some}
 use lib.Dec.{leb}
-use borrow.Author.Tests.{not-false}
-use lib.IntN.{ℤ, natAbs}
+use borrow.Author.Tests.{not-false, not-true}
+use lib.IntN.{ℤ, pos, negsuc, natAbs}
 use lib.ListN.{length}
-use Rattle.higman.specs.Words.{Shape, Word, given}
-use Rattle.higman.specs.Bases.{overlap, gap}
+use Rattle.higman.specs.Words.{Shape, Word, count, after, given, beginsProperly}
+use Rattle.higman.specs.Bases.{anyOf, overlap, gap}
 use Rattle.higman.specs.Tables.{Table, froms, tos, image, sameTable}
-use Rattle.higman.specs.Normal.{compose}
-use Rattle.higman.specs.Limits.{Plan, shapeInRange, granted, isCode, maxPairs, maxPower, isPlanWord}
+use Rattle.higman.specs.Normal.{compose, repeated, power}
+use Rattle.higman.specs.Limits.{Plan, Kept, shapeInRange, granted, isCode, maxPairs, maxPower, isPlanWord}
 use Rattle.higman.specs.Answers.{Reason, Overlap, Gap, Verdict, Accepted, InFrom, InTo, verdict, Answer, Granted, Refused, ShapesDiffer, LimitBroken, BadCode, Comparison, Alike, NotCompared, Route, Image, TooShort, NotRouted, sameShape, raised, repeatable, followed, inverted, powered, same, routed}
-use Rattle.higman.specs.Refusals.{Letter}
-use Rattle.desk.specs.Desk.{Draft, Desk, held}
-use Rattle.desk.specs.Records.{Record, P, M, E, F, I, K, S, W, L, C, T, U}
+use Rattle.higman.specs.Refusals.{wrongState, badWord, wordsOverlap, rootUncovered, slotEmpty, shapesDiffer, limitBroken, codeTooShort, Letter}
+use Rattle.higman.proofs.Tests.{T-of, clash, or-cases, or-true-left, or-true-right, count-bounds, count-mem}
+use Rattle.higman.proofs.Prefixes.{after-append, after-some}
+use Rattle.higman.proofs.Statements.{answers-exact}
+use Rattle.desk.specs.Desk.{Draft, Desk, held, IsDesk}
+use Rattle.desk.specs.Records.{Record, P, M, E, F, I, K, S, W, L, C, T as Tᴿ, U, needsOpen, slotsNamed, isChange}
 use Rattle.higman.specs.Listing.{slotNumber}
 use Rattle.higman.specs.Text.{wordOf}
-use Rattle.desk.specs.Replies.{Outcome, refuse, pass, _>>=_, _when_, isOpen, outside, atLimit, openPlan, planIn, ofVerdict, ofAnswer, ofComparison, ofRoute, operation}
-use Rattle.desk.specs.Conditions.{Condition, _if_, inColumn, isEmpty, ofPlan, ofBoth, conditions, firstOf, refusalOf}
+use Rattle.desk.specs.Replies.{Outcome, refuse, pass, _>>=_, _when_, isOpen, openAmiss, outside, atLimit, openPlan, planIn, ofVerdict, ofAnswer, ofComparison, ofRoute, job, operation}
+use Rattle.desk.specs.Conditions.{Condition, _if_, inColumn, isEmpty, ofPlan, ofBoth, ownConditions, conditions, firstOf, refusalOf}
 
 -- an outcome is refused as the first condition that holds says
 record Says {A : Type 0} (o : Outcome A) (cs : List Condition) : Type 0 where
@@ -31,44 +37,63 @@ done : {A : Type 0} {a : A} → Says (pass a) []
 done = record { says = refl }
 
 -- a test that refuses, and the steps behind it, which are taken where it fails
-when-then : {A : Type 0} {n : ℕ} (b : Bool) {f : Unit {0} → Outcome A} {cs : List Condition} → ((u : Unit {0}) → b ≡ false → Says (f u) cs) → Says ((n when b) >>= f) ((n if b) ∷ cs)
+when-then : {A : Type 0} {n : ℕ} (b : Bool) {f : Unit {0} → Outcome A} {cs : List Condition} → ((u : Unit {0}) → b ≡ false → Says (f u) cs)
+    → Says ((n when b) >>= f) ((n if b) ∷ cs)
 unfolding _>>=_
 when-then true h = record { says = refl }
 when-then false h = record { says = h tt refl .says }
 
--- the open plan
-open-then : {A : Type 0} (d : Desk) {f : Draft → Outcome A} {cs : List Condition} → ((o : Draft) → d .draft ≡ some o → Says (f o) cs) → Says (openPlan d >>= f) ((2 if not (isOpen d)) ∷ cs)
-unfolding _>>=_
-open-then d {f} {cs} h = go (d .draft) h
+-- steps with their conditions, and the steps behind them with theirs
+first-append : (cs ds : List Condition) → firstOf (cs ++ ds) ≡ elim (firstOf cs) [ none ↦ firstOf ds | some x ↦ some x ]
+first-append [] ds = refl
+first-append (c ∷ cs) ds = by-test (c .holds) (first-append cs ds)
   where
-    go : (x : Option Draft) → ((o : Draft) → x ≡ some o → Says (f o) cs) → Says ((elim x as (λ _. Outcome Draft) [ none ↦ refuse 2 none | some o ↦ pass o ]) >>= f) ((2 if not (given x)) ∷ cs)
-    go none h = record { says = refl }
-    go (some o) h = record { says = h o refl .says }
+    by-test : (b : Bool) → firstOf (cs ++ ds) ≡ elim (firstOf cs) [ none ↦ firstOf ds | some x ↦ some x ]
+        → _≡_ {A = Option (ℕ × Option Letter)} (elim b [ true ↦ some (c .number, c .column) | false ↦ firstOf (cs ++ ds) ])
+        (elim (elim b as (λ _. Option (ℕ × Option Letter)) [ true ↦ some (c .number, c .column) | false ↦ firstOf cs ]) [ none ↦ firstOf ds | some x ↦ some x ])
+    by-test true e = refl
+    by-test false e = e
+
+says-then : {A B : Type 0} (o : Outcome A) {f : A → Outcome B} {cs ds : List Condition} → Says o cs → ((a : A) → Says (f a) ds) → Says (o >>= f) (cs ++ ds)
+unfolding _>>=_
+says-then (refuse n c) {cs = cs} {ds} h k = record { says = sym (first-append cs ds ∙ ap (λ x. elim x [ none ↦ firstOf ds | some y ↦ some y ]) (sym (h .says))) }
+says-then (pass a) {cs = cs} {ds} h k = record { says = k a .says ∙ sym (first-append cs ds ∙ ap (λ x. elim x [ none ↦ firstOf ds | some y ↦ some y ]) (sym (h .says))) }
+
+-- the open plan, where there is one
+open-then : {A : Type 0} (d : Desk) {f : Draft → Outcome A} {cs : List Condition} → not (isOpen d) ≡ false
+    → ((o : Draft) → d .draft ≡ some o → Says (f o) cs) → Says (openPlan d >>= f) cs
+unfolding _>>=_
+open-then d {f} {cs} e h = by-draft (d .draft) e h
+  where
+    by-draft : (x : Option Draft) → not (given x) ≡ false → ((o : Draft) → x ≡ some o → Says (f o) cs)
+        → Says ((elim x as (λ _. Outcome Draft) [ none ↦ refuse wrongState none | some o ↦ pass o ]) >>= f) cs
+    by-draft none e h = absurd (clash refl e)
+    by-draft (some o) e h = record { says = h o refl .says }
 
 -- the plan in a slot
-plan-then : {A : Type 0} (d : Desk) (a : ℕ) {f : Plan → Outcome A} {cs : List Condition} → ((p : Plan) → held d (slotNumber a) ≡ some p → Says (f p) cs) → Says (planIn d a >>= f) ((9 if isEmpty d a) ∷ cs)
+plan-then : {A : Type 0} (d : Desk) (a : ℕ) {f : Plan → Outcome A} {cs : List Condition} → ((p : Plan) → held d (slotNumber a) ≡ some p → Says (f p) cs) → Says (planIn d a >>= f) ((slotEmpty if isEmpty d a) ∷ cs)
 unfolding _>>=_
 plan-then d a {f} {cs} h = go (held d (slotNumber a)) h
   where
-    go : (x : Option Plan) → ((p : Plan) → x ≡ some p → Says (f p) cs) → Says ((elim x as (λ _. Outcome Plan) [ none ↦ refuse 9 none | some p ↦ pass p ]) >>= f) ((9 if not (given x)) ∷ cs)
+    go : (x : Option Plan) → ((p : Plan) → x ≡ some p → Says (f p) cs) → Says ((elim x as (λ _. Outcome Plan) [ none ↦ refuse slotEmpty none | some p ↦ pass p ]) >>= f) ((slotEmpty if not (given x)) ∷ cs)
     go none h = record { says = refl }
     go (some p) h = record { says = h p refl .says }
 
 -- the plans in two slots
 plans-then : {A : Type 0} (d : Desk) (a b : ℕ) {f : Plan → Plan → Outcome A} {cs : List Condition} → ((p q : Plan) → held d (slotNumber a) ≡ some p → held d (slotNumber b) ≡ some q → Says (f p q) cs)
-    → Says (planIn d a >>= λ p. planIn d b >>= λ q. f p q) ((9 if isEmpty d a || isEmpty d b) ∷ cs)
+    → Says (planIn d a >>= λ p. planIn d b >>= λ q. f p q) ((slotEmpty if isEmpty d a || isEmpty d b) ∷ cs)
 unfolding _>>=_
 plans-then d a b {f} {cs} h = go (held d (slotNumber a)) (held d (slotNumber b)) h
   where
     go : (x y : Option Plan) → ((p q : Plan) → x ≡ some p → y ≡ some q → Says (f p q) cs)
-        → Says ((elim x as (λ _. Outcome Plan) [ none ↦ refuse 9 none | some p ↦ pass p ]) >>= λ p. (elim y as (λ _. Outcome Plan) [ none ↦ refuse 9 none | some q ↦ pass q ]) >>= λ q. f p q) ((9 if not (given x) || not (given y)) ∷ cs)
+        → Says ((elim x as (λ _. Outcome Plan) [ none ↦ refuse slotEmpty none | some p ↦ pass p ]) >>= λ p. (elim y as (λ _. Outcome Plan) [ none ↦ refuse slotEmpty none | some q ↦ pass q ]) >>= λ q. f p q) ((slotEmpty if not (given x) || not (given y)) ∷ cs)
     go none y h = record { says = refl }
     go (some p) none h = record { says = refl }
     go (some p) (some q) h = record { says = h p q refl refl .says }
 
 -- E: the verdict is the two checks of the one column and then of the other
 verdict-then : {A : Type 0} (s : Shape) (t : Table) {f : Unit {0} → Outcome A} {cs : List Condition} → ((u : Unit {0}) → Says (f u) cs)
-    → Says (ofVerdict (verdict s t) >>= f) (inColumn 6 Letter.F (overlap (froms t)) ∷ inColumn 7 Letter.F (gap s (froms t)) ∷ inColumn 6 Letter.T (overlap (tos t)) ∷ inColumn 7 Letter.T (gap s (tos t)) ∷ cs)
+    → Says (ofVerdict (verdict s t) >>= f) (inColumn wordsOverlap Letter.F (overlap (froms t)) ∷ inColumn rootUncovered Letter.F (gap s (froms t)) ∷ inColumn wordsOverlap Letter.T (overlap (tos t)) ∷ inColumn rootUncovered Letter.T (gap s (tos t)) ∷ cs)
 unfolding _>>=_ verdict
 verdict-then s t {f} {cs} h = go (overlap (froms t)) (gap s (froms t)) (overlap (tos t)) (gap s (tos t))
   where
@@ -77,7 +102,7 @@ verdict-then s t {f} {cs} h = go (overlap (froms t)) (gap s (froms t)) (overlap 
 
     go : (a b c d : Bool)
         → Says (ofVerdict (elim (faulty a b) as (λ _. Verdict) [ some r ↦ InFrom r | none ↦ elim (faulty c d) [ some r ↦ InTo r | none ↦ Accepted ] ]) >>= f)
-        (inColumn 6 Letter.F a ∷ inColumn 7 Letter.F b ∷ inColumn 6 Letter.T c ∷ inColumn 7 Letter.T d ∷ cs)
+        (inColumn wordsOverlap Letter.F a ∷ inColumn rootUncovered Letter.F b ∷ inColumn wordsOverlap Letter.T c ∷ inColumn rootUncovered Letter.T d ∷ cs)
     go true b c d = record { says = refl }
     go false true c d = record { says = refl }
     go false false true d = record { says = refl }
@@ -86,13 +111,13 @@ verdict-then s t {f} {cs} h = go (overlap (froms t)) (gap s (froms t)) (overlap 
 
 -- F: the shapes, and then the limits
 followed-then : {A : Type 0} (p q : Plan) {f : Plan → Outcome A} {cs : List Condition} → ((r : Plan) → Says (f r) cs)
-    → Says (ofAnswer (followed p q) >>= f) ((10 if not (sameShape (p .shape) (q .shape))) ∷ (11 if not (granted (compose (p .shape) (p .rows) (q .rows)))) ∷ cs)
+    → Says (ofAnswer (followed p q) >>= f) ((shapesDiffer if not (sameShape (p .shape) (q .shape))) ∷ (limitBroken if not (granted (compose (p .shape) (p .rows) (q .rows)))) ∷ cs)
 unfolding _>>=_ followed
 followed-then p q {f} {cs} h = go (sameShape (p .shape) (q .shape)) (granted (compose (p .shape) (p .rows) (q .rows)))
   where
     go : (a b : Bool)
         → Says (ofAnswer (elim a as (λ _. Answer) [ true ↦ elim b [ true ↦ Granted (record { shape = p .shape; rows = compose (p .shape) (p .rows) (q .rows) }) | false ↦ Refused LimitBroken ] | false ↦ Refused ShapesDiffer ]) >>= f)
-        ((10 if not a) ∷ (11 if not b) ∷ cs)
+        ((shapesDiffer if not a) ∷ (limitBroken if not b) ∷ cs)
     go false b = record { says = refl }
     go true false = record { says = refl }
     go true true = record { says = h _ .says }
@@ -102,38 +127,135 @@ inverted-then : {A : Type 0} (p : Plan) {f : Plan → Outcome A} {cs : List Cond
 unfolding _>>=_ inverted
 inverted-then p h = record { says = h _ .says }
 
--- K: the powers on the way, where k itself is in its range
-powered-then : {A : Type 0} (p : Plan) (k : ℤ) {f : Plan → Outcome A} {cs : List Condition} → leb (natAbs k) maxPower ≡ true → ((r : Plan) → Says (f r) cs)
-    → Says (ofAnswer (powered p k) >>= f) ((11 if not (given (raised (p .shape) (repeatable p k) (natAbs k)))) ∷ cs)
-unfolding _>>=_ powered
-powered-then p k {f} {cs} e h = rw (e, powered) (go (raised (p .shape) (repeatable p k) (natAbs k)))
+-- what a test at some element found
+any-found : {A : Type 0} (f : A → Bool) (l : List A) → anyOf f l ≡ true → (x : A) × List·Memᴰ x l × (f x ≡ true)
+any-found f [] e = absurd (clash e refl)
+any-found {A = A} f (x ∷ l) e = by-place (or-cases (f x) (anyOf f l) e) (λ k. any-found f l k)
   where
-    go : (o : Option Table)
-        → Says (ofAnswer (elim o as (λ _. Answer) [ some t ↦ Granted (record { shape = p .shape; rows = t }) | none ↦ Refused LimitBroken ]) >>= f)
-        ((11 if not (given o)) ∷ cs)
-    go none = record { says = refl }
-    go (some t) = record { says = h _ .says }
+    by-place : (f x ≡ true) ⊎ (anyOf f l ≡ true) → (anyOf f l ≡ true → (y : A) × List·Memᴰ y l × (f y ≡ true)) → (y : A) × List·Memᴰ y (x ∷ l) × (f y ≡ true)
+    by-place (inl h) later = (x, List·Memᴰ·head refl, h)
+    by-place (inr h) later = let (y, m, k) = later h in (y, List·Memᴰ·tail m, k)
+
+any-of : {A : Type 0} (f : A → Bool) (l : List A) (x : A) → List·Memᴰ x l → f x ≡ true → anyOf f l ≡ true
+any-of f [] x m e = absurd (List·Memᴰ·not-nil m)
+any-of f (y ∷ l) x m e = by-place (List·Memᴰ·cases-cons m) (λ k. any-of f l x k e)
+  where
+    by-place : (x ≡ y) ⊎ List·Memᴰ x l → (List·Memᴰ x l → anyOf f l ≡ true) → (f y || anyOf f l) ≡ true
+    by-place (inl h) later = or-true-left (f y) (anyOf f l) (subst (λ z. f z ≡ true) h e)
+    by-place (inr k) later = or-true-right (f y) (anyOf f l) (later k)
+
+-- K: "some reduced power from 1 up to the size of k breaks a limit", where k itself is in its range
+module _ (p : Plan) (kept : Kept p) (k : ℤ) (e : leb (natAbs k) maxPower ≡ true) where
+  abbrev breaksAt : ℕ → Bool
+  breaksAt j = not (granted (power (p .shape) (p .rows) (pos j)))
+
+  abbrev someBreaks : Bool
+  someBreaks = anyOf breaksAt (count 1 (natAbs k))
+
+  -- below zero the powers are those of the inverse, which break a limit where the plan's do
+  same-limits : (k : ℤ) (j : ℕ) → granted (repeated (p .shape) (repeatable p k) j) ≡ granted (power (p .shape) (p .rows) (pos j))
+  unfolding power
+  same-limits (pos n) j = refl
+  same-limits (negsuc n) j = answers-exact .power-below p kept j
+
+  refused-of-some : someBreaks ≡ true → powered p k ≡ Refused LimitBroken
+  refused-of-some s =
+      let (j, m, b) = any-found breaksAt (count 1 (natAbs k)) s in
+      let (low, high) = count-bounds 1 (natAbs k) j m in
+      let broken = same-limits k j ∙ not-true (granted (power (p .shape) (p .rows) (pos j))) b in
+      answers-exact .power-refused p k .1 (T-of e, (j, low, omega arith, broken))
+
+  some-of-refused : powered p k ≡ Refused LimitBroken → someBreaks ≡ true
+  some-of-refused r =
+      let (j, low, high, broken) = answers-exact .power-refused p k .0 r .1 in
+      any-of breaksAt (count 1 (natAbs k)) j (count-mem 1 (natAbs k) j low (omega arith)) (ap not (sym (same-limits k j) ∙ broken))
+
+  granted-of-none : someBreaks ≡ false → (q : Plan) × (powered p k ≡ Granted q)
+  unfolding powered
+  granted-of-none s = by-power (raised (p .shape) (repeatable p k) (natAbs k)) refl
+    where
+      answer : (o : Option Table) → raised (p .shape) (repeatable p k) (natAbs k) ≡ o
+          → powered p k ≡ elim o [ some t ↦ Granted (record { shape = p .shape; rows = t }) | none ↦ Refused LimitBroken ]
+      answer o h = rw (e, powered) (ap (λ o. elim o as (λ _. Answer) [ some t ↦ Granted (record { shape = p .shape; rows = t }) | none ↦ Refused LimitBroken ]) h)
+
+      by-power : (o : Option Table) → raised (p .shape) (repeatable p k) (natAbs k) ≡ o → (q : Plan) × (powered p k ≡ Granted q)
+      by-power none h = absurd (clash (some-of-refused (answer none h)) s)
+      by-power (some t) h = (record { shape = p .shape; rows = t }, answer (some t) h)
+
+  powered-then : {A : Type 0} {f : Plan → Outcome A} {cs : List Condition} → ((r : Plan) → Says (f r) cs)
+      → Says (ofAnswer (powered p k) >>= f) ((limitBroken if someBreaks) ∷ cs)
+  unfolding _>>=_
+  powered-then {f = f} {cs} h = by-test someBreaks refl
+    where
+      by-test : (b : Bool) → someBreaks ≡ b → Says (ofAnswer (powered p k) >>= f) ((limitBroken if b) ∷ cs)
+      by-test true s = subst (λ x. Says (ofAnswer x >>= f) ((limitBroken if true) ∷ cs)) (sym (refused-of-some s)) (record { says = refl })
+      by-test false s =
+          let (q, g) = granted-of-none s in
+          subst (λ x. Says (ofAnswer x >>= f) ((limitBroken if false) ∷ cs)) (sym g) (record { says = h q .says })
 
 -- S: the shapes
-same-then : {A : Type 0} (p q : Plan) {f : Bool → Outcome A} → ((b : Bool) → Says (f b) []) → Says (ofComparison (same p q) >>= f) ((10 if not (sameShape (p .shape) (q .shape))) ∷ [])
+same-then : {A : Type 0} (p q : Plan) {f : Bool → Outcome A} → ((b : Bool) → Says (f b) []) → Says (ofComparison (same p q) >>= f) ((shapesDiffer if not (sameShape (p .shape) (q .shape))) ∷ [])
 unfolding _>>=_ same
 same-then p q {f} h = go (sameShape (p .shape) (q .shape))
   where
-    go : (a : Bool) → Says (ofComparison (elim a as (λ _. Comparison) [ true ↦ Alike (sameTable (p .rows) (q .rows)) | false ↦ NotCompared ShapesDiffer ]) >>= f) ((10 if not a) ∷ [])
+    go : (a : Bool) → Says (ofComparison (elim a as (λ _. Comparison) [ true ↦ Alike (sameTable (p .rows) (q .rows)) | false ↦ NotCompared ShapesDiffer ]) >>= f) ((shapesDiffer if not a) ∷ [])
     go false = record { says = refl }
     go true = record { says = h _ .says }
 
--- W: the code, and then its length
-routed-then : {A : Type 0} (p : Plan) (c : Word) {f : Word → Outcome A} → ((w : Word) → Says (f w) []) → Says (ofRoute (routed p c) >>= f) ((4 if not (isCode (p .shape) c)) ∷ (13 if not (given (image (p .rows) c))) ∷ [])
-unfolding _>>=_ routed
-routed-then p c {f} h = go (isCode (p .shape) c) (image (p .rows) c)
+abbrev IsShort : Route → Type 0
+IsShort TooShort = Unit {0}
+IsShort (Image v) = ⊥
+IsShort (NotRouted r) = ⊥
+
+-- W: the code, and then "the code is a proper beginning of a from-word"
+proper-tail : (u w : Word) → beginsProperly u w ≡ true → (i : ℕ) × (x : Word) × (w ≡ u ++ i ∷ x)
+proper-tail u w e = by-tail (after u w) refl e
   where
-    go : (a : Bool) (o : Option Word)
-        → Says (ofRoute (elim a as (λ _. Route) [ true ↦ elim o [ some v ↦ Image v | none ↦ TooShort ] | false ↦ NotRouted BadCode ]) >>= f)
-        ((4 if not a) ∷ (13 if not (given o)) ∷ [])
-    go false o = record { says = refl }
-    go true none = record { says = refl }
-    go true (some v) = record { says = h _ .says }
+    by-tail : (o : Option Word) → after u w ≡ o → elim o [ none ↦ false | some x ↦ elim x [ [] ↦ false | i ∷ y ↦ true ] ] ≡ true
+        → (i : ℕ) × (x : Word) × (w ≡ u ++ i ∷ x)
+    by-tail none h k = absurd (clash k refl)
+    by-tail (some []) h k = absurd (clash k refl)
+    by-tail (some (i ∷ x)) h k = (i, x, after-some u w (i ∷ x) h)
+
+proper-of-tail : (u w : Word) (i : ℕ) (x : Word) → w ≡ u ++ i ∷ x → beginsProperly u w ≡ true
+proper-of-tail u w i x e = subst (λ v. beginsProperly u v ≡ true) (sym e) (rw (after-append u (i ∷ x), beginsProperly))
+
+abbrev routeBy : Bool → Option Word → Route
+routeBy a o = elim a [ true ↦ elim o [ some v ↦ Image v | none ↦ TooShort ] | false ↦ NotRouted BadCode ]
+
+module _ (p : Plan) (kept : Kept p) (c : Word) where
+  abbrev isFront : Bool
+  isFront = anyOf (beginsProperly c) (froms (p .rows))
+
+  short-of-front : isCode (p .shape) c ≡ true → isFront ≡ true → routed p c ≡ TooShort
+  short-of-front a s =
+      let (w, m, b) = any-found (beginsProperly c) (froms (p .rows)) s in
+      let (q, n, f) = Memᴰ·of-map (λ q. q .from) (p .rows) m in
+      let (i, x, t) = proper-tail c w b in
+      answers-exact .too-short p kept c (T-of a) .1 (q, i, x, n, f ∙ t)
+
+  front-of-short : isCode (p .shape) c ≡ true → routed p c ≡ TooShort → isFront ≡ true
+  front-of-short a r =
+      let (q, i, x, n, t) = answers-exact .too-short p kept c (T-of a) .0 r in
+      any-of (beginsProperly c) (froms (p .rows)) (q .from) (Memᴰ·map (λ q. q .from) n) (proper-of-tail c (q .from) i x t)
+
+  routed-then : {A : Type 0} {f : Word → Outcome A} → ((w : Word) → Says (f w) [])
+      → Says (ofRoute (routed p c) >>= f) ((badWord if not (isCode (p .shape) c)) ∷ (codeTooShort if isFront) ∷ [])
+  unfolding _>>=_ routed
+  routed-then {f = f} h = by-code (isCode (p .shape) c) (image (p .rows) c) refl refl
+    where
+      route-is : (a : Bool) (o : Option Word) → isCode (p .shape) c ≡ a → image (p .rows) c ≡ o → routed p c ≡ routeBy a o
+      route-is a o x y = ap (λ a. routeBy a (image (p .rows) c)) x ∙ ap (routeBy a) y
+
+      by-code : (a : Bool) (o : Option Word) → isCode (p .shape) c ≡ a → image (p .rows) c ≡ o
+          → Says (ofRoute (routeBy a o) >>= f) ((badWord if not a) ∷ (codeTooShort if isFront) ∷ [])
+      by-code false o x y = record { says = refl }
+      by-code true none x y = rw (front-of-short x (route-is true none x y)) (record { says = refl })
+      by-code true (some v) x y = by-front isFront refl
+        where
+          by-front : (b : Bool) → isFront ≡ b → Says (ofRoute (Image v) >>= f) ((badWord if false) ∷ (codeTooShort if b) ∷ [])
+          by-front true s = absurd (subst IsShort (sym (short-of-front x s) ∙ route-is true (some v) x y) tt)
+          by-front false s = record { says = h v .says }
 
 -- what is asked of the plans that two slots hold
 of-both : (d : Desk) (a b : ℕ) (p q : Plan) → held d (slotNumber a) ≡ some p → held d (slotNumber b) ≡ some q → (test : Plan → Plan → Bool) → ofBoth d a b test ≡ test p q
@@ -141,43 +263,49 @@ of-both d a b p q e f test =
     ap (λ x. elim x as (λ _. Bool) [ none ↦ false | some p ↦ ofPlan d b (λ q. test p q) ]) e
     ∙ ap (λ y. elim y as (λ _. Bool) [ none ↦ false | some q ↦ test p q ]) f
 
-shapesDiffer : Plan → Plan → Bool
-shapesDiffer p q = not (sameShape (p .shape) (q .shape))
+differ : Plan → Plan → Bool
+differ p q = not (sameShape (p .shape) (q .shape))
 
-limitBroken : Plan → Plan → Bool
-limitBroken p q = not (granted (compose (p .shape) (p .rows) (q .rows)))
+breaks : Plan → Plan → Bool
+breaks p q = not (granted (compose (p .shape) (p .rows) (q .rows)))
 
 followed-says : {A : Type 0} (d : Desk) (a b : ℕ) (p q : Plan) → held d (slotNumber a) ≡ some p → held d (slotNumber b) ≡ some q → {f : Plan → Outcome A} {cs : List Condition} → ((r : Plan) → Says (f r) cs)
-    → Says (ofAnswer (followed p q) >>= f) ((10 if ofBoth d a b (λ p q. not (sameShape (p .shape) (q .shape)))) ∷ (11 if ofBoth d a b (λ p q. not (granted (compose (p .shape) (p .rows) (q .rows))))) ∷ cs)
-unfolding shapesDiffer limitBroken
+    → Says (ofAnswer (followed p q) >>= f) ((shapesDiffer if ofBoth d a b (λ p q. not (sameShape (p .shape) (q .shape)))) ∷ (limitBroken if ofBoth d a b (λ p q. not (granted (compose (p .shape) (p .rows) (q .rows))))) ∷ cs)
+unfolding differ breaks
 followed-says d a b p q e e′ {f = g} {cs} h =
-    subst (λ x. Says (ofAnswer (followed p q) >>= g) ((10 if x) ∷ (11 if ofBoth d a b limitBroken) ∷ cs)) (sym (of-both d a b p q e e′ shapesDiffer))
-    (subst (λ y. Says (ofAnswer (followed p q) >>= g) ((10 if shapesDiffer p q) ∷ (11 if y) ∷ cs)) (sym (of-both d a b p q e e′ limitBroken)) (followed-then p q h))
+    subst (λ x. Says (ofAnswer (followed p q) >>= g) ((shapesDiffer if x) ∷ (limitBroken if ofBoth d a b breaks) ∷ cs)) (sym (of-both d a b p q e e′ differ))
+    (subst (λ y. Says (ofAnswer (followed p q) >>= g) ((shapesDiffer if differ p q) ∷ (limitBroken if y) ∷ cs)) (sym (of-both d a b p q e e′ breaks)) (followed-then p q h))
 
 same-says : {A : Type 0} (d : Desk) (a b : ℕ) (p q : Plan) → held d (slotNumber a) ≡ some p → held d (slotNumber b) ≡ some q → {f : Bool → Outcome A} → ((x : Bool) → Says (f x) [])
-    → Says (ofComparison (same p q) >>= f) ((10 if ofBoth d a b (λ p q. not (sameShape (p .shape) (q .shape)))) ∷ [])
-unfolding shapesDiffer
-same-says d a b p q e e′ {f = g} h = subst (λ x. Says (ofComparison (same p q) >>= g) ((10 if x) ∷ [])) (sym (of-both d a b p q e e′ shapesDiffer)) (same-then p q h)
+    → Says (ofComparison (same p q) >>= f) ((shapesDiffer if ofBoth d a b (λ p q. not (sameShape (p .shape) (q .shape)))) ∷ [])
+unfolding differ
+same-says d a b p q e e′ {f = g} h = subst (λ x. Says (ofComparison (same p q) >>= g) ((shapesDiffer if x) ∷ [])) (sym (of-both d a b p q e e′ differ)) (same-then p q h)
 
-operation-says : (d : Desk) (r : Record) → Says (operation d r) (conditions d r)
+own-says : (d : Desk) → IsDesk d → (r : Record) → openAmiss d r ≡ false → Says (job d r) (ownConditions d r)
+unfolding job ownConditions needsOpen
+own-says d D (P a n r) o = when-then (not (shapeInRange (record { arity = n; roots = r }))) (λ _ _. done)
+own-says d D (M from to) o =
+    open-then d o (λ o e. rw e (when-then (not (isPlanWord (o .shape) (wordOf from) && isPlanWord (o .shape) (wordOf to)))
+    (λ _ _. when-then (leb maxPairs (length (o .rows))) (λ _ _. done))))
+own-says d D E o = open-then d o (λ o e. rw e (verdict-then (o .shape) (o .rows) (λ _. done)))
+own-says d D (F a b c) o = plans-then d a b (λ p q e f. followed-says d a b p q e f (λ r. done))
+own-says d D (I a c) o = plan-then d a (λ p e. inverted-then p (λ r. done))
+own-says d D (K a k c) o =
+    when-then (not (leb (natAbs k) maxPower))
+    (λ _ h. plan-then d a (λ p e. rw (e, ofPlan) (powered-then p (D .kept (slotNumber a) p e) k (not-false _ h) (λ r. done))))
+own-says d D (S a b) o = plans-then d a b (λ p q e f. same-says d a b p q e f (λ b. done))
+own-says d D (W a code) o =
+    plan-then d a (λ p e. rw (e, ofPlan) (routed-then p (D .kept (slotNumber a) p e) (wordOf code) (λ w. done)))
+own-says d D (L a) o = plan-then d a (λ p e. done)
+own-says d D (C a) o = plan-then d a (λ p e. done)
+own-says d D Tᴿ o = done
+own-says d D U o = done
+
+operation-says : (d : Desk) → IsDesk d → (r : Record) → Says (operation d r) (conditions d r)
 unfolding operation conditions
-operation-says d (P a n r) = when-then (isOpen d) (λ _ _. when-then (outside (a ∷ [])) (λ _ _. when-then (not (shapeInRange (record { arity = n; roots = r }))) (λ _ _. done)))
-operation-says d (M from to) =
-    open-then d (λ o e. rw e (when-then (not (isPlanWord (o .shape) (wordOf from) && isPlanWord (o .shape) (wordOf to))) (λ _ _. when-then (leb maxPairs (length (o .rows))) (λ _ _. done))))
-operation-says d E = open-then d (λ o e. rw e (verdict-then (o .shape) (o .rows) (λ _. when-then (atLimit d) (λ _ _. done))))
-operation-says d (F a b c) =
-    when-then (isOpen d) (λ _ _. when-then (outside (a ∷ b ∷ c ∷ [])) (λ _ _. plans-then d a b (λ p q e f. followed-says d a b p q e f (λ r. when-then (atLimit d) (λ _ _. done)))))
-operation-says d (I a c) = when-then (isOpen d) (λ _ _. when-then (outside (a ∷ c ∷ [])) (λ _ _. plan-then d a (λ p e. inverted-then p (λ r. when-then (atLimit d) (λ _ _. done)))))
-operation-says d (K a k c) =
-    when-then (isOpen d) (λ _ _. when-then (outside (a ∷ c ∷ [])) (λ _ _. when-then (not (leb (natAbs k) maxPower)) (λ _ h. plan-then d a (λ p e. rw (e, ofPlan) (powered-then p k (not-false _ h) (λ r. when-then (atLimit d) (λ _ _. done)))))))
-operation-says d (S a b) =
-    when-then (isOpen d) (λ _ _. when-then (outside (a ∷ b ∷ [])) (λ _ _. plans-then d a b (λ p q e f. same-says d a b p q e f (λ b. done))))
-operation-says d (W a code) =
-    when-then (isOpen d) (λ _ _. when-then (outside (a ∷ [])) (λ _ _. plan-then d a (λ p e. rw (e, ofPlan) (routed-then p (wordOf code) (λ w. done)))))
-operation-says d (L a) = when-then (isOpen d) (λ _ _. when-then (outside (a ∷ [])) (λ _ _. plan-then d a (λ p e. done)))
-operation-says d (C a) = when-then (isOpen d) (λ _ _. when-then (outside (a ∷ [])) (λ _ _. plan-then d a (λ p e. when-then (atLimit d) (λ _ _. done))))
-operation-says d T = when-then (isOpen d) (λ _ _. done)
-operation-says d U = when-then (isOpen d) (λ _ _. done)
+operation-says d D r =
+    when-then (openAmiss d r) (λ _ o. when-then (outside (slotsNamed r)) (λ _ _. says-then (job d r) (own-says d D r o)
+    (λ e. when-then (isChange r && atLimit d) (λ _ _. done))))
 
-pub first-condition : (d : Desk) (r : Record) → refusalOf (operation d r) ≡ firstOf (conditions d r)
-first-condition d r = operation-says d r .says
+pub first-condition : (d : Desk) → IsDesk d → (r : Record) → refusalOf (operation d r) ≡ firstOf (conditions d r)
+first-condition d D r = operation-says d D r .says

@@ -3,27 +3,33 @@
 use Prim.Native.Nat.{ℕ, suc}
 use mathlib.Core.Path.{_≡_, refl, sym, _∙_, ap, subst}
 use mathlib.Core.Logic.{_⊎_, inl, inr, _↔_}
-use mathlib.Core.Bool.{Bool, true, false, _||_}
-use mathlib.Core.List.{List, [], _∷_, _++_, append-assoc, List·Memᴰ, List·Memᴰ·head, List·Memᴰ·tail, List·Memᴰ·cases-cons, List·Memᴰ·not-nil, List·Memᴰ·eq-of-singleton, List·Memᴰ·append-cases, Memᴰ·of-map}
+use mathlib.Core.Bool.{Bool, true, false, _&&_, _||_, not}
+use mathlib.Core.List.{List, [], _∷_, _++_, List·Memᴰ, List·Memᴰ·head, List·Memᴰ·tail, List·Memᴰ·cases-cons, List·Memᴰ·not-nil, List·Memᴰ·eq-of-singleton, List·Memᴰ·append-cases, Memᴰ·of-map}
 use mathlib.Core.Option.{Option, none, some, Option·none-ne-some, Option·some-injective}
 use native.Mathlib.Omega.{arith}
 use lib.Dec.{T, leb, eqb, eqb→eq}
+use lib.IntN.{natAbs}
 use lib.ListN.{length}
 use borrow.Author.Tests.{eq-eqb}
 use Rattle.higman.specs.Words.{Word, spelled}
-use Rattle.higman.specs.Bases.{all}
-use Rattle.higman.specs.Text.{tab, lineEnd, digitByte, wordBytes, Bytes, bytes}
-use Rattle.higman.specs.Refusals.{Letter}
-use Rattle.higman.proofs.Tests.{so, T-of, clash, or-cases, or-true-left, or-true-right, all-at}
+use Rattle.higman.specs.Text.{tab, lineEnd, digitByte, wordBytes, Bytes, bytes, decimal, wordOf}
+use Rattle.higman.specs.Limits.{Plan, shapeInRange, isPlanWord, maxPairs, maxPower}
+use Rattle.higman.specs.Refusals.{noRecord, wrongState, shapeOutside, badWord, pairsFull, wordsOverlap, rootUncovered, slotOutside, slotEmpty, shapesDiffer, limitBroken, powerOutside, codeTooShort, countFull, Letter}
+use Rattle.higman.specs.Answers as Answers
+use Rattle.higman.specs.Answers.{Overlap, Gap, Verdict, Accepted, InFrom, InTo, verdict, Refusal, BadCode, ShapesDiffer, LimitBroken, PowerOutside, refusalNumber, Answer, Granted, followed, inverted, powered, Comparison, Alike, NotCompared, same, Route, Image, TooShort, NotRouted, routed}
+use Rattle.higman.specs.Listing.{slotNumber}
+use Rattle.higman.proofs.Tests.{so, T-of, clash, or-cases, or-true-left, or-true-right}
 use Rattle.desk.specs.Limits.{maxLine}
-use Rattle.desk.specs.Desk.{Desk}
-use Rattle.desk.specs.Records.{Record, P, M, E, F, I, K, S, W, L, C, T as Tᴿ, U, parse}
-use Rattle.desk.specs.Replies.{Outcome, refuse, pass, _>>=_, Effect, settle, operation, recordOf, lineOperation, respondLine}
-use Rattle.desk.specs.Bytes.{Order, decimal, lineOf, columnField, replyBytes}
-use Rattle.desk.specs.Conditions.{Condition, conditions, firstOf, refusalOf}
+use Rattle.desk.specs.Desk.{Draft, Desk, held}
+use Rattle.desk.specs.Records.{Record, P, M, E, F, I, K, S, W, L, C, T as Tᴿ, U, parted, parse, slotsNamed, isChange}
+use Rattle.desk.specs.Replies.{Outcome, refuse, pass, _>>=_, _when_, Effect, openAmiss, outside, atLimit, openPlan, planIn, ofVerdict, ofAnswer, ofComparison, ofRoute, settle, job, operation, recordOf, lineOperation, respondLine}
+use Rattle.desk.specs.Bytes.{Order, columnField, replyBytes}
+use Rattle.desk.specs.Conditions.{refusalOf}
 use Rattle.desk.specs.Demands.{refusalNumbers, Done, Refused, Demand1}
 use Rattle.desk.proofs.Outcomes.{refusal-drops}
 use Rattle.desk.proofs.Stays.{desk-stays}
+use Rattle.desk.proofs.Desks.{desk-test}
+use Rattle.desk.proofs.Calls.{calls-exact}
 use Rattle.desk.proofs.Conditions.{first-condition}
 
 -- a number of the list
@@ -42,36 +48,118 @@ mem-of-among n (m ∷ l) e = go (or-cases (eqb n m) (among n l) e) (λ k. mem-of
 
 -- the numbers of operations: all but 1
 laterNumbers : List ℕ
-laterNumbers = 2 ∷ 3 ∷ 4 ∷ 5 ∷ 6 ∷ 7 ∷ 8 ∷ 9 ∷ 10 ∷ 11 ∷ 12 ∷ 13 ∷ 16 ∷ []
+laterNumbers =
+    wrongState ∷
+    shapeOutside ∷
+    badWord ∷
+    pairsFull ∷
+    wordsOverlap ∷
+    rootUncovered ∷
+    slotOutside ∷
+    slotEmpty ∷
+    shapesDiffer ∷
+    limitBroken ∷
+    powerOutside ∷
+    codeTooShort ∷
+    countFull ∷
+    []
 
-conditions-numbered : (d : Desk) (r : Record) → T (all (λ c. among (c .number) laterNumbers) (conditions d r))
-unfolding conditions among laterNumbers
-conditions-numbered d (P a n r) = tt
-conditions-numbered d (M from to) = tt
-conditions-numbered d E = tt
-conditions-numbered d (F a b c) = tt
-conditions-numbered d (I a c) = tt
-conditions-numbered d (K a k c) = tt
-conditions-numbered d (S a b) = tt
-conditions-numbered d (W a code) = tt
-conditions-numbered d (L a) = tt
-conditions-numbered d (C a) = tt
-conditions-numbered d Tᴿ = tt
-conditions-numbered d U = tt
+-- an outcome is refused with a later number or not at all
+data Numbered {A : Type 0} : Outcome A → Type 0 where
+  numbered-refusal : {n : ℕ} {c : Option Letter} → T (among n laterNumbers) → Numbered (refuse n c)
+  no-refusal : {a : A} → Numbered (pass a)
 
--- the first condition that holds is one of the list
-first-among : (cs : List Condition) (n : ℕ) (c : Option Letter) → firstOf cs ≡ some (n, c) → (x : Condition) × List·Memᴰ x cs × (x .number ≡ n)
-first-among [] n c e = absurd (Option·none-ne-some _ e)
-first-among (x ∷ cs) n c e = go (x .holds) e (λ k. first-among cs n c k)
+numbered-then : {A B : Type 0} {o : Outcome A} {f : A → Outcome B} → Numbered o → ((a : A) → Numbered (f a)) → Numbered (o >>= f)
+unfolding _>>=_
+numbered-then (numbered-refusal h) k = numbered-refusal h
+numbered-then (no-refusal {a}) k = k a
+
+numbered-test : (n : ℕ) (b : Bool) → T (among n laterNumbers) → Numbered (n when b)
+numbered-test n true h = numbered-refusal h
+numbered-test n false h = no-refusal
+
+numbered-open : (d : Desk) → Numbered (openPlan d)
+unfolding among laterNumbers
+numbered-open d = by-draft (d .draft)
   where
-    go : (b : Bool) → _≡_ {A = Option (ℕ × Option Letter)} (elim b [ true ↦ some (x .number, x .column) | false ↦ firstOf cs ]) (some (n, c)) → (firstOf cs ≡ some (n, c) → (y : Condition) × List·Memᴰ y cs × (y .number ≡ n)) → (y : Condition) × List·Memᴰ y (x ∷ cs) × (y .number ≡ n)
-    go true h rest = (x, List·Memᴰ·head refl, ap (λ p. p .0) (Option·some-injective _ _ h))
-    go false h rest = let (y, m, f) = rest h in (y, List·Memᴰ·tail m, f)
+    by-draft : (x : Option Draft) → Numbered {A = Draft} (elim x as (λ _. Outcome Draft) [ none ↦ refuse wrongState none | some o ↦ pass o ])
+    by-draft none = numbered-refusal tt
+    by-draft (some o) = no-refusal
+
+numbered-plan : (d : Desk) (a : ℕ) → Numbered (planIn d a)
+unfolding among laterNumbers
+numbered-plan d a = by-content (held d (slotNumber a))
+  where
+    by-content : (x : Option Plan) → Numbered {A = Plan} (elim x as (λ _. Outcome Plan) [ none ↦ refuse slotEmpty none | some p ↦ pass p ])
+    by-content none = numbered-refusal tt
+    by-content (some p) = no-refusal
+
+-- the answers about plans
+numbered-verdict : (v : Verdict) → Numbered (ofVerdict v)
+unfolding among laterNumbers
+numbered-verdict Accepted = no-refusal
+numbered-verdict (InFrom Overlap) = numbered-refusal tt
+numbered-verdict (InFrom Gap) = numbered-refusal tt
+numbered-verdict (InTo Overlap) = numbered-refusal tt
+numbered-verdict (InTo Gap) = numbered-refusal tt
+
+refusal-among : (r : Refusal) → T (among (refusalNumber r) laterNumbers)
+unfolding among laterNumbers
+refusal-among BadCode = tt
+refusal-among ShapesDiffer = tt
+refusal-among LimitBroken = tt
+refusal-among PowerOutside = tt
+
+numbered-answer : (a : Answer) → Numbered (ofAnswer a)
+numbered-answer (Granted p) = no-refusal
+numbered-answer (Answers.Refused r) = numbered-refusal (refusal-among r)
+
+numbered-comparison : (c : Comparison) → Numbered (ofComparison c)
+numbered-comparison (Alike b) = no-refusal
+numbered-comparison (NotCompared r) = numbered-refusal (refusal-among r)
+
+numbered-route : (r : Route) → Numbered (ofRoute r)
+unfolding among laterNumbers
+numbered-route (Image w) = no-refusal
+numbered-route TooShort = numbered-refusal tt
+numbered-route (NotRouted r) = numbered-refusal (refusal-among r)
+
+job-numbered : (d : Desk) (r : Record) → Numbered (job d r)
+unfolding job among laterNumbers
+job-numbered d (P a n r) = numbered-then (numbered-test shapeOutside (not (shapeInRange (record { arity = n; roots = r }))) tt) (λ _. no-refusal)
+job-numbered d (M from to) =
+    numbered-then (numbered-open d) (λ o. numbered-then
+    (numbered-test badWord (not (isPlanWord (o .shape) (wordOf from) && isPlanWord (o .shape) (wordOf to))) tt)
+    (λ _. numbered-then (numbered-test pairsFull (leb maxPairs (length (o .rows))) tt) (λ _. no-refusal)))
+job-numbered d E = numbered-then (numbered-open d) (λ o. numbered-then (numbered-verdict (verdict (o .shape) (o .rows))) (λ _. no-refusal))
+job-numbered d (F a b c) =
+    numbered-then (numbered-plan d a) (λ p. numbered-then (numbered-plan d b) (λ q. numbered-then (numbered-answer (followed p q)) (λ _. no-refusal)))
+job-numbered d (I a c) = numbered-then (numbered-plan d a) (λ p. numbered-then (numbered-answer (inverted p)) (λ _. no-refusal))
+job-numbered d (K a k c) =
+    numbered-then (numbered-test powerOutside (not (leb (natAbs k) maxPower)) tt) (λ _. numbered-then (numbered-plan d a) (λ p. numbered-then (numbered-answer (powered p k)) (λ _. no-refusal)))
+job-numbered d (S a b) =
+    numbered-then (numbered-plan d a) (λ p. numbered-then (numbered-plan d b) (λ q. numbered-then (numbered-comparison (same p q)) (λ _. no-refusal)))
+job-numbered d (W a code) = numbered-then (numbered-plan d a) (λ p. numbered-then (numbered-route (routed p (wordOf code))) (λ _. no-refusal))
+job-numbered d (L a) = numbered-then (numbered-plan d a) (λ _. no-refusal)
+job-numbered d (C a) = numbered-then (numbered-plan d a) (λ _. no-refusal)
+job-numbered d Tᴿ = no-refusal
+job-numbered d U = no-refusal
+
+numbered-operation : (d : Desk) (r : Record) → Numbered (operation d r)
+unfolding operation among laterNumbers
+numbered-operation d r =
+    numbered-then (numbered-test wrongState (openAmiss d r) tt) (λ _. numbered-then
+    (numbered-test slotOutside (outside (slotsNamed r)) tt) (λ _. numbered-then (job-numbered d r)
+    (λ e. numbered-then (numbered-test countFull (isChange r && atLimit d) tt) (λ _. no-refusal))))
 
 operation-numbered : (d : Desk) (r : Record) (n : ℕ) (c : Option Letter) → operation d r ≡ refuse n c → List·Memᴰ n laterNumbers
-operation-numbered d r n c e =
-    let (x, m, f) = first-among (conditions d r) n c (sym (first-condition d r) ∙ ap refusalOf e) in
-    subst (λ k. List·Memᴰ k laterNumbers) f (mem-of-among (x .number) laterNumbers (so (among (x .number) laterNumbers) (all-at (λ c. among (c .number) laterNumbers) (conditions d r) (conditions-numbered d r) x m)))
+operation-numbered d r n c e = by-outcome (operation d r) (numbered-operation d r) e
+  where
+    by-outcome : (o : Outcome Effect) → Numbered o → o ≡ refuse n c → List·Memᴰ n laterNumbers
+    by-outcome (refuse m b) (numbered-refusal h) e =
+        let same : m ≡ n = ap (λ p. p .0) (Option·some-injective _ _ (ap refusalOf e)) in
+        subst (λ k. List·Memᴰ k laterNumbers) same (mem-of-among m laterNumbers (so (among m laterNumbers) h))
+    by-outcome (pass x) h e = absurd (Option·none-ne-some _ (ap refusalOf e))
 
 -- the bytes of a field
 abbrev Clean : Bytes → Type 0
@@ -80,23 +168,19 @@ Clean f = List·Memᴰ lineEnd f → ⊥
 clean-word : (w : Word) → Clean (wordBytes w)
 clean-word w m = let (d, k, e) = Memᴰ·of-map digitByte w m in omega arith
 
--- a line of clean fields is a text without a line's end, and its end
-clean-line : (fs : List Bytes) → ((f : Bytes) → List·Memᴰ f fs → Clean f) → (text : Bytes) × Clean text × (lineOf fs ≡ text ++ lineEnd ∷ [])
-clean-line [] h = ([], List·Memᴰ·not-nil, refl)
-clean-line (f ∷ []) h = (f, h f (List·Memᴰ·head refl), refl)
-clean-line (f ∷ g ∷ fs) h = ahead (clean-line (g ∷ fs) (λ x m. h x (List·Memᴰ·tail m)))
+-- fields that are clean, with tabs between them
+clean-parted : (fs : List Bytes) → ((f : Bytes) → List·Memᴰ f fs → Clean f) → Clean (parted fs)
+clean-parted [] h m = List·Memᴰ·not-nil m
+clean-parted (f ∷ []) h m = h f (List·Memᴰ·head refl) m
+clean-parted (f ∷ g ∷ fs) h m = by-part (List·Memᴰ·append-cases f m) (clean-parted (g ∷ fs) (λ x k. h x (List·Memᴰ·tail k)))
   where
-    part : (text : Bytes) → Clean text → List·Memᴰ lineEnd f ⊎ List·Memᴰ lineEnd (tab ∷ text) → ⊥
-    part text k (inl m) = h f (List·Memᴰ·head refl) m
-    part text k (inr m) = later (List·Memᴰ·cases-cons m)
+    by-part : List·Memᴰ lineEnd f ⊎ List·Memᴰ lineEnd (tab ∷ parted (g ∷ fs)) → Clean (parted (g ∷ fs)) → ⊥
+    by-part (inl k) rest = h f (List·Memᴰ·head refl) k
+    by-part (inr k) rest = by-first (List·Memᴰ·cases-cons k)
       where
-        later : (lineEnd ≡ tab) ⊎ List·Memᴰ lineEnd text → ⊥
-        later (inl e) = omega arith
-        later (inr m) = k m
-
-    ahead : (text : Bytes) × Clean text × (lineOf (g ∷ fs) ≡ text ++ lineEnd ∷ []) → (text : Bytes) × Clean text × (lineOf (f ∷ g ∷ fs) ≡ text ++ lineEnd ∷ [])
-    ahead (text, k, e) =
-        (f ++ tab ∷ text, λ m. part text k (List·Memᴰ·append-cases f m), ap (λ x. f ++ tab ∷ x) e ∙ sym (append-assoc f (tab ∷ text) (lineEnd ∷ [])))
+        by-first : (lineEnd ≡ tab) ⊎ List·Memᴰ lineEnd (parted (g ∷ fs)) → ⊥
+        by-first (inl e) = omega arith
+        by-first (inr j) = rest j
 
 among-of-mem : (n : ℕ) (l : List ℕ) → List·Memᴰ n l → among n l ≡ true
 unfolding among
@@ -129,10 +213,10 @@ clean-refusal n c f m = go (List·Memᴰ·cases-cons m)
     go (inr m) = number (List·Memᴰ·cases-cons m)
 
 -- a line is a record, or refused with 1
-record-cases : (line : Bytes) → (recordOf line ≡ refuse 1 none) ⊎ ((r : Record) × (recordOf line ≡ pass r))
+record-cases : (line : Bytes) → (recordOf line ≡ refuse noRecord none) ⊎ ((r : Record) × (recordOf line ≡ pass r))
 record-cases line = go (leb (length line) maxLine) (parse line)
   where
-    go : (b : Bool) (o : Option Record) → let x : Outcome Record = elim b [ false ↦ refuse 1 none | true ↦ elim o [ none ↦ refuse 1 none | some r ↦ pass r ] ] in (x ≡ refuse 1 none) ⊎ ((r : Record) × (x ≡ pass r))
+    go : (b : Bool) (o : Option Record) → let x : Outcome Record = elim b [ false ↦ refuse noRecord none | true ↦ elim o [ none ↦ refuse noRecord none | some r ↦ pass r ] ] in (x ≡ refuse noRecord none) ⊎ ((r : Record) × (x ≡ pass r))
     go false o = inl refl
     go true none = inl refl
     go true (some r) = inr (r, refl)
@@ -146,32 +230,32 @@ unfolding lineOperation _>>=_
 record-line d line r e = ap (λ o. o >>= operation d) e
 
 -- 1 where the line is no record, a later number where the record's operation is refused
-line-cases : (d : Desk) (line : Bytes) (n : ℕ) (c : Option Letter) → lineOperation d line ≡ refuse n c → ((n ≡ 1) × (recordOf line ≡ refuse n c)) ⊎ List·Memᴰ n laterNumbers
+line-cases : (d : Desk) (line : Bytes) (n : ℕ) (c : Option Letter) → lineOperation d line ≡ refuse n c → ((n ≡ noRecord) × (recordOf line ≡ refuse n c)) ⊎ List·Memᴰ n laterNumbers
 line-cases d line n c e = go (record-cases line)
   where
-    first : _≡_ {A = Outcome Effect} (refuse 1 none) (refuse n c) → (n ≡ 1) × (_≡_ {A = Outcome Record} (refuse 1 none) (refuse n c))
+    first : _≡_ {A = Outcome Effect} (refuse noRecord none) (refuse n c) → (n ≡ noRecord) × (_≡_ {A = Outcome Record} (refuse noRecord none) (refuse n c))
     first h = let p = Option·some-injective _ _ (ap refusalOf h) in (sym (ap (λ x. x .0) p), ap (λ x. refuse (x .0) (x .1)) p)
 
-    go : (recordOf line ≡ refuse 1 none) ⊎ ((r : Record) × (recordOf line ≡ pass r)) → ((n ≡ 1) × (recordOf line ≡ refuse n c)) ⊎ List·Memᴰ n laterNumbers
-    go (inl h) = let (p, q) = first (sym (no-record-line d line 1 none h) ∙ e) in inl (p, h ∙ q)
+    go : (recordOf line ≡ refuse noRecord none) ⊎ ((r : Record) × (recordOf line ≡ pass r)) → ((n ≡ noRecord) × (recordOf line ≡ refuse n c)) ⊎ List·Memᴰ n laterNumbers
+    go (inl h) = let (p, q) = first (sym (no-record-line d line noRecord none h) ∙ e) in inl (p, h ∙ q)
     go (inr (r, h)) = inr (operation-numbered d r n c (sym (record-line d line r h) ∙ e))
 
-not-later : (n : ℕ) → n ≡ 1 → List·Memᴰ n laterNumbers → ⊥
+not-later : (n : ℕ) → n ≡ noRecord → List·Memᴰ n laterNumbers → ⊥
 unfolding among laterNumbers
 not-later n e m = clash (among-of-mem n laterNumbers m) (ap (λ k. among k laterNumbers) e)
 
-no-record : (d : Desk) (line : Bytes) (c : Option Letter) → (lineOperation d line ≡ refuse 1 c) ↔ (recordOf line ≡ refuse 1 c)
-no-record d line c = (λ e. go (line-cases d line 1 c e), no-record-line d line 1 c)
+no-record : (d : Desk) (line : Bytes) (c : Option Letter) → (lineOperation d line ≡ refuse noRecord c) ↔ (recordOf line ≡ refuse noRecord c)
+no-record d line c = (λ e. go (line-cases d line noRecord c e), no-record-line d line noRecord c)
   where
-    go : (_≡_ {A = ℕ} 1 1 × (recordOf line ≡ refuse 1 c)) ⊎ List·Memᴰ 1 laterNumbers → recordOf line ≡ refuse 1 c
+    go : (_≡_ {A = ℕ} noRecord noRecord × (recordOf line ≡ refuse noRecord c)) ⊎ List·Memᴰ noRecord laterNumbers → recordOf line ≡ refuse noRecord c
     go (inl (p, q)) = q
-    go (inr m) = absurd (not-later 1 refl m)
+    go (inr m) = absurd (not-later noRecord refl m)
 
 numbered : (d : Desk) (line : Bytes) (n : ℕ) (c : Option Letter) → lineOperation d line ≡ refuse n c → List·Memᴰ n refusalNumbers
 unfolding refusalNumbers laterNumbers
 numbered d line n c e = go (line-cases d line n c e)
   where
-    go : ((n ≡ 1) × (recordOf line ≡ refuse n c)) ⊎ List·Memᴰ n laterNumbers → List·Memᴰ n refusalNumbers
+    go : ((n ≡ noRecord) × (recordOf line ≡ refuse n c)) ⊎ List·Memᴰ n laterNumbers → List·Memᴰ n refusalNumbers
     go (inl (p, q)) = List·Memᴰ·head p
     go (inr m) = List·Memᴰ·tail m
 
@@ -187,7 +271,7 @@ answered order d line = go (lineOperation d line) refl
     go (pass x) e = inl (x, e, responded d line (pass x) e)
     go (refuse n c) e =
         let r = responded d line (refuse n c) e in
-        let (text, k, f) = clean-line (bytes "no" ∷ decimal n ∷ columnField c) (clean-refusal n c) in
+        let fs = bytes "no" ∷ decimal n ∷ columnField c in
         inr
         (record {
           number = n;
@@ -195,11 +279,20 @@ answered order d line = go (lineOperation d line) refl
           numbered = numbered d line n c e;
           refused = e;
           replied = ap (λ x. x .1) r;
-          text = text;
-          no-line-end = k;
-          one-line = ap (λ x. replyBytes order (x .1)) r ∙ f;
+          text = parted fs;
+          no-line-end = clean-parted fs (clean-refusal n c);
+          one-line = ap (λ x. replyBytes order (x .1)) r;
         })
 
 -- Demand 1.
 pub demand1 : Demand1
-demand1 = record { answered = answered; refusal-drops = refusal-drops; desk-stays = desk-stays; no-record = no-record; first-condition = first-condition }
+demand1 =
+    record {
+      answered = answered;
+      refusal-drops = refusal-drops;
+      desk-stays = desk-stays;
+      no-record = no-record;
+      first-condition = first-condition;
+      desk-test = desk-test;
+      calls = calls-exact;
+    }

@@ -1,16 +1,16 @@
 -- Demand 2: what E, F, I, K, W and S do when they are not refused, by higman's theorems; the other records are in Replies.antt. From
--- what an operation passed it is read off which steps it took. At the end, the three demands in one term.
+-- what an operation passed it is read off which steps it took.
 use Prim.Native.Nat.{ℕ, _<_}
 use mathlib.Core.Path.{_≡_, refl, sym, _∙_, ap, subst}
 use mathlib.Core.Logic.{_⊎_, inl, inr, _↔_}
-use mathlib.Core.Bool.{Bool, true, false}
+use mathlib.Core.Bool.{Bool, true, false, not}
 use mathlib.Core.List.{List, [], _∷_, List·Memᴰ, List·Memᴰ·head, List·Memᴰ·tail}
 use mathlib.Core.Option.{Option, none, some, Option·some-injective, Option·none-ne-some}
 use native.Mathlib.Omega.{arith}
 use lib.Dec.{T}
 use lib.IntN.{ℤ}
-use borrow.Author.Tests.{leb-false, lt-leb}
-use Rattle.higman.specs.Words.{Word, isWord}
+use borrow.Author.Tests.{lt-leb}
+use Rattle.higman.specs.Words.{Word, isWord, given}
 use Rattle.higman.specs.Tables.{image, sameTable}
 use Rattle.higman.specs.Normal.{andThen, power}
 use Rattle.higman.specs.Limits.{Plan, Bases, Kept, isCode, slotCount}
@@ -24,30 +24,23 @@ use Rattle.higman.proofs.Demand3.{demand3}
 use Rattle.higman.proofs.Statements.{normal-form, group-acts, answers-exact}
 use Rattle.higman.specs.Text.{Bytes, wordOf}
 use Rattle.desk.specs.Limits.{maxChanges}
-use Rattle.desk.specs.Desk.{Draft, Desk, held, IsDraft, IsDesk}
-use Rattle.desk.specs.Records.{E, F, I, K, S, W}
+use Rattle.desk.specs.Desk.{Draft, Desk, countOf, held, IsDraft, IsDesk}
+use Rattle.desk.specs.Records.{E, F, I, K, S, W, writing, needsOpen, slotsNamed, isChange}
 use Rattle.higman.specs.Listing.{slotNumber, isSlot}
-use Rattle.desk.specs.Replies.{Outcome, refuse, pass, _>>=_, _when_, Effect, Reply, silent, ok, okNumber, okWord, lists, surveys, refuses, bit, openPlan, planIn, ofVerdict, ofAnswer, ofComparison, ofRoute, atLimit, keepIn, closed, operation}
-use Rattle.desk.specs.Demands.{KeptAsTyped, KeptIn, Demand2, Demands}
+use Rattle.desk.specs.Replies.{Outcome, refuse, pass, _>>=_, Effect, Reply, silent, ok, okNumber, okWord, lists, surveys, refuses, bit, openPlan, planIn, ofVerdict, ofAnswer, ofComparison, ofRoute, atLimit, keepIn, closed, job, operation}
+use Rattle.desk.specs.Demands.{KeptAsTyped, KeptIn, Demand2}
 use Rattle.desk.proofs.ReadBack.{typed-in, listing-read-back}
-use Rattle.desk.proofs.Outcomes.{Passes, stops, passes, passes-then, any-then, passed, test-failed, plan-held, plan-open}
-use Rattle.desk.proofs.Stays.{test-held, slot-below}
+use Rattle.desk.proofs.TypedLines.{accepted-from-lines}
+use Rattle.desk.proofs.Outcomes.{Passes, stops, passes, passes-then, any-then, passed, plan-held, passes-operation}
+use Rattle.desk.proofs.Stays.{below-limit, slot-of-record}
+use Rattle.desk.proofs.OpenPlans.{close-pass, close-steps, draft-verdict}
 use Rattle.desk.proofs.Replies.{replies-exact, desk-parts}
-use Rattle.desk.proofs.Demand1.{demand1}
-
-bind-pass : {A B : Type 0} (o : Outcome A) (a : A) (f : A → Outcome B) → o ≡ pass a → (o >>= f) ≡ f a
-unfolding _>>=_
-bind-pass o a f e = ap (λ x. x >>= f) e
+use Rattle.desk.proofs.Surveys.{survey-exact}
 
 -- what the answers about plans pass on
 answer-granted : (a : Answer) → Passes (λ p. a ≡ Granted p) (ofAnswer a)
 answer-granted (Granted p) = passes refl
 answer-granted (Refused r) = stops
-
-verdict-accepted : (v : Verdict) → Passes (λ _. v ≡ Accepted) (ofVerdict v)
-verdict-accepted Accepted = passes refl
-verdict-accepted (InFrom r) = stops
-verdict-accepted (InTo r) = stops
 
 comparison-made : (c : Comparison) → Passes (λ b. c ≡ Alike b) (ofComparison c)
 comparison-made (Alike b) = passes refl
@@ -59,55 +52,31 @@ route-made TooShort = stops
 route-made (NotRouted r) = stops
 
 -- E
-abbrev Closes : Desk → Effect → Type 0
-Closes d e = (o : Draft) × (d .draft ≡ some o) × (verdict (o .shape) (o .rows) ≡ Accepted) × (atLimit d ≡ false) × (e ≡ keepIn d (o .slot) (closed o))
-
-closes : (d : Desk) → Passes (Closes d) (operation d E)
-unfolding operation
-closes d =
-    passes-then (plan-open d) (λ o x. passes-then (verdict-accepted (verdict (o .shape) (o .rows))) (λ _ v. passes-then (test-failed 16 (atLimit d)) (λ _ l. passes (o, x, v, l, refl))))
-
-below-limit : (d : Desk) → atLimit d ≡ false → d .changes < maxChanges
-below-limit d e = leb-false maxChanges (d .changes) e
-
-closing : (d : Desk) (o : Draft) → d .draft ≡ some o → verdict (o .shape) (o .rows) ≡ Accepted → atLimit d ≡ false → operation d E ≡ pass (keepIn d (o .slot) (closed o))
-unfolding operation
-closing d o x v l =
-    bind-pass (openPlan d) o _ (ap (λ y. elim y as (λ _. Outcome Draft) [ none ↦ refuse 2 none | some o ↦ pass o ]) x)
-    ∙ bind-pass (ofVerdict (verdict (o .shape) (o .rows))) tt _ (ap ofVerdict v)
-    ∙ bind-pass (16 when atLimit d) tt _ (ap (λ b. 16 when b) l)
-
-draft-verdict : (o : Draft) → IsDraft o → (verdict (o .shape) (o .rows) ≡ Accepted) ↔ Bases (o .shape) (o .rows)
-draft-verdict o h = answers-exact .accepted (o .shape) (arity-of-range (o .shape) (h .in-range)) (o .rows) (h .from-words) (h .to-words)
-
 one-draft : (d : Desk) (o o′ : Draft) → d .draft ≡ some o → d .draft ≡ some o′ → o′ ≡ o
 one-draft d o o′ x y = Option·some-injective o′ o (sym y ∙ x)
 
-accepted : (d : Desk) (o : Draft) → IsDesk d → d .draft ≡ some o → ((e : Effect) × (operation d E ≡ pass e)) ↔ (Bases (o .shape) (o .rows) × (d .changes < maxChanges))
+accepted : (d : Desk) (o : Draft) → IsDesk d → d .draft ≡ some o → ((e : Effect) × (operation d E ≡ pass e)) ↔ (Bases (o .shape) (o .rows) × (countOf d < maxChanges))
 accepted d o h x = (to, from)
   where
-    to : (e : Effect) × (operation d E ≡ pass e) → Bases (o .shape) (o .rows) × (d .changes < maxChanges)
+    to : (e : Effect) × (operation d E ≡ pass e) → Bases (o .shape) (o .rows) × (countOf d < maxChanges)
     to (e, p) =
-        let (o′, y, v, l, q) = passed (closes d) e p in
-        (draft-verdict o (h .drafted o x) .0 (subst (λ z. verdict (z .shape) (z .rows) ≡ Accepted) (one-draft d o o′ x y) v), below-limit d l)
+        let c = passed (close-steps d) e p in
+        let here = one-draft d o (c .plan) x (c .was-open) in
+        (draft-verdict o (h .drafted o x) .0 (subst (λ z. verdict (z .shape) (z .rows) ≡ Accepted) here (c .accepted)), below-limit d (c .room))
 
-    from : Bases (o .shape) (o .rows) × (d .changes < maxChanges) → (e : Effect) × (operation d E ≡ pass e)
-    from (b, l) = (keepIn d (o .slot) (closed o), closing d o x (draft-verdict o (h .drafted o x) .1 b) (lt-leb maxChanges (d .changes) l))
+    from : Bases (o .shape) (o .rows) × (countOf d < maxChanges) → (e : Effect) × (operation d E ≡ pass e)
+    from (b, l) = (keepIn d (o .slot) (closed o), close-pass d o x (draft-verdict o (h .drafted o x) .1 b) (lt-leb maxChanges (countOf d) l))
 
 -- what is kept in a slot is there afterwards
 kept-there : (d : Desk) (i : ℕ) (e : Effect) (p : Plan) → IsDesk d → i < slotCount → e ≡ keepIn d i p → held (e .0) i ≡ some p
 kept-there d i e p h l f = subst (λ z. held (z .0) i ≡ some p) (sym f) (desk-parts .changed-here d i (some p) (h .eight) l)
 
--- a slot that a record names is one of the eight
-named : (bs : List ℕ) (c : ℕ) → List·Memᴰ c bs → T (all isSlot bs) → slotNumber c < slotCount
-named bs c m h = slot-below c (all-at isSlot bs h c m)
-
 typed : (d : Desk) (o : Draft) (e : Effect) → IsDesk d → d .draft ≡ some o → operation d E ≡ pass e → KeptAsTyped d o e
 typed d o e h x p =
-    let (o′, y, v, l, q) = passed (closes d) e p in
+    let c = passed (close-steps d) e p in
     let k = h .drafted o x in
     let b = accepted d o h x .0 (e, p) .0 in
-    let f = q ∙ ap (λ z. keepIn d (z .slot) (closed z)) (one-draft d o o′ x y) in
+    let f = c .effect ∙ ap (λ z. keepIn d (z .slot) (closed z)) (one-draft d o (c .plan) x (c .was-open)) in
     record {
       effect = f;
       there = kept-there d (o .slot) e (closed o) h (k .slot-named) f;
@@ -120,9 +89,11 @@ abbrev Follows : Desk → ℕ → ℕ → ℕ → Effect → Type 0
 Follows d a b c e = (p : Plan) × (q : Plan) × (r : Plan) × (held d (slotNumber a) ≡ some p) × (held d (slotNumber b) ≡ some q) × (followed p q ≡ Granted r) × (e ≡ keepIn d (slotNumber c) r) × (slotNumber c < slotCount)
 
 follow-steps : (d : Desk) (a b c : ℕ) → Passes (Follows d a b c) (operation d (F a b c))
-unfolding operation
+unfolding job slotsNamed
 follow-steps d a b c =
-    any-then _ (λ _. passes-then (test-held 8 (all isSlot (a ∷ b ∷ c ∷ []))) (λ _ s. passes-then (plan-held d a) (λ p x. passes-then (plan-held d b) (λ q y. passes-then (answer-granted (followed p q)) (λ r g. any-then _ (λ _. passes (p, q, r, x, y, g, refl, named (a ∷ b ∷ c ∷ []) c (List·Memᴰ·tail (List·Memᴰ·tail (List·Memᴰ·head refl))) s)))))))
+    passes-operation d (F a b c) (λ t. passes-then (plan-held d a) (λ p x. passes-then (plan-held d b) (λ q y. passes-then
+    (answer-granted (followed p q))
+    (λ r g. passes (p, q, r, x, y, g, refl, slot-of-record d (F a b c) t (writing c) (List·Memᴰ·tail (List·Memᴰ·tail (List·Memᴰ·head refl))))))))
 
 follows : (d : Desk) (a b c : ℕ) (e : Effect) → IsDesk d → operation d (F a b c) ≡ pass e
     → (p : Plan) × (q : Plan) × (r : Plan) × (held d (slotNumber a) ≡ some p) × (held d (slotNumber b) ≡ some q) × KeptIn d c e r × (p .shape ≡ q .shape) × (r .shape ≡ p .shape)
@@ -150,9 +121,10 @@ abbrev Inverts : Desk → ℕ → ℕ → Effect → Type 0
 Inverts d a c e = (p : Plan) × (r : Plan) × (held d (slotNumber a) ≡ some p) × (inverted p ≡ Granted r) × (e ≡ keepIn d (slotNumber c) r) × (slotNumber c < slotCount)
 
 invert-steps : (d : Desk) (a c : ℕ) → Passes (Inverts d a c) (operation d (I a c))
-unfolding operation
+unfolding job slotsNamed
 invert-steps d a c =
-    any-then _ (λ _. passes-then (test-held 8 (all isSlot (a ∷ c ∷ []))) (λ _ s. passes-then (plan-held d a) (λ p x. passes-then (answer-granted (inverted p)) (λ r g. any-then _ (λ _. passes (p, r, x, g, refl, named (a ∷ c ∷ []) c (List·Memᴰ·tail (List·Memᴰ·head refl)) s))))))
+    passes-operation d (I a c) (λ t. passes-then (plan-held d a) (λ p x. passes-then (answer-granted (inverted p))
+    (λ r g. passes (p, r, x, g, refl, slot-of-record d (I a c) t (writing c) (List·Memᴰ·tail (List·Memᴰ·head refl))))))
 
 inverts : (d : Desk) (a c : ℕ) (e : Effect) → IsDesk d → operation d (I a c) ≡ pass e
     → (p : Plan) × (r : Plan) × (held d (slotNumber a) ≡ some p) × KeptIn d c e r × (r .shape ≡ p .shape)
@@ -175,9 +147,10 @@ abbrev Repeats : Desk → ℕ → ℤ → ℕ → Effect → Type 0
 Repeats d a k c e = (p : Plan) × (r : Plan) × (held d (slotNumber a) ≡ some p) × (powered p k ≡ Granted r) × (e ≡ keepIn d (slotNumber c) r) × (slotNumber c < slotCount)
 
 repeat-steps : (d : Desk) (a c : ℕ) (k : ℤ) → Passes (Repeats d a k c) (operation d (K a k c))
-unfolding operation
+unfolding job slotsNamed
 repeat-steps d a c k =
-    any-then _ (λ _. passes-then (test-held 8 (all isSlot (a ∷ c ∷ []))) (λ _ s. any-then _ (λ _. passes-then (plan-held d a) (λ p x. passes-then (answer-granted (powered p k)) (λ r g. any-then _ (λ _. passes (p, r, x, g, refl, named (a ∷ c ∷ []) c (List·Memᴰ·tail (List·Memᴰ·head refl)) s)))))))
+    passes-operation d (K a k c) (λ t. any-then _ (λ _. passes-then (plan-held d a) (λ p x. passes-then (answer-granted (powered p k))
+    (λ r g. passes (p, r, x, g, refl, slot-of-record d (K a k c) t (writing c) (List·Memᴰ·tail (List·Memᴰ·head refl)))))))
 
 repeats : (d : Desk) (a c : ℕ) (k : ℤ) (e : Effect) → IsDesk d → operation d (K a k c) ≡ pass e
     → (p : Plan) × (held d (slotNumber a) ≡ some p) × KeptIn d c e (record { shape = p .shape; rows = power (p .shape) (p .rows) k })
@@ -192,9 +165,10 @@ abbrev Routes : Desk → ℕ → Bytes → Effect → Type 0
 Routes d a code e = (p : Plan) × (v : Word) × (held d (slotNumber a) ≡ some p) × (routed p (wordOf code) ≡ Image v) × (e ≡ (d, okWord v))
 
 route-steps : (d : Desk) (a : ℕ) (code : Bytes) → Passes (Routes d a code) (operation d (W a code))
-unfolding operation
+unfolding job
 route-steps d a code =
-    any-then _ (λ _. any-then _ (λ _. passes-then (plan-held d a) (λ p x. passes-then (route-made (routed p (wordOf code))) (λ v r. passes (p, v, x, r, refl)))))
+    passes-operation d (W a code) (λ _. passes-then (plan-held d a) (λ p x. passes-then (route-made (routed p (wordOf code)))
+    (λ v r. passes (p, v, x, r, refl))))
 
 abbrev isImage : Route → Option Word
 isImage (Image v) = some v
@@ -222,9 +196,10 @@ abbrev Compares : Desk → ℕ → ℕ → Effect → Type 0
 Compares d a b e = (p : Plan) × (q : Plan) × (x : Bool) × (held d (slotNumber a) ≡ some p) × (held d (slotNumber b) ≡ some q) × (same p q ≡ Alike x) × (e ≡ (d, okNumber (bit x)))
 
 compare-steps : (d : Desk) (a b : ℕ) → Passes (Compares d a b) (operation d (S a b))
-unfolding operation
+unfolding job
 compare-steps d a b =
-    any-then _ (λ _. any-then _ (λ _. passes-then (plan-held d a) (λ p x. passes-then (plan-held d b) (λ q y. passes-then (comparison-made (same p q)) (λ z c. passes (p, q, z, x, y, c, refl))))))
+    passes-operation d (S a b) (λ _. passes-then (plan-held d a) (λ p x. passes-then (plan-held d b) (λ q y. passes-then
+    (comparison-made (same p q)) (λ z c. passes (p, q, z, x, y, c, refl)))))
 
 abbrev isAlike : Comparison → Type 0
 isAlike (Alike b) = Unit {0}
@@ -287,10 +262,8 @@ demand2 =
       compares = compares;
       replies = replies-exact;
       desk-parts = desk-parts;
+      survey = survey-exact;
       typed-in = typed-in;
+      accepted-from-lines = accepted-from-lines;
       read-back = listing-read-back;
     }
-
--- The three demands.
-pub demands : Demands
-demands = record { demand1 = demand1; demand2 = demand2; demand3 = demand3 }

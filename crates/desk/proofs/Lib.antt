@@ -1,9 +1,15 @@
 -- The arguments, each file after those it leans on. The terms of the statements of specs/Theorems.antt are in Outcomes (RefusalDrops),
--- Stays (DeskStays), Desks (DeskTest), Calls (CallsExact), Surveys (SurveyExact), Session (FedInPieces, SessionIsLines) and ReadBack (TypedIn, ListingReadBack);
--- those of specs/Demands.antt in Replies (RepliesExact, DeskParts), Demand1 and Demand2, which ends with `demands`; that
--- of specs/Cases.antt in Cases.
+-- Stays (DeskStays), TypedLines (AcceptedFromLines), Desks (DeskTest), Surveys (SurveyExact), Calls (CallsExact), Session (FedInPieces,
+-- SessionFed) and ReadBack (TypedIn, ListingReadBack); that of specs/Grammar.antt is in Grammar; those of specs/Demands.antt in Replies
+-- (RepliesExact, DeskParts), Demand1, Demand2 and Demands; that of specs/Cases.antt in Cases.
 pub mod Outcomes
 pub mod Stays
+pub mod OpenPlans
+pub mod Fields
+pub mod Decimals
+pub mod Grammar
+pub mod Lines
+pub mod TypedLines
 pub mod Desks
 pub mod Surveys
 pub mod Calls
@@ -13,4 +19,5 @@ pub mod Conditions
 pub mod Replies
 pub mod Demand1
 pub mod Demand2
+pub mod Demands
 pub mod Cases

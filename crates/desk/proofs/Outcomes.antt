@@ -1,16 +1,18 @@
--- What holds of every outcome that is no refusal: a step hands it on to the next, and what was passed has it. With it, that a refusal
--- only drops the open plan.
+-- What holds of every outcome that is no refusal: a step hands it on to the next, and what was passed has it; what an operation passes,
+-- its job passes behind the tests around it. With it, that a refusal only drops the open plan.
 use Prim.Native.Nat.{ℕ}
 use mathlib.Core.Path.{_≡_, refl, sym, ap, subst}
-use mathlib.Core.Bool.{Bool, true, false}
+use mathlib.Core.Bool.{Bool, true, false, _&&_, not}
 use mathlib.Core.Option.{Option, none, some}
+use lib.Dec.{T}
 use Rattle.higman.specs.Limits.{Plan}
-use Rattle.higman.specs.Refusals.{Letter}
+use Rattle.higman.specs.Bases.{all}
+use Rattle.higman.specs.Refusals.{wrongState, slotOutside, slotEmpty, countFull, Letter}
 use Rattle.higman.specs.Text.{Bytes}
 use Rattle.desk.specs.Desk.{Draft, Desk, held, dropped}
-use Rattle.desk.specs.Records.{Record, P, M, E, F, I, K, S, W, L, C, T, U}
-use Rattle.higman.specs.Listing.{slotNumber}
-use Rattle.desk.specs.Replies.{Reply, silent, ok, okNumber, okWord, lists, surveys, refuses, Outcome, refuse, pass, _>>=_, _when_, planIn, openPlan, Effect, settle, operation, lineOperation, respondLine}
+use Rattle.desk.specs.Records.{Record, P, M, E, F, I, K, S, W, L, C, T as Tᴿ, U, slotsNamed, isChange}
+use Rattle.higman.specs.Listing.{slotNumber, isSlot}
+use Rattle.desk.specs.Replies.{Reply, silent, ok, okNumber, okWord, lists, surveys, refuses, Outcome, refuse, pass, _>>=_, _when_, openAmiss, openPlan, planIn, atLimit, job, Effect, settle, operation, lineOperation, respondLine}
 use Rattle.desk.specs.Theorems.{RefusalDrops}
 
 pub data Passes {A : Type 0} (Q : A → Type 0) : Outcome A → Type 0 where
@@ -47,19 +49,53 @@ pub test-failed : (n : ℕ) (t : Bool) → Passes (λ _. t ≡ false) (n when t)
 test-failed n true = stops
 test-failed n false = passes refl
 
+pub test-held : (n : ℕ) (t : Bool) → Passes (λ _. T t) (n when not t)
+test-held n true = passes tt
+test-held n false = stops
+
 pub plan-held : (d : Desk) (a : ℕ) → Passes (λ p. held d (slotNumber a) ≡ some p) (planIn d a)
-plan-held d a = go (held d (slotNumber a)) refl
+plan-held d a = by-content (held d (slotNumber a)) refl
   where
-    go : (x : Option Plan) → held d (slotNumber a) ≡ x → Passes (λ p. held d (slotNumber a) ≡ some p) (elim x [ none ↦ refuse 9 none | some p ↦ pass p ])
-    go none e = stops
-    go (some p) e = passes e
+    by-content : (x : Option Plan) → held d (slotNumber a) ≡ x
+        → Passes (λ p. held d (slotNumber a) ≡ some p) (elim x [ none ↦ refuse slotEmpty none | some p ↦ pass p ])
+    by-content none e = stops
+    by-content (some p) e = passes e
 
 pub plan-open : (d : Desk) → Passes (λ o. d .draft ≡ some o) (openPlan d)
-plan-open d = go (d .draft) refl
+plan-open d = by-draft (d .draft) refl
   where
-    go : (x : Option Draft) → d .draft ≡ x → Passes (λ o. d .draft ≡ some o) (elim x [ none ↦ refuse 2 none | some o ↦ pass o ])
-    go none e = stops
-    go (some o) e = passes e
+    by-draft : (x : Option Draft) → d .draft ≡ x
+        → Passes (λ o. d .draft ≡ some o) (elim x [ none ↦ refuse wrongState none | some o ↦ pass o ])
+    by-draft none e = stops
+    by-draft (some o) e = passes e
+
+-- what the tests around a job have found where it is done
+pub record Tested (d : Desk) (r : Record) : Type 0 where
+  pub open-fits : openAmiss d r ≡ false
+  pub slots-named : T (all (λ u. isSlot (u .slot)) (slotsNamed r))
+  pub room : (isChange r && atLimit d) ≡ false
+
+pub passes-operation : (d : Desk) (r : Record) {Q : Effect → Type 0} → (Tested d r → Passes Q (job d r)) → Passes Q (operation d r)
+unfolding operation
+passes-operation d r {Q} done =
+    passes-then (test-failed wrongState (openAmiss d r)) (λ _ o. passes-then
+    (test-held slotOutside (all (λ u. isSlot (u .slot)) (slotsNamed r)))
+    (λ _ s. by-room (isChange r && atLimit d) refl (λ m. record { open-fits = o; slots-named = s; room = m })))
+  where
+    by-room : (b : Bool) → (isChange r && atLimit d) ≡ b → ((isChange r && atLimit d) ≡ false → Tested d r)
+        → Passes Q (job d r >>= λ e. (countFull when b) >>= λ _. pass e)
+    by-room true m t = any-then (job d r) (λ e. passes-then {H = λ _. ⊥} stops (λ _ h. absurd h))
+    by-room false m t = passes-then (done (t m)) (λ e q. any-then (pass tt) (λ _. passes q))
+
+-- the other way round: an operation is done where the tests fail and its job is
+pub operation-pass : (d : Desk) (r : Record) (e : Effect) → Tested d r → job d r ≡ pass e → operation d r ≡ pass e
+unfolding operation _>>=_
+operation-pass d r e t j =
+    rw (t .open-fits, test-passed (all (λ u. isSlot (u .slot)) (slotsNamed r)) (t .slots-named), j, t .room) refl
+  where
+    test-passed : (b : Bool) → T b → b ≡ true
+    test-passed true h = refl
+    test-passed false h = absurd h
 
 abbrev NoRefusal : Reply → Type 0
 NoRefusal silent = Unit {0}
@@ -73,24 +109,24 @@ NoRefusal (refuses n c) = ⊥
 abbrev Answered : Effect → Type 0
 Answered e = NoRefusal (e .1)
 
-operation-answers : (d : Desk) (r : Record) → Passes Answered (operation d r)
-unfolding operation
-operation-answers d (P a n r) = any-then _ (λ _. any-then _ (λ _. any-then _ (λ _. passes tt)))
-operation-answers d (M from to) = any-then _ (λ _. any-then _ (λ _. any-then _ (λ _. passes tt)))
-operation-answers d E = any-then _ (λ _. any-then _ (λ _. any-then _ (λ _. passes tt)))
-operation-answers d (F a b c) = any-then _ (λ _. any-then _ (λ _. any-then _ (λ _. any-then _ (λ _. any-then _ (λ _. any-then _ (λ _. passes tt))))))
-operation-answers d (I a c) = any-then _ (λ _. any-then _ (λ _. any-then _ (λ _. any-then _ (λ _. any-then _ (λ _. passes tt)))))
-operation-answers d (K a k c) = any-then _ (λ _. any-then _ (λ _. any-then _ (λ _. any-then _ (λ _. any-then _ (λ _. any-then _ (λ _. passes tt))))))
-operation-answers d (S a b) = any-then _ (λ _. any-then _ (λ _. any-then _ (λ _. any-then _ (λ _. any-then _ (λ _. passes tt)))))
-operation-answers d (W a code) = any-then _ (λ _. any-then _ (λ _. any-then _ (λ _. any-then _ (λ _. passes tt))))
-operation-answers d (L a) = any-then _ (λ _. any-then _ (λ _. any-then _ (λ _. passes tt)))
-operation-answers d (C a) = any-then _ (λ _. any-then _ (λ _. any-then _ (λ _. any-then _ (λ _. passes tt))))
-operation-answers d T = any-then _ (λ _. passes tt)
-operation-answers d U = any-then _ (λ _. passes tt)
+job-answers : (d : Desk) (r : Record) → Passes Answered (job d r)
+unfolding job
+job-answers d (P a n r) = any-then _ (λ _. passes tt)
+job-answers d (M from to) = any-then _ (λ _. any-then _ (λ _. any-then _ (λ _. passes tt)))
+job-answers d E = any-then _ (λ _. any-then _ (λ _. passes tt))
+job-answers d (F a b c) = any-then _ (λ _. any-then _ (λ _. any-then _ (λ _. passes tt)))
+job-answers d (I a c) = any-then _ (λ _. any-then _ (λ _. passes tt))
+job-answers d (K a k c) = any-then _ (λ _. any-then _ (λ _. any-then _ (λ _. passes tt)))
+job-answers d (S a b) = any-then _ (λ _. any-then _ (λ _. any-then _ (λ _. passes tt)))
+job-answers d (W a code) = any-then _ (λ _. any-then _ (λ _. passes tt))
+job-answers d (L a) = any-then _ (λ _. passes tt)
+job-answers d (C a) = any-then _ (λ _. passes tt)
+job-answers d Tᴿ = passes tt
+job-answers d U = passes tt
 
 line-answers : (d : Desk) (line : Bytes) → Passes Answered (lineOperation d line)
 unfolding lineOperation
-line-answers d line = any-then _ (operation-answers d)
+line-answers d line = any-then _ (λ r. passes-operation d r (λ _. job-answers d r))
 
 settled-refusal : (d : Desk) (o : Outcome Effect) → Passes Answered o → (n : ℕ) (c : Option Letter) → settle d o .1 ≡ refuses n c → settle d o .0 ≡ dropped d
 settled-refusal d (refuse m b) h n c e = refl

@@ -2,34 +2,39 @@
 -- spell. So a listing read back is the same plan: what E keeps of a kept plan is that plan, by higman's theorems.
 use Prim.Native.Nat.{ℕ, suc, _+_, _≤_, _<_}
 use native.Mathlib.Omega.{arith}
-use mathlib.Core.Path.{_≡_, refl, _∙_, ap, ap₂}
+use mathlib.Core.Path.{_≡_, refl, sym, _∙_, ap, subst}
 use mathlib.Core.Bool.{Bool, true, false, _&&_, not}
 use mathlib.Core.List.{List, [], _∷_, _++_, append-assoc, append-nil}
 use mathlib.Core.Option.{none, some}
 use borrow.Author.Tests.{ne-eqb, lt-leb}
 use lib.Dec.{T, leb, ltb, eqb, leb→le, le→leb, lt→ltb, lit<, lit≤}
 use lib.ListN.{length, length-append, length-map}
-use Rattle.higman.specs.Words.{Shape, Word, isWord}
+use Rattle.higman.specs.Words.{Shape, Word, isWord, spelled}
 use Rattle.higman.specs.Bases.{all}
 use Rattle.higman.specs.Tables.{Pair, Table, froms, tos}
 use Rattle.higman.specs.Limits.{shapeInRange, granted, fits, pairFits, maxPairs, maxDigits, slotCount, isPlanWord}
 use Rattle.higman.specs.Normal.{keep}
 use Rattle.higman.specs.Answers.{Accepted, verdict}
-use Rattle.higman.specs.Text.{tab, lineEnd, digitByte, wordBytes, Bytes, wordOf}
+use Rattle.higman.specs.Text.{tab, lineEnd, digitByte, wordBytes, Bytes, bytes, decimal, wordOf}
 use Rattle.higman.specs.Listing.{openRecord, pairRecord, pairRecords, joinLines, closeRecord, slotNumber, slotByte, isSlot}
-use Rattle.higman.proofs.Tests.{so, and-left, and-right, and-intro, all-cons}
+use Rattle.higman.proofs.Tests.{so, and-left, and-right, and-intro, all-cons, all-head, all-tail, pair-path}
 use Rattle.higman.proofs.Statements.{table-of, test-table, normal-form, answers-exact}
 use Rattle.higman.proofs.Columns.{column-is-basis}
 use Rattle.higman.proofs.KeptPlans.{in-range, arity-of-range}
 use Rattle.higman.proofs.PlanWords.{plan-word-of, plan-word-length, plan-word-ways}
 use Rattle.higman.proofs.Text.{word-of-bytes}
 use Rattle.desk.specs.Limits.{maxChanges, maxLine}
-use Rattle.desk.specs.Desk.{Draft, Desk, withDraft, withPair, changed, dropped}
-use Rattle.desk.specs.Records.{Record, P, M, E, fields, digitField, isNumeral, numeralValue, grammar, parse, applied, readFields}
-use Rattle.desk.specs.Replies.{lists, pass, _>>=_, _when_, Effect, silent, okNumber, newDraft, operation, recordOf, lineOperation, settle, respondLine}
+use Rattle.desk.specs.Desk.{Draft, Desk, countOf, withDraft, withPair, changed}
+use Rattle.desk.specs.Records.{Record, P, M, E, parse, recordFields, recordText, noTab, hasDigits, wellFormed}
+use Rattle.desk.specs.Replies.{lists, pass, Effect, silent, okNumber, newDraft, operation, settle, respondLine}
 use Rattle.desk.specs.Bytes.{Order, replyBytes}
 use Rattle.desk.specs.Session.{State, idle, grown, feedByte, feed}
 use Rattle.desk.specs.Theorems.{TypedIn, ListingReadBack}
+use Rattle.desk.proofs.OpenPlans.{typedPair, open-pass, pair-pass, close-pass}
+use Rattle.desk.proofs.Fields.{no-tab-cons, word-no-tab}
+use Rattle.desk.proofs.Decimals.{decimal-digit}
+use Rattle.desk.proofs.Grammar.{parse-text}
+use Rattle.desk.proofs.Lines.{respond-record}
 
 -- bytes without a certain one
 abbrev Without : ℕ → Bytes → Type 0
@@ -44,106 +49,78 @@ without-append : (c : ℕ) (x y : Bytes) → Without c x → Without c y → Wit
 without-append c [] y h k = k
 without-append c (b ∷ x) y h k = (h .0, without-append c x y (h .1) k)
 
--- fields of a line
-fields-last : (f : Bytes) → Without tab f → fields f ≡ f ∷ []
-fields-last [] h = refl
-fields-last (b ∷ f) h = rw (h .0, fields, fields-last f (h .1))
-
-fields-first : (f rest : Bytes) → Without tab f → fields (f ++ tab ∷ rest) ≡ f ∷ fields rest
-fields-first [] rest h = refl
-fields-first (b ∷ f) rest h = rw (h .0, fields, fields-first f rest (h .1))
-
-value-of-digit : (a : ℕ) → numeralValue (digitByte a) ≡ a
-value-of-digit a = omega arith
-
-digit-field : (a : ℕ) → a ≤ 9 → digitField (digitByte a ∷ []) ≡ some a
-digit-field a h = rw (numeral, digitField) (ap some (value-of-digit a))
-  where
-    numeral : isNumeral (digitByte a) ≡ true
-    numeral = rw (so (leb 48 (48 + a)) (le→leb 48 (48 + a) (omega arith)), so (leb (48 + a) 57) (le→leb (48 + a) 57 (omega arith)))
-
--- the three kinds of lines
+-- the three kinds of lines, as a listing has them, are texts of records
 abbrev openLine : ℕ → Shape → Bytes
 openLine b s = 80 ∷ tab ∷ b ∷ tab ∷ digitByte (s .arity) ∷ tab ∷ digitByte (s .roots) ∷ []
 
 abbrev pairLine : Pair → Bytes
 pairLine p = 77 ∷ tab ∷ (wordBytes (p .from) ++ tab ∷ wordBytes (p .to))
 
+one-digit : (a : ℕ) → a ≤ 9 → T (hasDigits 1 a)
+one-digit a h = subst (λ l. T (leb (length l) 1)) (sym (decimal-digit a (omega arith))) tt
+
+module _ (b : ℕ) (s : Shape) (plain : eqb b tab ≡ false) (n : s .arity ≤ 9) (r : s .roots ≤ 9) where
+  open-text : recordText (P b (s .arity) (s .roots)) ≡ openLine b s
+  unfolding recordText
+  open-text = rw (decimal-digit (s .arity) (omega arith), decimal-digit (s .roots) (omega arith))
+
+  open-well-formed : T (wellFormed (P b (s .arity) (s .roots)))
+  unfolding wellFormed
+  open-well-formed =
+      let number : (k : ℕ) → T (noTab (decimal k)) = λ k. word-no-tab (spelled (suc k) k) in
+      and-intro (all noTab (recordFields (P b (s .arity) (s .roots)))) (hasDigits 1 (s .arity) && hasDigits 1 (s .roots))
+      (all-cons noTab (b ∷ []) (decimal (s .arity) ∷ decimal (s .roots) ∷ []) (no-tab-cons b [] plain tt)
+      (all-cons noTab (decimal (s .arity)) (decimal (s .roots) ∷ []) (number (s .arity)) (all-cons noTab (decimal (s .roots)) [] (number (s .roots)) tt)))
+      (and-intro (hasDigits 1 (s .arity)) (hasDigits 1 (s .roots)) (one-digit (s .arity) n) (one-digit (s .roots) r))
+
+  parse-open : parse (openLine b s) ≡ some (P b (s .arity) (s .roots))
+  parse-open = ap parse (sym open-text) ∙ parse-text (P b (s .arity) (s .roots)) open-well-formed
+
 parse-pair : (p : Pair) → parse (pairLine p) ≡ some (M (wordBytes (p .from)) (wordBytes (p .to)))
-unfolding parse grammar
-parse-pair p = ap readFields fs
+unfolding recordText wellFormed
+parse-pair p = parse-text (M (wordBytes (p .from)) (wordBytes (p .to))) well-formed
   where
-    fs : fields (pairLine p) ≡ (77 ∷ []) ∷ wordBytes (p .from) ∷ wordBytes (p .to) ∷ []
-    fs = rw (fields-first (wordBytes (p .from)) (wordBytes (p .to)) (word-without tab (omega arith) (p .from)), fields-last (wordBytes (p .to)) (word-without tab (omega arith) (p .to)))
-
-parse-open : (b : ℕ) (s : Shape) → eqb b tab ≡ false → s .arity ≤ 9 → s .roots ≤ 9 → parse (openLine b s) ≡ some (P b (s .arity) (s .roots))
-unfolding parse grammar
-parse-open b s h n r = ap readFields fs ∙ ap₂ (λ x y. applied (applied (some (λ n r. P b n r)) x) y) (digit-field (s .arity) n) (digit-field (s .roots) r)
-  where
-    plain : (a : ℕ) → Without tab (digitByte a ∷ [])
-    plain a = word-without tab (omega arith) (a ∷ [])
-
-    fs : fields (openLine b s) ≡ (80 ∷ []) ∷ (b ∷ []) ∷ (digitByte (s .arity) ∷ []) ∷ (digitByte (s .roots) ∷ []) ∷ []
-    fs = rw (fields-first (b ∷ []) (digitByte (s .arity) ∷ tab ∷ digitByte (s .roots) ∷ []) (h, tt), fields-first (digitByte (s .arity) ∷ []) (digitByte (s .roots) ∷ []) (plain (s .arity)), fields-last (digitByte (s .roots) ∷ []) (plain (s .roots)))
-
--- a line of a record does what the record does
-respond-record : (d : Desk) (line : Bytes) (r : Record) → length line ≤ maxLine → parse line ≡ some r → respondLine d line ≡ settle d (operation d r)
-unfolding _>>=_ respondLine lineOperation
-respond-record d line r h e = ap (λ o. settle d (o >>= operation d)) whole
-  where
-    whole : recordOf line ≡ pass r
-    whole = rw (so (leb (length line) maxLine) (le→leb (length line) maxLine h), recordOf, e)
-
-when-held : (n : ℕ) (t : Bool) → T t → (n when not t) ≡ pass tt
-when-held n true h = refl
-when-held n false h = absurd h
-
-operation-open : (d : Desk) (b : ℕ) (s : Shape) → T (isSlot b) → T (shapeInRange s) → operation (dropped d) (P b (s .arity) (s .roots)) ≡ pass (withDraft d (newDraft b s), silent)
-unfolding _>>=_ operation dropped withDraft
-operation-open d b s h k = rw (when-held 8 (all isSlot (b ∷ [])) (all-cons isSlot b [] h tt), when-held 3 (shapeInRange s) k)
+    well-formed : T (all noTab (bytes "M" ∷ wordBytes (p .from) ∷ wordBytes (p .to) ∷ []) && true)
+    well-formed =
+        and-intro (all noTab (wordBytes (p .from) ∷ wordBytes (p .to) ∷ [])) true
+        (all-cons noTab (wordBytes (p .from)) (wordBytes (p .to) ∷ []) (word-no-tab (p .from)) (all-cons noTab (wordBytes (p .to)) [] (word-no-tab (p .to)) tt)) tt
 
 operation-pair : (d : Desk) (o : Draft) (p : Pair) → T (shapeInRange (o .shape)) → T (isPlanWord (o .shape) (p .from) && isPlanWord (o .shape) (p .to))
     → length (o .rows) < maxPairs
     → operation (withDraft d o) (M (wordBytes (p .from)) (wordBytes (p .to))) ≡ pass (withDraft d (withPair o p), silent)
-unfolding _>>=_ operation withDraft
-operation-pair d o p r h k = rw (spelt-back (p .from) from, spelt-back (p .to) to, when-held 4 (isPlanWord (o .shape) (p .from) && isPlanWord (o .shape) (p .to)) h, lt-leb maxPairs (length (o .rows)) k)
+operation-pair d o p r h k =
+    pair-pass d o (wordBytes (p .from)) (wordBytes (p .to)) (subst (λ q. T (isPlanWord (o .shape) (q .from) && isPlanWord (o .shape) (q .to))) (sym spelt-back) h) k
+    ∙ ap (λ q. pass (withDraft d (withPair o q), silent)) spelt-back
   where
-    from : T (isPlanWord (o .shape) (p .from))
-    from = and-left (isPlanWord (o .shape) (p .from)) (isPlanWord (o .shape) (p .to)) h
+    word-back : (w : Word) → T (isPlanWord (o .shape) w) → wordOf (wordBytes w) ≡ w
+    word-back w t = word-of-bytes w (plan-word-ways (o .shape) w t r)
 
-    to : T (isPlanWord (o .shape) (p .to))
-    to = and-right (isPlanWord (o .shape) (p .from)) (isPlanWord (o .shape) (p .to)) h
+    spelt-back : typedPair (wordBytes (p .from)) (wordBytes (p .to)) ≡ p
+    spelt-back =
+        pair-path
+        (word-back (p .from) (and-left (isPlanWord (o .shape) (p .from)) (isPlanWord (o .shape) (p .to)) h))
+        (word-back (p .to) (and-right (isPlanWord (o .shape) (p .from)) (isPlanWord (o .shape) (p .to)) h))
 
-    spelt-back : (w : Word) → T (isPlanWord (o .shape) w) → wordOf (wordBytes w) ≡ w
-    spelt-back w t = word-of-bytes w (plan-word-ways (o .shape) w t r)
-
-operation-close : (d : Desk) (o : Draft) → verdict (o .shape) (o .rows) ≡ Accepted → keep (o .shape) (o .rows) ≡ o .rows → d .changes < maxChanges
+operation-close : (d : Desk) (o : Draft) → verdict (o .shape) (o .rows) ≡ Accepted → keep (o .shape) (o .rows) ≡ o .rows → countOf d < maxChanges
     → operation (withDraft d o) E ≡ pass (changed d (o .slot) (some (record { shape = o .shape; rows = o .rows })), okNumber (length (o .rows)))
-unfolding _>>=_ operation withDraft changed
-operation-close d o v k h = rw (v, lt-leb maxChanges (d .changes) h, k)
+unfolding withDraft changed
+operation-close d o v k h =
+    close-pass (withDraft d o) o refl v (lt-leb maxChanges (countOf d) h)
+    ∙ ap (λ t. pass (changed d (o .slot) (some (record { shape = o .shape; rows = t })), okNumber (length t))) k
 
 -- the words of a table are words in a plan
 abbrev Spelt : Shape → Table → Type 0
 Spelt s [] = Unit {0}
 Spelt s (p ∷ t) = T (isPlanWord s (p .from) && isPlanWord s (p .to)) × Spelt s t
 
-all-first : {A : Type 0} (f : A → Bool) (x : A) (l : List A) → T (all f (x ∷ l)) → T (f x) × T (all f l)
-all-first f x l h = by (f x) h
-  where
-    by : (b : Bool) → T (elim b [ true ↦ all f l | false ↦ false ]) → T b × T (all f l)
-    by true t = (tt, t)
-    by false t = absurd t
-
 spelt : (s : Shape) (t : Table) → T (all (isWord s) (froms t)) → T (all (isWord s) (tos t)) → T (all pairFits t) → Spelt s t
 spelt s [] f g h = tt
 spelt s (p ∷ t) f g h =
-    let f′ = all-first (isWord s) (p .from) (froms t) f in
-    let g′ = all-first (isWord s) (p .to) (tos t) g in
-    let h′ = all-first pairFits p t h in (
+    let few = all-head pairFits p t h in (
       and-intro (isPlanWord s (p .from)) (isPlanWord s (p .to))
-          (plan-word-of s (p .from) (f′ .0) (and-left (fits (p .from)) (fits (p .to)) (h′ .0)))
-          (plan-word-of s (p .to) (g′ .0) (and-right (fits (p .from)) (fits (p .to)) (h′ .0))),
-      spelt s t (f′ .1) (g′ .1) (h′ .1),
+          (plan-word-of s (p .from) (all-head (isWord s) (p .from) (froms t) f) (and-left (fits (p .from)) (fits (p .to)) few))
+          (plan-word-of s (p .to) (all-head (isWord s) (p .to) (tos t) g) (and-right (fits (p .from)) (fits (p .to)) few)),
+      spelt s t (all-tail (isWord s) (p .from) (froms t) f) (all-tail (isWord s) (p .to) (tos t) g) (all-tail pairFits p t h),
     )
 
 pair-line-fits : (p : Pair) → length (p .from) ≤ maxDigits → length (p .to) ≤ maxDigits → length (pairLine p) ≤ maxLine
@@ -200,8 +177,8 @@ module _ (order : Order) where
   after-all e = λ i. (idle (e .0), append-nil (replyBytes order (e .1)) i)
 
 parse-close : parse (69 ∷ []) ≡ some E
-unfolding parse grammar
-parse-close = refl
+unfolding recordText wellFormed
+parse-close = parse-text E tt
 
 open-line-inside : (b : ℕ) (s : Shape) → eqb b lineEnd ≡ false → Without lineEnd (openLine b s)
 open-line-inside b s h = (refl, (refl, (h, (refl, (digit (s .arity), (refl, (digit (s .roots), tt)))))))
@@ -220,17 +197,12 @@ close-line-fits = lit≤ tt
 slot-plain : (b c : ℕ) → T (isSlot b) → c < 65 → eqb b c ≡ false
 slot-plain b c h k = ne-eqb b c (λ e. let low : 65 ≤ b = leb→le 65 b (and-left (leb 65 b) (leb (suc b) (slotByte slotCount)) h) in omega arith)
 
-without-draft : (d : Desk) → d .draft ≡ none → d ≡ dropped d
-unfolding dropped
-without-draft d e = λ i. record { slots = d .slots; draft = e i; changes = d .changes }
-
 pub typed-in : TypedIn
 unfolding replyBytes granted
 typed-in order d e b h s t k rest =
     let table = table-of s t k in
     let range = in-range s (table .in-range) in
-    ap (λ x. feed order (idle x) (openRecord b s ++ (joinLines (pairRecords t) ++ rest))) (without-draft d e)
-    ∙ feed-record order (dropped d) (openLine b s) (P b (s .arity) (s .roots)) (withDraft d (newDraft b s), silent) (joinLines (pairRecords t) ++ rest) (open-line-inside b s (slot-plain b lineEnd h (lit< tt))) (open-line-fits b s) (parse-open b s (slot-plain b tab h (lit< tt)) (range .arity-high) (range .roots-high)) (operation-open d b s h (table .in-range))
+    feed-record order d (openLine b s) (P b (s .arity) (s .roots)) (withDraft d (newDraft b s), silent) (joinLines (pairRecords t) ++ rest) (open-line-inside b s (slot-plain b lineEnd h (lit< tt))) (open-line-fits b s) (parse-open b s (slot-plain b tab h (lit< tt)) (range .arity-high) (range .roots-high)) (open-pass d e b s h (table .in-range))
     ∙ feed-pairs order d (slotNumber b) s t [] rest (table .in-range) (spelt s t (table .from-words) (table .to-words) (and-right (leb (length t) maxPairs) (all pairFits t) (table .within))) (leb→le (length t) maxPairs (and-left (leb (length t) maxPairs) (all pairFits t) (table .within)))
 
 pub listing-read-back : ListingReadBack

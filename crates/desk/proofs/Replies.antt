@@ -10,12 +10,12 @@ use Rattle.higman.specs.Words.{given}
 use Rattle.higman.specs.Limits.{Plan, slotCount}
 use Rattle.higman.proofs.Tests.{clash}
 use Rattle.higman.specs.Text.{Bytes, wordOf}
-use Rattle.desk.specs.Desk.{Draft, Desk, held, changed, withDraft, withPair, dropped}
-use Rattle.desk.specs.Records.{Record, P, M, E, F, I, K, S, W, L, C, T, U}
+use Rattle.desk.specs.Desk.{Draft, Desk, countOf, held, changed, withDraft, withPair, dropped}
+use Rattle.desk.specs.Records.{Record, P, M, E, F, I, K, S, W, L, C, T, U, needsOpen, isChange}
 use Rattle.higman.specs.Listing.{slotNumber}
-use Rattle.desk.specs.Replies.{Outcome, pass, _when_, Effect, silent, ok, okNumber, lists, surveys, isOpen, heldFrom, newDraft, operation}
-use Rattle.desk.specs.Demands.{isChange, RepliesExact, DeskParts}
-use Rattle.desk.proofs.Outcomes.{Passes, stops, passes, passes-then, any-then, passed, test-failed, plan-held, plan-open}
+use Rattle.desk.specs.Replies.{pass, Effect, silent, ok, okNumber, lists, surveys, isOpen, heldFrom, newDraft, job, operation}
+use Rattle.desk.specs.Demands.{RepliesExact, DeskParts}
+use Rattle.desk.proofs.Outcomes.{Passes, passes, passes-then, any-then, passed, plan-held, plan-open, passes-operation}
 
 -- no plan is open where the test says so
 not-open : (d : Desk) → isOpen d ≡ false → d .draft ≡ none
@@ -29,63 +29,67 @@ abbrev Opens : Desk → ℕ → ℕ → ℕ → Effect → Type 0
 Opens d a n r e = (d .draft ≡ none) × (e ≡ (withDraft d (newDraft a (record { arity = n; roots = r })), silent))
 
 open-steps : (d : Desk) (a n r : ℕ) → Passes (Opens d a n r) (operation d (P a n r))
-unfolding operation
-open-steps d a n r = passes-then (test-failed 2 (isOpen d)) (λ _ x. any-then _ (λ _. any-then _ (λ _. passes (not-open d x, refl))))
+unfolding job needsOpen
+open-steps d a n r = passes-operation d (P a n r) (λ t. any-then _ (λ _. passes (not-open d (t .open-fits), refl)))
 
 abbrev Adds : Desk → Bytes → Bytes → Effect → Type 0
 Adds d from to e = (o : Draft) × (d .draft ≡ some o) × (e ≡ (withDraft d (withPair o (record { from = wordOf from; to = wordOf to })), silent))
 
 add-steps : (d : Desk) (from to : Bytes) → Passes (Adds d from to) (operation d (M from to))
-unfolding operation
-add-steps d from to = passes-then (plan-open d) (λ o x. any-then _ (λ _. any-then _ (λ _. passes (o, x, refl))))
+unfolding job
+add-steps d from to =
+    passes-operation d (M from to) (λ _. passes-then (plan-open d) (λ o x. any-then _ (λ _. any-then _ (λ _. passes (o, x, refl)))))
 
 abbrev Empties : Desk → ℕ → Effect → Type 0
 Empties d a e = (p : Plan) × (held d (slotNumber a) ≡ some p) × (e ≡ (changed d (slotNumber a) none, ok))
 
 empty-steps : (d : Desk) (a : ℕ) → Passes (Empties d a) (operation d (C a))
-unfolding operation
-empty-steps d a = any-then _ (λ _. any-then _ (λ _. passes-then (plan-held d a) (λ p x. any-then _ (λ _. passes (p, x, refl)))))
+unfolding job
+empty-steps d a = passes-operation d (C a) (λ _. passes-then (plan-held d a) (λ p x. passes (p, x, refl)))
 
 abbrev Shows : Desk → ℕ → Effect → Type 0
 Shows d a e = (p : Plan) × (held d (slotNumber a) ≡ some p) × (e ≡ (d, lists a p))
 
 show-steps : (d : Desk) (a : ℕ) → Passes (Shows d a) (operation d (L a))
-unfolding operation
-show-steps d a = any-then _ (λ _. any-then _ (λ _. passes-then (plan-held d a) (λ p x. passes (p, x, refl))))
+unfolding job
+show-steps d a = passes-operation d (L a) (λ _. passes-then (plan-held d a) (λ p x. passes (p, x, refl)))
 
-count-steps : (d : Desk) → Passes (λ e. e ≡ (d, okNumber (d .changes))) (operation d T)
-unfolding operation
-count-steps d = any-then _ (λ _. passes refl)
+count-steps : (d : Desk) → Passes (λ e. e ≡ (d, okNumber (countOf d))) (operation d T)
+unfolding job
+count-steps d = passes-operation d T (λ _. passes refl)
 
 find-steps : (d : Desk) → Passes (λ e. e ≡ (d, surveys (heldFrom 0 (d .slots)))) (operation d U)
-unfolding operation
-find-steps d = any-then _ (λ _. passes refl)
+unfolding job
+find-steps d = passes-operation d U (λ _. passes refl)
 
 -- slots and count: as they were, or the count one higher
 abbrev Unchanged : Desk → Effect → Type 0
-Unchanged d e = (e .0 .slots ≡ d .slots) × (e .0 .changes ≡ d .changes)
+Unchanged d e = (e .0 .slots ≡ d .slots) × (countOf (e .0) ≡ countOf d)
 
 abbrev Raised : Desk → Effect → Type 0
-Raised d e = e .0 .changes ≡ d .changes + 1
+Raised d e = countOf (e .0) ≡ countOf d + 1
 
 abbrev Counts : Bool → Desk → Effect → Type 0
 Counts true d e = Raised d e
 Counts false d e = Unchanged d e
 
-count-of : (d : Desk) (r : Record) → Passes (Counts (isChange r) d) (operation d r)
-unfolding operation isChange changed withDraft
-count-of d (P a n r) = any-then _ (λ _. any-then _ (λ _. any-then _ (λ _. passes (refl, refl))))
+count-of : (d : Desk) (r : Record) → Passes (Counts (isChange r) d) (job d r)
+unfolding job isChange changed withDraft
+count-of d (P a n r) = any-then _ (λ _. passes (refl, refl))
 count-of d (M from to) = any-then _ (λ _. any-then _ (λ _. any-then _ (λ _. passes (refl, refl))))
-count-of d E = any-then _ (λ _. any-then _ (λ _. any-then _ (λ _. passes refl)))
-count-of d (F a b c) = any-then _ (λ _. any-then _ (λ _. any-then _ (λ _. any-then _ (λ _. any-then _ (λ _. any-then _ (λ _. passes refl))))))
-count-of d (I a c) = any-then _ (λ _. any-then _ (λ _. any-then _ (λ _. any-then _ (λ _. any-then _ (λ _. passes refl)))))
-count-of d (K a k c) = any-then _ (λ _. any-then _ (λ _. any-then _ (λ _. any-then _ (λ _. any-then _ (λ _. any-then _ (λ _. passes refl))))))
-count-of d (S a b) = any-then _ (λ _. any-then _ (λ _. any-then _ (λ _. any-then _ (λ _. any-then _ (λ _. passes (refl, refl))))))
-count-of d (W a code) = any-then _ (λ _. any-then _ (λ _. any-then _ (λ _. any-then _ (λ _. passes (refl, refl)))))
-count-of d (L a) = any-then _ (λ _. any-then _ (λ _. any-then _ (λ _. passes (refl, refl))))
-count-of d (C a) = any-then _ (λ _. any-then _ (λ _. any-then _ (λ _. any-then _ (λ _. passes refl))))
-count-of d T = any-then _ (λ _. passes (refl, refl))
-count-of d U = any-then _ (λ _. passes (refl, refl))
+count-of d E = any-then _ (λ _. any-then _ (λ _. passes refl))
+count-of d (F a b c) = any-then _ (λ _. any-then _ (λ _. any-then _ (λ _. passes refl)))
+count-of d (I a c) = any-then _ (λ _. any-then _ (λ _. passes refl))
+count-of d (K a k c) = any-then _ (λ _. any-then _ (λ _. any-then _ (λ _. passes refl)))
+count-of d (S a b) = any-then _ (λ _. any-then _ (λ _. any-then _ (λ _. passes (refl, refl))))
+count-of d (W a code) = any-then _ (λ _. any-then _ (λ _. passes (refl, refl)))
+count-of d (L a) = any-then _ (λ _. passes (refl, refl))
+count-of d (C a) = any-then _ (λ _. passes refl)
+count-of d T = passes (refl, refl)
+count-of d U = passes (refl, refl)
+
+operation-counts : (d : Desk) (r : Record) → Passes (Counts (isChange r) d) (operation d r)
+operation-counts d r = passes-operation d r (λ _. count-of d r)
 
 pub replies-exact : RepliesExact
 replies-exact =
@@ -96,8 +100,8 @@ replies-exact =
       lists = λ d a e h. passed (show-steps d a) e h;
       counts = λ d e h. passed (count-steps d) e h;
       surveys = λ d e h. passed (find-steps d) e h;
-      only-changes = λ d r e b h. subst (λ x. Counts x d e) b (passed (count-of d r) e h);
-      raises = λ d r e b h. subst (λ x. Counts x d e) b (passed (count-of d r) e h);
+      only-changes = λ d r e b h. subst (λ x. Counts x d e) b (passed (operation-counts d r) e h);
+      raises = λ d r e b h. subst (λ x. Counts x d e) b (passed (operation-counts d r) e h);
     }
 
 -- a list with one place written

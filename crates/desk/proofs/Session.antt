@@ -10,13 +10,14 @@ use lib.Dec.{leb, ltb, eqb, leb→le, ltb→lt, nltb→le, not-T}
 use lib.ListN.{length, length-append}
 use Rattle.higman.proofs.Tests.{so, T-of, clash}
 use Rattle.higman.specs.Text.{lineEnd, Bytes}
+use Rattle.higman.specs.Refusals.{noRecord}
 use Rattle.higman.specs.Listing.{joinLines}
 use Rattle.desk.specs.Limits.{maxLine}
 use Rattle.desk.specs.Desk.{Desk}
-use Rattle.desk.specs.Replies.{_>>=_, refuse, settle, recordOf, lineOperation, respondLine}
+use Rattle.desk.specs.Replies.{_>>=_, refuse, settle, recordOf, lineOperation, respondLine, run}
 use Rattle.desk.specs.Bytes.{Order, replyBytes}
-use Rattle.desk.specs.Session.{State, idle, grown, effectOf, lineEnded, feedByte, feed, finish, session}
-use Rattle.desk.specs.Theorems.{feedBoth, feedPieces, FedInPieces, linesFrom, repliesTo, SessionIsLines}
+use Rattle.desk.specs.Session.{State, idle, grown, effectOf, lineEnded, feedByte, feed, finish, linesFrom, repliesTo, fedWhole, session}
+use Rattle.desk.specs.Theorems.{feedBoth, feedPieces, FedInPieces, SessionFed}
 
 module _ (order : Order) where
   pub feed-append : (s : State) (x y : Bytes) → feed order s (x ++ y) ≡ feedBoth order s x y
@@ -41,7 +42,7 @@ unfolding _>>=_ respondLine lineOperation
 begun-effect (kept l h) = refl
 begun-effect {d} (lost l h) = by-length (leb (length l) maxLine) refl
   where
-    by-length : (t : Bool) → leb (length l) maxLine ≡ t → settle d (refuse 1 none) ≡ settle d (lineOperation d l)
+    by-length : (t : Bool) → leb (length l) maxLine ≡ t → settle d (refuse noRecord none) ≡ settle d (lineOperation d l)
     by-length true e = let h′ : length l ≤ maxLine = leb→le (length l) maxLine (T-of e) in absurd (omega arith)
     by-length false e = rw (e, settle, _>>=_, recordOf)
 
@@ -54,13 +55,9 @@ begun-grown {d} b (kept l h) = by-room (ltb (length l) maxLine) refl
 begun-grown b (lost l h) = lost (l ++ (b ∷ [])) (simp length-append (omega arith))
 
 module _ (order : Order) where
-  -- what is written from a state on
-  abbrev rest : State → Bytes → Bytes
-  rest s input = let r = feed order s input in r .1 ++ finish order (r .0) .1
-
-  rest-cons : (s : State) (b : ℕ) (input : Bytes) → rest s (b ∷ input) ≡ feedByte order s b .1 ++ rest (feedByte order s b .0) input
+  fed-cons : (s : State) (b : ℕ) (input : Bytes) → fedWhole order s (b ∷ input) ≡ feedByte order s b .1 ++ fedWhole order (feedByte order s b .0) input
   unfolding feed
-  rest-cons s b input = append-assoc (feedByte order s b .1) _ _
+  fed-cons s b input = append-assoc (feedByte order s b .1) _ _
 
   byte-ends : (s : State) (b : ℕ) → eqb b lineEnd ≡ true → feedByte order s b ≡ lineEnded order s
   unfolding feedByte
@@ -71,21 +68,22 @@ module _ (order : Order) where
   byte-inside s b e = rw (e, feedByte)
 
   -- at the end of the input
-  last-lines : {d : Desk} {s : State} {l : Bytes} → Begun d s l → rest s [] ≡ repliesTo order d (linesFrom l [])
-  unfolding feed finish
+  last-lines : {d : Desk} {s : State} {l : Bytes} → Begun d s l → fedWhole order s [] ≡ repliesTo order d (linesFrom l [])
+  unfolding feed finish run
   last-lines (kept [] h) = refl
   last-lines (kept (b ∷ l) h) = sym (append-nil _)
   last-lines (lost [] h) = absurd (omega arith)
   last-lines {d} (lost (b ∷ l) h) = ap (λ e. replyBytes order (e .1)) (begun-effect {d = d} (lost (b ∷ l) h)) ∙ sym (append-nil _)
 
-  rest-lines : (input : Bytes) {d : Desk} {s : State} {l : Bytes} → Begun d s l → rest s input ≡ repliesTo order d (linesFrom l input)
-  rest-lines [] g = last-lines g
-  rest-lines (b ∷ input) {d} {s} {l} g = rest-cons s b input ∙ by-byte (eqb b lineEnd) refl (λ e. rest-lines input (kept [] zero-le)) (rest-lines input (begun-grown b g))
+  fed-lines : (input : Bytes) {d : Desk} {s : State} {l : Bytes} → Begun d s l → fedWhole order s input ≡ repliesTo order d (linesFrom l input)
+  unfolding run
+  fed-lines [] g = last-lines g
+  fed-lines (b ∷ input) {d} {s} {l} g = fed-cons s b input ∙ by-byte (eqb b lineEnd) refl (λ e. fed-lines input (kept [] zero-le)) (fed-lines input (begun-grown b g))
     where
-      by-byte : (t : Bool) → eqb b lineEnd ≡ t → ((e : Desk) → rest (idle e) input ≡ repliesTo order e (linesFrom [] input)) → rest (grown s b) input ≡ repliesTo order d (linesFrom (l ++ (b ∷ [])) input) → feedByte order s b .1 ++ rest (feedByte order s b .0) input ≡ repliesTo order d (linesFrom l (b ∷ input))
+      by-byte : (t : Bool) → eqb b lineEnd ≡ t → ((e : Desk) → fedWhole order (idle e) input ≡ repliesTo order e (linesFrom [] input)) → fedWhole order (grown s b) input ≡ repliesTo order d (linesFrom (l ++ (b ∷ [])) input) → feedByte order s b .1 ++ fedWhole order (feedByte order s b .0) input ≡ repliesTo order d (linesFrom l (b ∷ input))
       by-byte true e next more = rw (byte-ends s b e, e, linesFrom, begun-effect g, next (respondLine d l .0))
       by-byte false e next more = rw (byte-inside s b e, e, linesFrom) more
 
-pub session-is-lines : SessionIsLines
+pub session-fed : SessionFed
 unfolding session
-session-is-lines order input = rest-lines order input (kept [] zero-le)
+session-fed order input = fed-lines order input (kept [] zero-le)

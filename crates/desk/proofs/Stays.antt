@@ -4,9 +4,10 @@ use Prim.Native.Nat.{ℕ, zero, suc, _≤_, _<_, zero-le}
 use native.Mathlib.Omega.{arith}
 use mathlib.Core.Path.{_≡_, refl, sym, _∙_, subst}
 use mathlib.Core.Logic.{_⊎_, inl, inr}
-use mathlib.Core.Bool.{Bool, true, false, _&&_, not}
-use mathlib.Core.List.{List, [], _∷_, _++_, map-append, List·Memᴰ·head}
+use mathlib.Core.Bool.{Bool, true, false, _&&_}
+use mathlib.Core.List.{List, [], _∷_, _++_, map-append, List·Memᴰ, List·Memᴰ·head}
 use mathlib.Core.Option.{Option, none, some, Option·some-injective, Option·none-ne-some}
+use borrow.Author.Tests.{leb-false}
 use lib.Dec.{T, leb, leb→le, le→leb, nleb→lt, not-T}
 use lib.ListN.{length, getD, set, replicate, length-set, length-append, length-replicate}
 use Rattle.higman.specs.Words.{Shape, Word, isWord}
@@ -20,13 +21,14 @@ use Rattle.higman.proofs.Tests.{so, clash, and-left, and-right, and-intro, all-
 use Rattle.higman.proofs.KeptPlans.{arity-of-range}
 use Rattle.higman.specs.Text.{Bytes, byte, wordOf}
 use Rattle.higman.proofs.PlanWords.{word-of-plan-word, plan-word-fits}
+use Rattle.higman.specs.Refusals.{wrongState, shapeOutside, badWord, pairsFull, slotEmpty}
 use Rattle.desk.specs.Limits.{maxChanges}
-use Rattle.desk.specs.Desk.{Draft, Desk, freshDesk, held, IsDraft, IsDesk, changed, withDraft, dropped, withPair}
-use Rattle.desk.specs.Records.{Record, P, M, E, F, I, K, S, W, L, C, T as Tᴿ, U}
+use Rattle.desk.specs.Desk.{Draft, Desk, freshDesk, countOf, held, IsDraft, IsDesk, changed, withDraft, dropped, withPair}
+use Rattle.desk.specs.Records.{Record, P, M, E, F, I, K, S, W, L, C, T as Tᴿ, U, SlotUse, writing, slotsNamed, isChange}
 use Rattle.higman.specs.Listing.{slotNumber, slotByte, isSlot}
-use Rattle.desk.specs.Replies.{Outcome, refuse, pass, _when_, openPlan, planIn, atLimit, ofVerdict, ofAnswer, Effect, newDraft, closed, operation, recordOf, lineOperation, settle, respondLine}
+use Rattle.desk.specs.Replies.{Outcome, refuse, pass, openPlan, planIn, atLimit, ofVerdict, ofAnswer, Effect, newDraft, closed, job, operation, recordOf, lineOperation, settle, respondLine}
 use Rattle.desk.specs.Theorems.{DeskStays}
-use Rattle.desk.proofs.Outcomes.{Passes, stops, passes, passes-then, any-then}
+use Rattle.desk.proofs.Outcomes.{Passes, stops, passes, passes-then, any-then, test-failed, test-held, Tested, passes-operation}
 
 -- what a slot holds after one was written: what was written, or what it held
 held-set : (l : List (Option Plan)) (i j : ℕ) (x : Option Plan) (p : Plan) → getD (set l i x) j none ≡ some p → (x ≡ some p) ⊎ (getD l j none ≡ some p)
@@ -44,15 +46,15 @@ all-snoc f (y ∷ l) x h k = by-first (f y) h (λ t. all-snoc f l x t k)
     by-first true t next = next t
     by-first false t next = t
 
-below-limit : (d : Desk) → atLimit d ≡ false → d .changes < maxChanges
-below-limit d e = nleb→lt maxChanges (d .changes) (not-T (leb maxChanges (d .changes)) (λ t. clash (so (leb maxChanges (d .changes)) t) e))
+pub below-limit : (d : Desk) → atLimit d ≡ false → countOf d < maxChanges
+below-limit d e = leb-false maxChanges (countOf d) e
 
 no-draft : {A : Type 0} {o : Draft} → none ≡ some o → A
 no-draft q = absurd (Option·none-ne-some _ q)
 
 changed-desk : (d : Desk) → IsDesk d → atLimit d ≡ false → (i : ℕ) (x : Option Plan) → ((p : Plan) → x ≡ some p → Kept p) → IsDesk (changed d i x)
 unfolding changed
-changed-desk d h e i x k = record { eight = length-set (d .slots) i x ∙ h .eight; kept = λ j p q. by j p (held-set (d .slots) i j x p q); drafted = λ o q. no-draft q; counted = let b : d .changes < maxChanges = below-limit d e in omega arith }
+changed-desk d h e i x k = record { eight = length-set (d .slots) i x ∙ h .eight; kept = λ j p q. by j p (held-set (d .slots) i j x p q); drafted = λ o q. no-draft q; counted = let b : countOf d < maxChanges = below-limit d e in omega arith }
   where
     by : (j : ℕ) (p : Plan) → (x ≡ some p) ⊎ (held d j ≡ some p) → Kept p
     by j p (inl q) = k p q
@@ -76,25 +78,17 @@ fresh-desk = record { eight = length-replicate slotCount none; kept = λ i p q. 
     held-none (suc n) (suc i) = held-none n i
 
 -- what each step passes on
-test-failed : (n : ℕ) (t : Bool) → Passes (λ _. t ≡ false) (n when t)
-test-failed n true = stops
-test-failed n false = passes refl
-
-pub test-held : (n : ℕ) (t : Bool) → Passes (λ _. T t) (n when not t)
-test-held n true = passes tt
-test-held n false = stops
-
 plan-kept : (d : Desk) → IsDesk d → (b : ℕ) → Passes Kept (planIn d b)
 plan-kept d h b = by (held d (slotNumber b)) refl
   where
-    by : (x : Option Plan) → held d (slotNumber b) ≡ x → Passes Kept (elim x [ none ↦ refuse 9 none | some p ↦ pass p ])
+    by : (x : Option Plan) → held d (slotNumber b) ≡ x → Passes Kept (elim x [ none ↦ refuse slotEmpty none | some p ↦ pass p ])
     by none q = stops
     by (some p) q = passes (h .kept (slotNumber b) p q)
 
 draft-open : (d : Desk) → IsDesk d → Passes IsDraft (openPlan d)
 draft-open d h = by (d .draft) refl
   where
-    by : (x : Option Draft) → d .draft ≡ x → Passes IsDraft (elim x [ none ↦ refuse 2 none | some o ↦ pass o ])
+    by : (x : Option Draft) → d .draft ≡ x → Passes IsDraft (elim x [ none ↦ refuse wrongState none | some o ↦ pass o ])
     by none q = stops
     by (some o) q = passes (h .drafted o q)
 
@@ -102,10 +96,10 @@ granted-kept : (a : Answer) → ((p : Plan) → a ≡ Granted p → Kept p) → 
 granted-kept (Granted p) k = passes (k p refl)
 granted-kept (Refused r) k = stops
 
-accepted : (v : Verdict) → Passes (λ _. v ≡ Accepted) (ofVerdict v)
-accepted Accepted = passes refl
-accepted (InFrom r) = stops
-accepted (InTo r) = stops
+pub verdict-accepted : (v : Verdict) → Passes (λ _. v ≡ Accepted) (ofVerdict v)
+verdict-accepted Accepted = passes refl
+verdict-accepted (InFrom r) = stops
+verdict-accepted (InTo r) = stops
 
 pub slot-below : (a : ℕ) → T (isSlot a) → slotNumber a < slotCount
 slot-below a h =
@@ -113,9 +107,9 @@ slot-below a h =
     let high : suc a ≤ slotByte slotCount = leb→le (suc a) (slotByte slotCount) (and-right (leb (byte "A") a) (leb (suc a) (slotByte slotCount)) h) in
     omega arith
 
-new-draft : (a : ℕ) (s : Shape) → T (all isSlot (a ∷ [])) → T (shapeInRange s) → IsDraft (newDraft a s)
+pub new-draft : (a : ℕ) (s : Shape) → slotNumber a < slotCount → T (shapeInRange s) → IsDraft (newDraft a s)
 unfolding granted maxPairs
-new-draft a s h k = record { slot-named = slot-below a (all-at isSlot (a ∷ []) h a (List·Memᴰ·head refl)); in-range = k; within = tt; from-words = tt; to-words = tt }
+new-draft a s h k = record { slot-named = h; in-range = k; within = tt; from-words = tt; to-words = tt }
 
 granted-snoc : (t : Table) (p : Pair) → T (granted t) → T (pairFits p) → leb maxPairs (length t) ≡ false → T (granted (t ++ (p ∷ [])))
 unfolding granted
@@ -125,7 +119,7 @@ granted-snoc t p h k e =
     (le→leb (length (t ++ (p ∷ []))) maxPairs (simp length-append (omega arith)))
     (all-snoc pairFits t p (and-right (leb (length t) maxPairs) (all pairFits t) h) k)
 
-longer-draft : (o : Draft) → IsDraft o → (p : Pair) → T (isPlanWord (o .shape) (p .from) && isPlanWord (o .shape) (p .to)) → leb maxPairs (length (o .rows)) ≡ false → IsDraft (withPair o p)
+pub longer-draft : (o : Draft) → IsDraft o → (p : Pair) → T (isPlanWord (o .shape) (p .from) && isPlanWord (o .shape) (p .to)) → leb maxPairs (length (o .rows)) ≡ false → IsDraft (withPair o p)
 longer-draft o h p k e =
     record {
       slot-named = h .slot-named;
@@ -156,20 +150,42 @@ some-kept r k p q = subst Kept (Option·some-injective r p q) k
 closed-kept : (o : Draft) → IsDraft o → verdict (o .shape) (o .rows) ≡ Accepted → Kept (closed o)
 closed-kept o h e = answers-exact .keeps (o .shape) (h .in-range) (o .rows) (answers-exact .accepted (o .shape) (arity-of-range (o .shape) (h .in-range)) (o .rows) (h .from-words) (h .to-words) .0 e) (h .within)
 
+-- a slot that a record names is one of the eight
+pub slot-of-record : (d : Desk) (r : Record) → Tested d r → (u : SlotUse) → List·Memᴰ u (slotsNamed r) → slotNumber (u .slot) < slotCount
+slot-of-record d r t u m = slot-below (u .slot) (all-at (λ u. isSlot (u .slot)) (slotsNamed r) (t .slots-named) u m)
+
+job-stays : (d : Desk) → IsDesk d → (r : Record) → Tested d r → Passes Stays (job d r)
+unfolding job slotsNamed isChange
+job-stays d h (P a n r) t =
+    passes-then (test-held shapeOutside (shapeInRange (record { arity = n; roots = r })))
+    (λ _ y. passes (drafted-desk d h _ (new-draft a _ (slot-of-record d (P a n r) t (writing a) (List·Memᴰ·head refl)) y)))
+job-stays d h (M from to) t =
+    passes-then (draft-open d h) (λ o k. passes-then
+    (test-held badWord (isPlanWord (o .shape) (wordOf from) && isPlanWord (o .shape) (wordOf to)))
+    (λ _ x. passes-then (test-failed pairsFull _) (λ _ y. passes (drafted-desk d h _ (longer-draft o k _ x y)))))
+job-stays d h E t =
+    passes-then (draft-open d h) (λ o k. passes-then (verdict-accepted (verdict (o .shape) (o .rows)))
+    (λ _ v. passes (changed-desk d h (t .room) (o .slot) _ (some-kept _ (closed-kept o k v)))))
+job-stays d h (F a b c) t =
+    passes-then (plan-kept d h a) (λ p x. passes-then (plan-kept d h b) (λ q y. passes-then
+    (granted-kept (followed p q) (λ r e. demand3 .followed-kept p q r x y e))
+    (λ r k. passes (changed-desk d h (t .room) _ _ (some-kept r k)))))
+job-stays d h (I a c) t =
+    passes-then (plan-kept d h a) (λ p x. passes-then (granted-kept (inverted p) (λ r e. demand3 .inverted-kept p r x e))
+    (λ r k. passes (changed-desk d h (t .room) _ _ (some-kept r k))))
+job-stays d h (K a k c) t =
+    any-then _ (λ _. passes-then (plan-kept d h a) (λ p x. passes-then
+    (granted-kept (powered p k) (λ r e. demand3 .powered-kept p r k x e))
+    (λ r y. passes (changed-desk d h (t .room) _ _ (some-kept r y)))))
+job-stays d h (S a b) t = any-then _ (λ _. any-then _ (λ _. any-then _ (λ _. passes h)))
+job-stays d h (W a code) t = any-then _ (λ _. any-then _ (λ _. passes h))
+job-stays d h (L a) t = any-then _ (λ _. passes h)
+job-stays d h (C a) t = any-then _ (λ _. passes (changed-desk d h (t .room) _ none none-kept))
+job-stays d h Tᴿ t = passes h
+job-stays d h U t = passes h
+
 operation-stays : (d : Desk) → IsDesk d → (r : Record) → Passes Stays (operation d r)
-unfolding operation
-operation-stays d h (P a n r) = any-then _ (λ _. passes-then (test-held 8 (all isSlot (a ∷ []))) (λ _ x. passes-then (test-held 3 (shapeInRange (record { arity = n; roots = r }))) (λ _ y. passes (drafted-desk d h _ (new-draft a _ x y)))))
-operation-stays d h (M from to) = passes-then (draft-open d h) (λ o k. passes-then (test-held 4 (isPlanWord (o .shape) (wordOf from) && isPlanWord (o .shape) (wordOf to))) (λ _ x. passes-then (test-failed 5 _) (λ _ y. passes (drafted-desk d h _ (longer-draft o k _ x y)))))
-operation-stays d h E = passes-then (draft-open d h) (λ o k. passes-then (accepted (verdict (o .shape) (o .rows))) (λ _ v. passes-then (test-failed 16 (atLimit d)) (λ _ l. passes (changed-desk d h l (o .slot) _ (some-kept _ (closed-kept o k v))))))
-operation-stays d h (F a b c) = any-then _ (λ _. any-then _ (λ _. passes-then (plan-kept d h a) (λ p x. passes-then (plan-kept d h b) (λ q y. passes-then (granted-kept (followed p q) (λ r e. demand3 .followed-kept p q r x y e)) (λ r k. passes-then (test-failed 16 (atLimit d)) (λ _ l. passes (changed-desk d h l _ _ (some-kept r k))))))))
-operation-stays d h (I a c) = any-then _ (λ _. any-then _ (λ _. passes-then (plan-kept d h a) (λ p x. passes-then (granted-kept (inverted p) (λ r e. demand3 .inverted-kept p r x e)) (λ r k. passes-then (test-failed 16 (atLimit d)) (λ _ l. passes (changed-desk d h l _ _ (some-kept r k)))))))
-operation-stays d h (K a k c) = any-then _ (λ _. any-then _ (λ _. any-then _ (λ _. passes-then (plan-kept d h a) (λ p x. passes-then (granted-kept (powered p k) (λ r e. demand3 .powered-kept p r k x e)) (λ r y. passes-then (test-failed 16 (atLimit d)) (λ _ l. passes (changed-desk d h l _ _ (some-kept r y))))))))
-operation-stays d h (S a b) = any-then _ (λ _. any-then _ (λ _. any-then _ (λ _. any-then _ (λ _. any-then _ (λ _. passes h)))))
-operation-stays d h (W a code) = any-then _ (λ _. any-then _ (λ _. any-then _ (λ _. any-then _ (λ _. passes h))))
-operation-stays d h (L a) = any-then _ (λ _. any-then _ (λ _. any-then _ (λ _. passes h)))
-operation-stays d h (C a) = any-then _ (λ _. any-then _ (λ _. any-then _ (λ _. passes-then (test-failed 16 (atLimit d)) (λ _ l. passes (changed-desk d h l _ none none-kept)))))
-operation-stays d h Tᴿ = any-then _ (λ _. passes h)
-operation-stays d h U = any-then _ (λ _. passes h)
+operation-stays d h r = passes-operation d r (job-stays d h r)
 
 settled : (d : Desk) → IsDesk d → (o : Outcome Effect) → Passes Stays o → IsDesk (settle d o .0)
 settled d h (refuse n c) k = dropped-desk d h

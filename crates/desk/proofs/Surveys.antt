@@ -2,14 +2,16 @@
 use Prim.Native.Nat.{ℕ, zero, suc, _+_, _-_, _≤_}
 use native.Mathlib.Nat.{le-refl}
 use native.Mathlib.Omega.{arith}
-use mathlib.Core.Path.{_≡_, refl, sym, ap, subst}
-use mathlib.Core.List.{List, [], _∷_, map, List·Memᴰ, List·Memᴰ·head, List·Memᴰ·tail, List·Permᴰ, List·Permᴰ·nil, List·Permᴰ·cons, List·Permᴰ·swap, List·Permᴰ·trans}
+use mathlib.Core.Path.{_≡_, refl, sym, _∙_, ap, subst}
+use mathlib.Core.List.{List, [], _∷_, _++_, map, Permᴰ·map, List·Memᴰ, List·Memᴰ·head, List·Memᴰ·tail, List·Permᴰ, List·Permᴰ·nil, List·Permᴰ·cons, List·Permᴰ·swap, List·Permᴰ·trans}
 use mathlib.Core.Option.{Option, none, some, Option·none-ne-some, Option·some-injective}
-use lib.ListN.{getD}
+use lib.ListN.{length, getD, length-map}
+use Rattle.higman.specs.Text.{decimal}
+use Rattle.higman.specs.Listing.{joinLines}
 use Rattle.higman.specs.Limits.{Plan}
 use Rattle.desk.specs.Replies.{Held, heldFrom}
-use Rattle.desk.specs.Bytes.{heldLine}
-use Rattle.desk.specs.Theorems.{Ascending, SurveyExact}
+use Rattle.desk.specs.Bytes.{lineOf, okLine, heldFields, Order, replyBytes}
+use Rattle.desk.specs.Theorems.{Ascending, SurveyReply, SurveyExact}
 
 abbrev at : ℕ → Plan → Held
 at i p = record { slot = i; plan = p }
@@ -49,11 +51,21 @@ ascending [] k = tt
 ascending (none ∷ l) k = ascending-below k (heldFrom (suc k) l) (ascending l (suc k))
 ascending (some q ∷ l) k = (le-refl k, ascending l (suc k))
 
-perm-map : {A B : Type 0} (f : A → B) {l m : List A} → List·Permᴰ l m → List·Permᴰ (map f l) (map f m)
-perm-map f List·Permᴰ·nil = List·Permᴰ·nil
-perm-map f (List·Permᴰ·cons e p) = List·Permᴰ·cons (ap f e) (perm-map f p)
-perm-map f (List·Permᴰ·swap d e) = List·Permᴰ·swap (ap f d) (ap f e)
-perm-map f (List·Permᴰ·trans p q) = List·Permᴰ·trans (perm-map f p) (perm-map f q)
+perm-length : {A : Type 0} {l m : List A} → List·Permᴰ l m → length l ≡ length m
+perm-length List·Permᴰ·nil = refl
+perm-length (List·Permᴰ·cons e p) = ap suc (perm-length p)
+perm-length (List·Permᴰ·swap d e) = refl
+perm-length (List·Permᴰ·trans p q) = perm-length p ∙ perm-length q
+
+replied : (order : Order) (hs : List Held) → SurveyReply order hs
+unfolding replyBytes
+replied order hs =
+    let lines = map heldFields (order .arranged hs) in
+    record {
+      lines = lines;
+      each-once = Permᴰ·map heldFields (order .each-once hs);
+      reply = ap (λ n. joinLines (map lineOf lines) ++ okLine (decimal n ∷ [])) (length-map (order .arranged hs) heldFields ∙ perm-length (order .each-once hs));
+    }
 
 listed-of-held : (l : List (Option Plan)) (i : ℕ) (p : Plan) → getD l i none ≡ some p → List·Memᴰ (at i p) (heldFrom 0 l)
 listed-of-held l i p e = let z : 0 + i ≡ i = omega arith in subst (λ n. List·Memᴰ (at n p) (heldFrom 0 l)) z (listed l 0 i p e)
@@ -66,5 +78,5 @@ survey-exact =
     record {
       held-listed = λ d i p. (listed-of-held (d .slots) i p, held-of-listed (d .slots) i p);
       once = λ d. ascending (d .slots) 0;
-      lines = λ order h hs. perm-map heldLine (h hs);
+      replied = replied;
     }

@@ -1,18 +1,18 @@
 -- The library's side (document 01, the end of "When each operation says no"): what a call answers, what a lent buffer holds after it
 -- and what became of the desk. 15 comes before every other number and 14 after them. Read Theorems.antt next.
-use Prim.Native.Nat.{ℕ}
+use Prim.Native.Nat.{ℕ, _+_}
 use mathlib.Core.Path.{_≡_, refl}
 use mathlib.Core.Bool.{true, false}
-use mathlib.Core.List.{[], _++_}
 use mathlib.Core.Option.{none}
-use lib.Dec.{leb}
-use lib.ListN.{length, drop}
+use lib.ListN.{length}
 use Rattle.higman.specs.Text.{Bytes, bytes}
+use Rattle.higman.specs.Refusals.{bufferTooShort, invalidValue}
+use Rattle.higman.specs.Buffers.{ifRoom, lentInto}
 use Rattle.higman.specs.Limits.{slotCount}
 use Rattle.desk.specs.Limits.{maxChanges}
-use Rattle.desk.specs.Desk.{Desk, freshDesk, dropped, isDesk}
-use Rattle.desk.specs.Records.{T}
-use Rattle.desk.specs.Replies.{Reply, okNumber, Outcome, refuse, pass, _>>=_, Effect, settle, operation}
+use Rattle.desk.specs.Desk.{Desk, freshDesk, dropped, atCount, isDesk}
+use Rattle.desk.specs.Records.{T, needsOpen, slotsNamed, isChange}
+use Rattle.desk.specs.Replies.{Reply, okNumber, Outcome, refuse, pass, _>>=_, Effect, settle, job, operation}
 use Rattle.desk.specs.Bytes.{Order, replyBytes}
 
 -- a lent buffer after a call, and the call's answer: how many bytes it wrote, or a refusal
@@ -20,19 +20,14 @@ pub record Lent : Type 0 where
   pub buffer : Bytes
   pub answer : Outcome ℕ
 
--- "On success only the bytes of the output change": those at the start of the buffer
-abbrev pub overwritten : Bytes → Bytes → Bytes
-overwritten buffer output = output ++ drop (length output) buffer
-
 -- "14 last: the lent buffer is shorter than the output"; at any refusal it "then holds what it held before"
 unfoldable pub lent : Bytes → Outcome Bytes → Lent
 lent buffer (refuse n c) = record { buffer = buffer; answer = refuse n c }
 lent buffer (pass output) =
-    elim
-    (leb (length output) (length buffer)) [
-      | true ↦ record { buffer = overwritten buffer output; answer = pass (length output) }
-      | false ↦ record { buffer = buffer; answer = refuse 14 none }
-    ]
+    record {
+      buffer = lentInto output buffer;
+      answer = ifRoom (length output) (length buffer) (pass (length output)) (refuse bufferTooShort none);
+    }
 
 -- the bytes of a reply
 abbrev pub outputOf : Order → Outcome Effect → Outcome Bytes
@@ -43,9 +38,9 @@ abbrev pub Work : Type 0
 Work = Desk → Outcome Effect
 
 -- A refusal with 14 leaves the desk as any other does: the open plan is dropped, and the operation is not done.
-abbrev pub deskAfter : Desk → Outcome Effect → Outcome ℕ → Desk
-deskAfter d o (refuse n c) = dropped d
-deskAfter d o (pass n) = settle d o .0
+abbrev pub deskLeft : Desk → Outcome Effect → Outcome ℕ → Desk
+deskLeft d o (refuse n c) = dropped d
+deskLeft d o (pass n) = settle d o .0
 
 -- A call that works on a desk and writes the reply into a lent buffer. "15 before all these: a plan or desk handed in isn't one as
 -- described above; such a desk has no open plan to drop and is left as it came."
@@ -53,8 +48,8 @@ unfoldable pub lentCall : Order → Desk → Work → Bytes → Desk × Lent
 lentCall order d work buffer =
     elim
     (isDesk d) [
-      | true ↦ let l = lent buffer (outputOf order (work d)) in (deskAfter d (work d) (l .answer), l)
-      | false ↦ (d, lent buffer (refuse 15 none))
+      | true ↦ let l = lent buffer (outputOf order (work d)) in (deskLeft d (work d) (l .answer), l)
+      | false ↦ (d, lent buffer (refuse invalidValue none))
     ]
 
 -- A call that works on a desk and is lent nothing: the reply is its value.
@@ -62,27 +57,29 @@ abbrev pub replyOf : Outcome Effect → Outcome Reply
 replyOf o = o >>= λ e. pass (e .1)
 
 unfoldable pub plainCall : Desk → Work → Desk × Outcome Reply
-plainCall d work = elim (isDesk d) [ true ↦ (settle d (work d) .0, replyOf (work d)) | false ↦ (d, refuse 15 none) ]
+plainCall d work = elim (isDesk d) [ true ↦ (settle d (work d) .0, replyOf (work d)) | false ↦ (d, refuse invalidValue none) ]
 
 -- The work of T on a fresh desk, with room for its reply and one byte short of it
 abbrev counting : Work
 counting d = operation d T
 
 lentCall-example : (order : Order) → lentCall order freshDesk counting (bytes ".......") ≡ (freshDesk, record { buffer = bytes "ok\t0\n.."; answer = pass 5 })
-unfolding _>>=_ lentCall lent isDesk operation replyBytes freshDesk slotCount maxChanges
+unfolding _>>=_ lentCall lent isDesk operation job needsOpen slotsNamed isChange replyBytes freshDesk slotCount maxChanges
 lentCall-example order = refl
 
 too-short-example : (order : Order) → lentCall order freshDesk counting (bytes "....") ≡ (freshDesk, record { buffer = bytes "...."; answer = refuse 14 none })
-unfolding _>>=_ lentCall lent isDesk operation replyBytes freshDesk dropped slotCount maxChanges
+unfolding _>>=_ lentCall lent isDesk operation job needsOpen slotsNamed isChange replyBytes freshDesk dropped slotCount maxChanges
 too-short-example order = refl
 
 -- the same call lent nothing: the desk stays, and the reply is the count
 plainCall-example : plainCall freshDesk counting ≡ (freshDesk, pass (okNumber 0))
-unfolding _>>=_ plainCall isDesk operation freshDesk slotCount maxChanges
+unfolding _>>=_ plainCall isDesk operation job needsOpen slotsNamed isChange freshDesk slotCount maxChanges
 plainCall-example = refl
 
--- no desk: it has no slots
-no-desk-example : (order : Order) →
-    lentCall order (record { slots = []; draft = none; changes = 0 }) counting (bytes ".") ≡ (record { slots = []; draft = none; changes = 0 }, record { buffer = bytes "."; answer = refuse 15 none })
-unfolding lentCall lent isDesk slotCount
+-- no desk: its count is above the limit
+abbrev noDesk : Desk
+noDesk = atCount freshDesk (maxChanges + 1)
+
+no-desk-example : (order : Order) → lentCall order noDesk counting (bytes ".") ≡ (noDesk, record { buffer = bytes "."; answer = refuse 15 none })
+unfolding lentCall lent isDesk freshDesk slotCount maxChanges
 no-desk-example order = refl

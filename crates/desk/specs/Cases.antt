@@ -4,7 +4,7 @@ use mathlib.Core.Path.{_≡_}
 use Prim.Native.String.{String}
 use mathlib.Core.List.{List, [], _∷_, _++_}
 use Rattle.higman.specs.Text.{lines}
-use Rattle.desk.specs.Bytes.{Order}
+use Rattle.desk.specs.Bytes.{Order, byLetter}
 use Rattle.desk.specs.Session.{session}
 
 infix 4 _gives_
@@ -79,4 +79,4 @@ surveySessions =
 pub record DeskCases : Type 0 where
   pub star : (order : Order) → AllHold order starSessions
   pub others : (order : Order) → AllHold order otherSessions
-  pub survey : AllHold (λ hs. hs) surveySessions
+  pub survey : AllHold byLetter surveySessions

@@ -1,28 +1,28 @@
 -- "When each operation says no", as a table: for each record the numbers in the paper's order, each with its condition. Demand 1 says
--- that the first whose condition holds is given, and that the operation is done where none holds.
+-- of every desk that the first whose condition holds is given, and that the operation is done where none holds.
 -- `operation` says the same and what is done besides, step by step and by higman's answers. The table stands beside it to be held
 -- against the paper line by line: each number has here its own condition, in the words of the definitions and by itself, so that no
 -- number hides in an answer or behind another step. Read Demands.antt next.
 use Prim.Native.Nat.{ℕ}
 use mathlib.Core.Path.{_≡_, refl}
 use mathlib.Core.Bool.{Bool, true, false, _&&_, _||_, not}
-use mathlib.Core.List.{List, [], _∷_, map}
+use mathlib.Core.List.{List, [], _∷_, _++_, map}
 use mathlib.Core.Option.{Option, none, some}
 use lib.Dec.{leb}
 use lib.IntN.{pos, natAbs}
 use lib.ListN.{length}
-use Rattle.higman.specs.Words.{given}
-use Rattle.higman.specs.Bases.{overlap, gap}
-use Rattle.higman.specs.Tables.{froms, tos, image}
-use Rattle.higman.specs.Normal.{compose}
+use Rattle.higman.specs.Words.{count, given, beginsProperly}
+use Rattle.higman.specs.Bases.{anyOf, overlap, gap}
+use Rattle.higman.specs.Tables.{froms, tos}
+use Rattle.higman.specs.Normal.{compose, power}
 use Rattle.higman.specs.Limits.{Plan, shapeInRange, granted, isCode, maxPairs, maxPower, slotCount, isPlanWord}
-use Rattle.higman.specs.Answers.{sameShape, raised, repeatable}
-use Rattle.higman.specs.Refusals.{Letter}
+use Rattle.higman.specs.Answers.{sameShape}
+use Rattle.higman.specs.Refusals.{wrongState, shapeOutside, badWord, pairsFull, wordsOverlap, rootUncovered, slotOutside, slotEmpty, shapesDiffer, limitBroken, powerOutside, codeTooShort, countFull, Letter}
 use Rattle.higman.specs.Text.{byte, wordOf}
 use Rattle.desk.specs.Desk.{Draft, Desk, freshDesk, held}
-use Rattle.desk.specs.Records.{Record, P, M, E, F, I, K, S, W, L, C, T, U}
+use Rattle.desk.specs.Records.{Record, P, M, E, F, I, K, S, W, L, C, T, U, needsOpen, slotsNamed, isChange}
 use Rattle.higman.specs.Listing.{slotNumber}
-use Rattle.desk.specs.Replies.{Outcome, refuse, pass, isOpen, outside, atLimit}
+use Rattle.desk.specs.Replies.{Outcome, refuse, pass, openAmiss, outside, atLimit}
 
 -- a refusal's number, the column it adds, and the condition it is given under
 pub record Condition : Type 0 where
@@ -52,84 +52,62 @@ ofOpen d test = elim (d .draft) [ none ↦ false | some o ↦ test o ]
 abbrev pub ofBoth : Desk → ℕ → ℕ → (Plan → Plan → Bool) → Bool
 ofBoth d a b test = ofPlan d a (λ p. ofPlan d b (λ q. test p q))
 
-unfoldable pub conditions : Desk → Record → List Condition
+-- the numbers that are the record's own, between 8 and 16
+unfoldable pub ownConditions : Desk → Record → List Condition
 -- "P: then 8, a slot byte outside A to H; 3, n or r outside its range."
-conditions d (P a n r) =
-    (2 if isOpen d) ∷
-    (8 if outside (a ∷ [])) ∷
-    (3 if not (shapeInRange (record { arity = n; roots = r }))) ∷
-    []
+ownConditions d (P a n r) = (shapeOutside if not (shapeInRange (record { arity = n; roots = r }))) ∷ []
 -- "M: then 4, a word that is empty, too long or has a wrong digit; 5, a 129th pair."
-conditions d (M from to) =
-    (2 if not (isOpen d)) ∷
-    (4 if ofOpen d (λ o. not (isPlanWord (o .shape) (wordOf from) && isPlanWord (o .shape) (wordOf to)))) ∷
-    (5 if ofOpen d (λ o. leb maxPairs (length (o .rows)))) ∷
+ownConditions d (M from to) =
+    (badWord if ofOpen d (λ o. not (isPlanWord (o .shape) (wordOf from) && isPlanWord (o .shape) (wordOf to)))) ∷
+    (pairsFull if ofOpen d (λ o. leb maxPairs (length (o .rows)))) ∷
     []
 -- "E: then two checks, both made of the from column and after that both of the to column .. Then 16, the count is at its limit."
-conditions d E =
-    (2 if not (isOpen d)) ∷
-    inColumn 6 Letter.F (ofOpen d (λ o. overlap (froms (o .rows)))) ∷
-    inColumn 7 Letter.F (ofOpen d (λ o. gap (o .shape) (froms (o .rows)))) ∷
-    inColumn 6 Letter.T (ofOpen d (λ o. overlap (tos (o .rows)))) ∷
-    inColumn 7 Letter.T (ofOpen d (λ o. gap (o .shape) (tos (o .rows)))) ∷
-    (16 if atLimit d) ∷
+ownConditions d E =
+    inColumn wordsOverlap Letter.F (ofOpen d (λ o. overlap (froms (o .rows)))) ∷
+    inColumn rootUncovered Letter.F (ofOpen d (λ o. gap (o .shape) (froms (o .rows)))) ∷
+    inColumn wordsOverlap Letter.T (ofOpen d (λ o. overlap (tos (o .rows)))) ∷
+    inColumn rootUncovered Letter.T (ofOpen d (λ o. gap (o .shape) (tos (o .rows)))) ∷
     []
 -- "F: then 8; 9, a or b empty; 10, shapes differ; 11, the reduced result breaks a limit; 16."
-conditions d (F a b c) =
-    (2 if isOpen d) ∷
-    (8 if outside (a ∷ b ∷ c ∷ [])) ∷
-    (9 if isEmpty d a || isEmpty d b) ∷
-    (10 if ofBoth d a b (λ p q. not (sameShape (p .shape) (q .shape)))) ∷
-    (11 if ofBoth d a b (λ p q. not (granted (compose (p .shape) (p .rows) (q .rows))))) ∷
-    (16 if atLimit d) ∷
+ownConditions d (F a b c) =
+    (slotEmpty if isEmpty d a || isEmpty d b) ∷
+    (shapesDiffer if ofBoth d a b (λ p q. not (sameShape (p .shape) (q .shape)))) ∷
+    (limitBroken if ofBoth d a b (λ p q. not (granted (compose (p .shape) (p .rows) (q .rows))))) ∷
     []
 -- "I: then 8; 9; 16."
-conditions d (I a c) =
-    (2 if isOpen d) ∷
-    (8 if outside (a ∷ c ∷ [])) ∷
-    (9 if isEmpty d a) ∷
-    (16 if atLimit d) ∷
-    []
+ownConditions d (I a c) = (slotEmpty if isEmpty d a) ∷ []
 -- "K: then 8; 12, k outside −1,000 to 1,000; 9; 11, some reduced power from 1 up to the size of k breaks a limit; 16."
-conditions d (K a k c) =
-    (2 if isOpen d) ∷
-    (8 if outside (a ∷ c ∷ [])) ∷
-    (12 if not (leb (natAbs k) maxPower)) ∷
-    (9 if isEmpty d a) ∷
-    (11 if ofPlan d a (λ p. not (given (raised (p .shape) (repeatable p k) (natAbs k))))) ∷
-    (16 if atLimit d) ∷
+ownConditions d (K a k c) =
+    (powerOutside if not (leb (natAbs k) maxPower)) ∷
+    (slotEmpty if isEmpty d a) ∷
+    (limitBroken if ofPlan d a (λ p. anyOf (λ j. not (granted (power (p .shape) (p .rows) (pos j)))) (count 1 (natAbs k)))) ∷
     []
 -- "S: then 8; 9; 10."
-conditions d (S a b) =
-    (2 if isOpen d) ∷
-    (8 if outside (a ∷ b ∷ [])) ∷
-    (9 if isEmpty d a || isEmpty d b) ∷
-    (10 if ofBoth d a b (λ p q. not (sameShape (p .shape) (q .shape)))) ∷
+ownConditions d (S a b) =
+    (slotEmpty if isEmpty d a || isEmpty d b) ∷
+    (shapesDiffer if ofBoth d a b (λ p q. not (sameShape (p .shape) (q .shape)))) ∷
     []
 -- "W: then 8; 9; 4; 13, the code is a proper beginning of a from-word."
-conditions d (W a code) =
-    (2 if isOpen d) ∷
-    (8 if outside (a ∷ [])) ∷
-    (9 if isEmpty d a) ∷
-    (4 if ofPlan d a (λ p. not (isCode (p .shape) (wordOf code)))) ∷
-    (13 if ofPlan d a (λ p. not (given (image (p .rows) (wordOf code))))) ∷
+ownConditions d (W a code) =
+    (slotEmpty if isEmpty d a) ∷
+    (badWord if ofPlan d a (λ p. not (isCode (p .shape) (wordOf code)))) ∷
+    (codeTooShort if ofPlan d a (λ p. anyOf (beginsProperly (wordOf code)) (froms (p .rows)))) ∷
     []
 -- "L: 8; 9."
-conditions d (L a) =
-    (2 if isOpen d) ∷
-    (8 if outside (a ∷ [])) ∷
-    (9 if isEmpty d a) ∷
-    []
+ownConditions d (L a) = (slotEmpty if isEmpty d a) ∷ []
 -- "C: the same" as I
-conditions d (C a) =
-    (2 if isOpen d) ∷
-    (8 if outside (a ∷ [])) ∷
-    (9 if isEmpty d a) ∷
-    (16 if atLimit d) ∷
-    []
+ownConditions d (C a) = (slotEmpty if isEmpty d a) ∷ []
 -- "U and T: no more."
-conditions d T = (2 if isOpen d) ∷ []
-conditions d U = (2 if isOpen d) ∷ []
+ownConditions d T = []
+ownConditions d U = []
+
+-- "Then 2, an M or E with no plan open, or any other record while one is open"; 8 where slots are named; the record's own; and 16
+-- where it is a change.
+unfoldable pub conditions : Desk → Record → List Condition
+conditions d r =
+    (wrongState if openAmiss d r) ∷
+    (slotOutside if outside (slotsNamed r)) ∷
+    (ownConditions d r ++ (countFull if isChange r && atLimit d) ∷ [])
 
 -- the first condition that holds: its number and column
 abbrev pub firstOf : List Condition → Option (ℕ × Option Letter)
@@ -143,5 +121,5 @@ refusalOf (pass a) = none
 
 -- on a fresh desk: a slot outside comes before a power outside, and that before an empty slot
 conditions-example : map (λ r. firstOf (conditions freshDesk r)) (K (byte "I") (pos 1001) (byte "A") ∷ K (byte "A") (pos 1001) (byte "A") ∷ K (byte "A") (pos 1000) (byte "A") ∷ T ∷ []) ≡ some (8, none) ∷ some (12, none) ∷ some (9, none) ∷ none ∷ []
-unfolding conditions freshDesk slotCount maxPower
+unfolding conditions ownConditions needsOpen slotsNamed isChange freshDesk slotCount maxPower
 conditions-example = refl

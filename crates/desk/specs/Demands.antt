@@ -3,7 +3,7 @@
 use Prim.Native.Nat.{ℕ, _+_, _<_}
 use mathlib.Core.Path.{_≡_}
 use mathlib.Core.Logic.{_↔_, _⊎_}
-use mathlib.Core.Bool.{Bool, true, false}
+use mathlib.Core.Bool.{true, false}
 use mathlib.Core.List.{List, [], _∷_, _++_, List·Memᴰ}
 use mathlib.Core.Option.{Option, none, some}
 use lib.Dec.{T}
@@ -15,19 +15,35 @@ use Rattle.higman.specs.Normal.{andThen, power}
 use Rattle.higman.specs.Limits.{Plan, Bases, Kept, slotCount}
 use Rattle.higman.specs.Text.{lineEnd, Bytes, wordOf}
 use Rattle.higman.specs.Theorems.{ActAlike, Demand3}
-use Rattle.higman.specs.Refusals.{Letter}
+use Rattle.higman.specs.Refusals.{noRecord, wrongState, shapeOutside, badWord, pairsFull, wordsOverlap, rootUncovered, slotOutside, slotEmpty, shapesDiffer, limitBroken, powerOutside, codeTooShort, countFull, Letter}
 use Rattle.desk.specs.Limits.{maxChanges}
-use Rattle.desk.specs.Desk.{Draft, Desk, held, IsDesk, changed, withDraft, withPair, dropped}
-use Rattle.desk.specs.Records.{Record, P, M, E, F, I, K, S, W, L, C, T as Tᴿ, U}
+use Rattle.desk.specs.Desk.{Draft, Desk, countOf, held, IsDesk, changed, withDraft, withPair, dropped}
+use Rattle.desk.specs.Records.{Record, P, M, E, F, I, K, S, W, L, C, T as Tᴿ, U, isChange}
 use Rattle.higman.specs.Listing.{slotNumber}
 use Rattle.desk.specs.Replies.{refuse, pass, Effect, silent, ok, okNumber, okWord, lists, surveys, refuses, heldFrom, operation, lineOperation, respondLine, recordOf, newDraft, closed}
 use Rattle.desk.specs.Bytes.{Order, replyBytes}
 use Rattle.desk.specs.Conditions.{conditions, firstOf, refusalOf}
-use Rattle.desk.specs.Theorems.{RefusalDrops, DeskStays, TypedIn, ListingReadBack}
+use Rattle.desk.specs.Theorems.{RefusalDrops, DeskStays, DeskTest, SurveyExact, FedInPieces, SessionFed, TypedIn, AcceptedFromLines, ListingReadBack, CallsExact}
+use Rattle.desk.specs.Grammar.{TextExact}
 
 -- the numbers that a record may be refused with; 14 and 15 are of library calls
 unfoldable pub refusalNumbers : List ℕ
-refusalNumbers = 1 ∷ 2 ∷ 3 ∷ 4 ∷ 5 ∷ 6 ∷ 7 ∷ 8 ∷ 9 ∷ 10 ∷ 11 ∷ 12 ∷ 13 ∷ 16 ∷ []
+refusalNumbers =
+    noRecord ∷
+    wrongState ∷
+    shapeOutside ∷
+    badWord ∷
+    pairsFull ∷
+    wordsOverlap ∷
+    rootUncovered ∷
+    slotOutside ∷
+    slotEmpty ∷
+    shapesDiffer ∷
+    limitBroken ∷
+    powerOutside ∷
+    codeTooShort ∷
+    countFull ∷
+    []
 
 -- a line's job is done, with this effect
 abbrev pub Done : Desk → Bytes → Type 0
@@ -51,35 +67,24 @@ pub record Demand1 : Type 0 where
   pub refusal-drops : RefusalDrops
   pub desk-stays : DeskStays
   -- 1 exactly where a line is no record, and every other number under its condition and no other: the first that holds
-  pub no-record : (d : Desk) (line : Bytes) (c : Option Letter) → (lineOperation d line ≡ refuse 1 c) ↔ (recordOf line ≡ refuse 1 c)
-  pub first-condition : (d : Desk) (r : Record) → refusalOf (operation d r) ≡ firstOf (conditions d r)
+  pub no-record : (d : Desk) (line : Bytes) (c : Option Letter)
+      → (lineOperation d line ≡ refuse noRecord c) ↔ (recordOf line ≡ refuse noRecord c)
+  pub first-condition : (d : Desk) → IsDesk d → (r : Record) → refusalOf (operation d r) ≡ firstOf (conditions d r)
+  -- the test for a desk says what one is, and library calls put 15 first and 14 last
+  pub desk-test : DeskTest
+  pub calls : CallsExact
 
 -- What becomes of a desk that is changed, gets an open plan or loses it.
 pub record DeskParts : Type 0 where
   -- a change: one slot holds something else, the others hold what they held, and the count is one higher
   pub changed-here : (d : Desk) (i : ℕ) (content : Option Plan) → length (d .slots) ≡ slotCount → i < slotCount → held (changed d i content) i ≡ content
   pub changed-elsewhere : (d : Desk) (i j : ℕ) (content : Option Plan) → (i ≡ j → ⊥) → held (changed d i content) j ≡ held d j
-  pub changed-count : (d : Desk) (i : ℕ) (content : Option Plan) → changed d i content .changes ≡ d .changes + 1
+  pub changed-count : (d : Desk) (i : ℕ) (content : Option Plan) → countOf (changed d i content) ≡ countOf d + 1
   pub changed-open : (d : Desk) (i : ℕ) (content : Option Plan) → changed d i content .draft ≡ none
   -- an open plan: nothing else changes
-  pub drafted : (d : Desk) (o : Draft) → (withDraft d o .slots ≡ d .slots) × (withDraft d o .draft ≡ some o) × (withDraft d o .changes ≡ d .changes)
+  pub drafted : (d : Desk) (o : Draft) → (withDraft d o .slots ≡ d .slots) × (withDraft d o .draft ≡ some o) × (countOf (withDraft d o) ≡ countOf d)
   -- it is dropped: nothing else changes
-  pub dropped-parts : (d : Desk) → (dropped d .slots ≡ d .slots) × (dropped d .draft ≡ none) × (dropped d .changes ≡ d .changes)
-
--- "E, F, I, K and C raise the count by one."
-unfoldable pub isChange : Record → Bool
-isChange (P a n r) = false
-isChange (M from to) = false
-isChange E = true
-isChange (F a b c) = true
-isChange (I a c) = true
-isChange (K a k c) = true
-isChange (S a b) = false
-isChange (W a code) = false
-isChange (L a) = false
-isChange (C a) = true
-isChange Tᴿ = false
-isChange U = false
+  pub dropped-parts : (d : Desk) → (dropped d .slots ≡ d .slots) × (dropped d .draft ≡ none) × (countOf (dropped d) ≡ countOf d)
 
 -- What P, M, C, L, T and U do when they are not refused, and which records change slots and count at all.
 pub record RepliesExact : Type 0 where
@@ -88,10 +93,10 @@ pub record RepliesExact : Type 0 where
       → (o : Draft) × (d .draft ≡ some o) × (e ≡ (withDraft d (withPair o (record { from = wordOf from; to = wordOf to })), silent))
   pub empties : (d : Desk) (a : ℕ) (e : Effect) → operation d (C a) ≡ pass e → (p : Plan) × (held d (slotNumber a) ≡ some p) × (e ≡ (changed d (slotNumber a) none, ok))
   pub lists : (d : Desk) (a : ℕ) (e : Effect) → operation d (L a) ≡ pass e → (p : Plan) × (held d (slotNumber a) ≡ some p) × (e ≡ (d, lists a p))
-  pub counts : (d : Desk) (e : Effect) → operation d Tᴿ ≡ pass e → e ≡ (d, okNumber (d .changes))
+  pub counts : (d : Desk) (e : Effect) → operation d Tᴿ ≡ pass e → e ≡ (d, okNumber (countOf d))
   pub surveys : (d : Desk) (e : Effect) → operation d U ≡ pass e → e ≡ (d, surveys (heldFrom 0 (d .slots)))
-  pub only-changes : (d : Desk) (r : Record) (e : Effect) → isChange r ≡ false → operation d r ≡ pass e → (e .0 .slots ≡ d .slots) × (e .0 .changes ≡ d .changes)
-  pub raises : (d : Desk) (r : Record) (e : Effect) → isChange r ≡ true → operation d r ≡ pass e → e .0 .changes ≡ d .changes + 1
+  pub only-changes : (d : Desk) (r : Record) (e : Effect) → isChange r ≡ false → operation d r ≡ pass e → (e .0 .slots ≡ d .slots) × (countOf (e .0) ≡ countOf d)
+  pub raises : (d : Desk) (r : Record) (e : Effect) → isChange r ≡ true → operation d r ≡ pass e → countOf (e .0) ≡ countOf d + 1
 
 -- E: what is kept is what was typed, reduced
 pub record KeptAsTyped (d : Desk) (o : Draft) (e : Effect) : Type 0 where
@@ -108,7 +113,7 @@ pub record KeptIn (d : Desk) (c : ℕ) (e : Effect) (p : Plan) : Type 0 where
 
 -- Demand 2: plans accepted exactly when both columns are bases, operations those of G(n,r), a listing read back is the same plan.
 pub record Demand2 : Type 0 where
-  pub accepted : (d : Desk) (o : Draft) → IsDesk d → d .draft ≡ some o → ((e : Effect) × (operation d E ≡ pass e)) ↔ (Bases (o .shape) (o .rows) × (d .changes < maxChanges))
+  pub accepted : (d : Desk) (o : Draft) → IsDesk d → d .draft ≡ some o → ((e : Effect) × (operation d E ≡ pass e)) ↔ (Bases (o .shape) (o .rows) × (countOf d < maxChanges))
   pub typed : (d : Desk) (o : Draft) (e : Effect) → IsDesk d → d .draft ≡ some o → operation d E ≡ pass e → KeptAsTyped d o e
   pub follows : (d : Desk) (a b c : ℕ) (e : Effect) → IsDesk d → operation d (F a b c) ≡ pass e
       → (p : Plan) × (q : Plan) × (r : Plan) × (held d (slotNumber a) ≡ some p) × (held d (slotNumber b) ≡ some q) × KeptIn d c e r × (p .shape ≡ q .shape) × (r .shape ≡ p .shape)
@@ -126,13 +131,23 @@ pub record Demand2 : Type 0 where
   -- the other records, and what "changed" means
   pub replies : RepliesExact
   pub desk-parts : DeskParts
-  -- what E judges is what was typed, in the order in which it was typed
+  pub survey : SurveyExact
+  -- what E judges is what was typed, in the order in which it was typed, and all of this from the typed lines on
   pub typed-in : TypedIn
+  pub accepted-from-lines : AcceptedFromLines
   -- a listing typed into any desk that has no plan open and may still change keeps the same plan
   pub read-back : ListingReadBack
 
--- All three demands, in one place.
+-- What is read is what is written, and a session is the replies to its lines, wherever its input is cut.
+pub record SessionExact : Type 0 where
+  pub text : TextExact
+  pub fed : SessionFed
+  pub pieces : FedInPieces
+
+-- All three demands, in one place, with what they take for granted: that bytes are read and written as the paper says, and that
+-- plans are the automorphisms of V(n,r).
 pub record Demands : Type 0 where
   pub demand1 : Demand1
   pub demand2 : Demand2
   pub demand3 : Demand3
+  pub sessions : SessionExact

@@ -31,6 +31,10 @@ pub record Desk : Type 0 where
 unfoldable pub freshDesk : Desk
 freshDesk = record { slots = replicate slotCount none; draft = none; changes = 0 }
 
+-- "a count of changes": every statement speaks of it by this name
+abbrev pub countOf : Desk → ℕ
+countOf d = d .changes
+
 -- the plan in a slot, if it holds one
 abbrev pub held : Desk → ℕ → Option Plan
 held d i = getD (d .slots) i none
@@ -49,11 +53,11 @@ pub record IsDesk (d : Desk) : Type 0 where
   pub eight : length (d .slots) ≡ slotCount
   pub kept : (i : ℕ) (p : Plan) → held d i ≡ some p → Kept p
   pub drafted : (o : Draft) → d .draft ≡ some o → IsDraft o
-  pub counted : d .changes ≤ maxChanges
+  pub counted : countOf d ≤ maxChanges
 
 -- A change: what one slot holds from now on. No plan is open afterwards, and "E, F, I, K and C raise the count by one".
 unfoldable pub changed : Desk → ℕ → Option Plan → Desk
-changed d i content = record { slots = set (d .slots) i content; draft = none; changes = d .changes + 1 }
+changed d i content = record { slots = set (d .slots) i content; draft = none; changes = countOf d + 1 }
 
 unfoldable pub withDraft : Desk → Draft → Desk
 withDraft d o = record { slots = d .slots; draft = some o; changes = d .changes }
@@ -61,6 +65,10 @@ withDraft d o = record { slots = d .slots; draft = some o; changes = d .changes 
 -- "Any refusal drops an open plan and changes nothing else."
 unfoldable pub dropped : Desk → Desk
 dropped d = record { slots = d .slots; draft = none; changes = d .changes }
+
+-- a desk with another count, for examples
+abbrev pub atCount : Desk → ℕ → Desk
+atCount d n = record { slots = d .slots; draft = d .draft; changes = n }
 
 -- "M⇥from⇥to adds a pair", behind those that are there
 abbrev pub withPair : Draft → Pair → Draft
@@ -77,7 +85,7 @@ isDraft none = true
 isDraft (some o) = leb (o .slot + 1) slotCount && isTableOf (o .shape) (o .rows)
 
 unfoldable pub isDesk : Desk → Bool
-isDesk d = eqb (length (d .slots)) slotCount && allHeld (d .slots) && isDraft (d .draft) && leb (d .changes) maxChanges
+isDesk d = eqb (length (d .slots)) slotCount && allHeld (d .slots) && isDraft (d .draft) && leb (countOf d) maxChanges
 
 -- a fresh desk; one that holds ψ in slot B; one that holds a plan that is not reduced
 isDesk-example : isDesk freshDesk ≡ true

@@ -1,15 +1,16 @@
 -- From a line of bytes to a record (document 01, "Records", with "Field forms"). A line that is no record, by its letter, its number
--- of fields or a field's form, has none: that is refusal 1. What the fields mean is the business of Replies.antt: read it next.
+-- of fields or a field's form, has none: that is refusal 1. With it the text of each record, and what of its kind a record says: whether
+-- it needs an open plan, which slots it names and what for, and whether it is a change. Read Replies.antt next.
 use Prim.Native.Nat.{ℕ, zero, suc, _+_, _*_, _-_}
 use mathlib.Core.Path.{_≡_, refl}
-use mathlib.Core.Bool.{Bool, true, false, _&&_}
-use mathlib.Core.List.{List, [], _∷_, map}
+use mathlib.Core.Bool.{Bool, true, false, _&&_, not}
+use mathlib.Core.List.{List, [], _∷_, _++_, map}
 use mathlib.Core.Option.{Option, none, some}
 use lib.Dec.{leb, eqb}
-use lib.IntN.{ℤ, pos, negsuc}
+use lib.IntN.{ℤ, pos, negsuc, natAbs}
 use lib.ListN.{length}
 use Rattle.higman.specs.Bases.{all}
-use Rattle.higman.specs.Text.{tab, Bytes, byte, bytes}
+use Rattle.higman.specs.Text.{tab, Bytes, byte, bytes, decimal}
 use Rattle.desk.specs.Limits.{maxNumeral}
 
 -- A record, by its letter. A slot is the byte that names it, a word or code the bytes that spell it.
@@ -48,6 +49,12 @@ abbrev pub fields : Bytes → List Bytes
 fields [] = [] ∷ []
 fields (b ∷ l) = elim (eqb b tab) [ true ↦ [] ∷ fields l | false ↦ inFront b (fields l) ]
 
+-- the same bytes back: fields with tabs between them
+abbrev pub parted : List Bytes → Bytes
+parted [] = []
+parted (f ∷ []) = f
+parted (f ∷ g ∷ fs) = f ++ tab ∷ parted (g ∷ fs)
+
 -- A field form: the value of a field that has it.
 abbrev pub Form : Type 0 → Type 0
 Form A = Bytes → Option A
@@ -69,12 +76,6 @@ isNumeral b = leb (byte "0") b && leb b (byte "9")
 abbrev pub numeralValue : ℕ → ℕ
 numeralValue b = b - byte "0"
 
--- "n and r one digit 0 to 9"
-abbrev pub digitField : Form ℕ
-digitField [] = none
-digitField (b ∷ []) = elim (isNumeral b) [ true ↦ some (numeralValue b) | false ↦ none ]
-digitField (b ∷ c ∷ l) = none
-
 -- the number that digits spell, behind the number that stands before them
 abbrev pub spelledOut : ℕ → Bytes → ℕ
 spelledOut n [] = n
@@ -86,9 +87,10 @@ noLeadingZero [] = false
 noLeadingZero (b ∷ []) = true
 noLeadingZero (b ∷ c ∷ l) = leb (byte "1") b
 
--- "one to four digits, no leading zero"
-abbrev pub numberField : Form ℕ
-numberField f = elim (all isNumeral f && leb (length f) maxNumeral && noLeadingZero f) [ true ↦ some (spelledOut 0 f) | false ↦ none ]
+-- A number of one digit, or of some: so many at most, "no leading zero". "n and r one digit 0 to 9"
+abbrev pub numberField : ℕ → Form ℕ
+numberField digits f =
+    elim (all isNumeral f && leb (length f) digits && noLeadingZero f) [ true ↦ some (spelledOut 0 f) | false ↦ none ]
 
 abbrev pub positive : Option ℕ → Option ℤ
 positive none = none
@@ -101,36 +103,19 @@ negative (some zero) = none
 negative (some (suc n)) = some (negsuc n)
 
 -- "k an optional minus and one to four digits, no leading zero and no minus zero"
-abbrev pub powerField : Form ℤ
-powerField [] = none
-powerField (b ∷ f) = elim (eqb b (byte "-")) [ true ↦ negative (numberField f) | false ↦ positive (numberField (b ∷ f)) ]
+abbrev pub signedField : ℕ → Form ℤ
+signedField digits [] = none
+signedField digits (b ∷ f) =
+    elim (eqb b (byte "-")) [ true ↦ negative (numberField digits f) | false ↦ positive (numberField digits (b ∷ f)) ]
 
--- A record of as many fields behind its letter as it has forms, each field in its form.
-abbrev pub applied : {A B : Type 0} → Option (A → B) → Option A → Option B
-applied none x = none
-applied (some f) none = none
-applied (some f) (some a) = some (f a)
+-- What is made of the fields behind a letter: a field in its form and then the others, until none is left.
+abbrev pub field : {A : Type 0} → Form A → (A → List Bytes → Option Record) → List Bytes → Option Record
+field form next [] = none
+field form next (f ∷ fs) = elim (form f) [ none ↦ none | some a ↦ next a fs ]
 
-abbrev pub bare : Record → List Bytes → Option Record
-bare r [] = some r
-bare r (f ∷ fs) = none
-
-abbrev pub one : {A : Type 0} → Form A → (A → Record) → List Bytes → Option Record
-one p make [] = none
-one p make (x ∷ fs) = elim fs [ [] ↦ applied (some make) (p x) | y ∷ fs′ ↦ none ]
-
-abbrev pub two : {A B : Type 0} → Form A → Form B → (A → B → Record) → List Bytes → Option Record
-two p q make [] = none
-two p q make (x ∷ []) = none
-two p q make (x ∷ y ∷ []) = applied (applied (some make) (p x)) (q y)
-two p q make (x ∷ y ∷ z ∷ fs) = none
-
-abbrev pub three : {A B C : Type 0} → Form A → Form B → Form C → (A → B → C → Record) → List Bytes → Option Record
-three p q r make [] = none
-three p q r make (x ∷ []) = none
-three p q r make (x ∷ y ∷ []) = none
-three p q r make (x ∷ y ∷ z ∷ []) = applied (applied (applied (some make) (p x)) (q y)) (r z)
-three p q r make (x ∷ y ∷ z ∷ u ∷ fs) = none
+abbrev pub noMore : Record → List Bytes → Option Record
+noMore r [] = some r
+noMore r (f ∷ fs) = none
 
 -- a letter, and how the fields behind it are read
 pub record Rule : Type 0 where
@@ -139,18 +124,18 @@ pub record Rule : Type 0 where
 
 unfoldable pub grammar : List Rule
 grammar =
-    record { letter = byte "P"; reads = three slotField digitField digitField P } ∷
-    record { letter = byte "M"; reads = two anyField anyField M } ∷
-    record { letter = byte "E"; reads = bare E } ∷
-    record { letter = byte "F"; reads = three slotField slotField slotField F } ∷
-    record { letter = byte "I"; reads = two slotField slotField I } ∷
-    record { letter = byte "K"; reads = three slotField powerField slotField K } ∷
-    record { letter = byte "S"; reads = two slotField slotField S } ∷
-    record { letter = byte "W"; reads = two slotField anyField W } ∷
-    record { letter = byte "L"; reads = one slotField L } ∷
-    record { letter = byte "C"; reads = one slotField C } ∷
-    record { letter = byte "T"; reads = bare T } ∷
-    record { letter = byte "U"; reads = bare U } ∷
+    record { letter = byte "P"; reads = field slotField (λ a. field (numberField 1) (λ n. field (numberField 1) (λ r. noMore (P a n r)))) } ∷
+    record { letter = byte "M"; reads = field anyField (λ from. field anyField (λ to. noMore (M from to))) } ∷
+    record { letter = byte "E"; reads = noMore E } ∷
+    record { letter = byte "F"; reads = field slotField (λ a. field slotField (λ b. field slotField (λ c. noMore (F a b c)))) } ∷
+    record { letter = byte "I"; reads = field slotField (λ a. field slotField (λ c. noMore (I a c))) } ∷
+    record { letter = byte "K"; reads = field slotField (λ a. field (signedField maxNumeral) (λ k. field slotField (λ c. noMore (K a k c)))) } ∷
+    record { letter = byte "S"; reads = field slotField (λ a. field slotField (λ b. noMore (S a b))) } ∷
+    record { letter = byte "W"; reads = field slotField (λ a. field anyField (λ code. noMore (W a code))) } ∷
+    record { letter = byte "L"; reads = field slotField (λ a. noMore (L a)) } ∷
+    record { letter = byte "C"; reads = field slotField (λ a. noMore (C a)) } ∷
+    record { letter = byte "T"; reads = noMore T } ∷
+    record { letter = byte "U"; reads = noMore U } ∷
     []
 
 -- the record of a letter and fields by the first rule for the letter; an unknown letter has none
@@ -168,21 +153,141 @@ readFields ((b ∷ c ∷ f) ∷ fs) = none
 unfoldable pub parse : Bytes → Option Record
 parse line = readFields (fields line)
 
+-- a whole number as it is typed
+abbrev pub signedDecimal : ℤ → Bytes
+signedDecimal (pos k) = decimal k
+signedDecimal (negsuc k) = byte "-" ∷ decimal (suc k)
+
+-- a record as it is typed: its letter and its fields
+abbrev pub recordFields : Record → List Bytes
+recordFields (P a n r) = bytes "P" ∷ (a ∷ []) ∷ decimal n ∷ decimal r ∷ []
+recordFields (M from to) = bytes "M" ∷ from ∷ to ∷ []
+recordFields E = bytes "E" ∷ []
+recordFields (F a b c) = bytes "F" ∷ (a ∷ []) ∷ (b ∷ []) ∷ (c ∷ []) ∷ []
+recordFields (I a c) = bytes "I" ∷ (a ∷ []) ∷ (c ∷ []) ∷ []
+recordFields (K a k c) = bytes "K" ∷ (a ∷ []) ∷ signedDecimal k ∷ (c ∷ []) ∷ []
+recordFields (S a b) = bytes "S" ∷ (a ∷ []) ∷ (b ∷ []) ∷ []
+recordFields (W a code) = bytes "W" ∷ (a ∷ []) ∷ code ∷ []
+recordFields (L a) = bytes "L" ∷ (a ∷ []) ∷ []
+recordFields (C a) = bytes "C" ∷ (a ∷ []) ∷ []
+recordFields T = bytes "T" ∷ []
+recordFields U = bytes "U" ∷ []
+
+unfoldable pub recordText : Record → Bytes
+recordText r = parted (recordFields r)
+
+-- no field has a tab in it
+abbrev pub noTab : Bytes → Bool
+noTab f = all (λ b. not (eqb b tab)) f
+
+-- a number has no more digits than its field: "n and r one digit", "k .. one to four digits"
+abbrev pub hasDigits : ℕ → ℕ → Bool
+hasDigits digits k = leb (length (decimal k)) digits
+
+abbrev pub numbersFit : Record → Bool
+numbersFit (P a n r) = hasDigits 1 n && hasDigits 1 r
+numbersFit (M from to) = true
+numbersFit E = true
+numbersFit (F a b c) = true
+numbersFit (I a c) = true
+numbersFit (K a k c) = hasDigits maxNumeral (natAbs k)
+numbersFit (S a b) = true
+numbersFit (W a code) = true
+numbersFit (L a) = true
+numbersFit (C a) = true
+numbersFit T = true
+numbersFit U = true
+
+-- a record that some line is the text of
+unfoldable pub wellFormed : Record → Bool
+wellFormed r = all noTab (recordFields r) && numbersFit r
+
+-- "2, an M or E with no plan open, or any other record while one is open"
+unfoldable pub needsOpen : Record → Bool
+needsOpen (P a n r) = false
+needsOpen (M from to) = true
+needsOpen E = true
+needsOpen (F a b c) = false
+needsOpen (I a c) = false
+needsOpen (K a k c) = false
+needsOpen (S a b) = false
+needsOpen (W a code) = false
+needsOpen (L a) = false
+needsOpen (C a) = false
+needsOpen T = false
+needsOpen U = false
+
+-- What a record does to a slot that it names: it reads what the slot holds, or the slot is a target, which it fills or empties.
+pub data Use : Type 0 where
+  reads : Use
+  target : Use
+
+pub record SlotUse : Type 0 where
+  pub slot : ℕ
+  pub does : Use
+
+abbrev pub reading : ℕ → SlotUse
+reading a = record { slot = a; does = reads }
+
+abbrev pub writing : ℕ → SlotUse
+writing a = record { slot = a; does = target }
+
+-- the slots that a record names, in the order of its fields
+unfoldable pub slotsNamed : Record → List SlotUse
+slotsNamed (P a n r) = writing a ∷ []
+slotsNamed (M from to) = []
+slotsNamed E = []
+slotsNamed (F a b c) = reading a ∷ reading b ∷ writing c ∷ []
+slotsNamed (I a c) = reading a ∷ writing c ∷ []
+slotsNamed (K a k c) = reading a ∷ writing c ∷ []
+slotsNamed (S a b) = reading a ∷ reading b ∷ []
+slotsNamed (W a code) = reading a ∷ []
+slotsNamed (L a) = reading a ∷ []
+slotsNamed (C a) = writing a ∷ []
+slotsNamed T = []
+slotsNamed U = []
+
+-- "E, F, I, K and C raise the count by one."
+unfoldable pub isChange : Record → Bool
+isChange (P a n r) = false
+isChange (M from to) = false
+isChange E = true
+isChange (F a b c) = true
+isChange (I a c) = true
+isChange (K a k c) = true
+isChange (S a b) = false
+isChange (W a code) = false
+isChange (L a) = false
+isChange (C a) = true
+isChange T = false
+isChange U = false
+
 fields-example : fields (bytes "W\tA\t") ≡ bytes "W" ∷ bytes "A" ∷ [] ∷ []
 fields-example = refl
 
-powerField-example : map powerField (bytes "0" ∷ bytes "-1000" ∷ bytes "9999" ∷ bytes "-0" ∷ bytes "01" ∷ bytes "10000" ∷ bytes "" ∷ bytes "-" ∷ bytes "+1" ∷ [])
+parted-example : map parted (fields (bytes "W\tA\t") ∷ fields [] ∷ []) ≡ bytes "W\tA\t" ∷ [] ∷ []
+parted-example = refl
+
+signedField-example : map (signedField 4) (bytes "0" ∷ bytes "-1000" ∷ bytes "9999" ∷ bytes "-0" ∷ bytes "01" ∷ bytes "10000" ∷ bytes "" ∷ bytes "-" ∷ bytes "+1" ∷ [])
     ≡ some (pos 0) ∷ some (negsuc 999) ∷ some (pos 9999) ∷ none ∷ none ∷ none ∷ none ∷ none ∷ none ∷ []
-unfolding maxNumeral
-powerField-example = refl
+signedField-example = refl
 
 -- "n and r one digit 0 to 9": whatever their range
-digitField-example : map digitField (bytes "0" ∷ bytes "9" ∷ bytes "" ∷ bytes "10" ∷ bytes "/" ∷ bytes ":" ∷ []) ≡ some 0 ∷ some 9 ∷ none ∷ none ∷ none ∷ none ∷ []
-digitField-example = refl
+numberField-example : map (numberField 1) (bytes "0" ∷ bytes "9" ∷ bytes "" ∷ bytes "10" ∷ bytes "/" ∷ bytes ":" ∷ []) ≡ some 0 ∷ some 9 ∷ none ∷ none ∷ none ∷ none ∷ []
+numberField-example = refl
 
 parse-example : parse (bytes "K\tA\t-2\tz") ≡ some (K (byte "A") (negsuc 1) (byte "z"))
 unfolding parse grammar maxNumeral
 parse-example = refl
+
+recordText-example : map recordText (K (byte "A") (negsuc 1) (byte "z") ∷ M (bytes "11") [] ∷ E ∷ []) ≡ bytes "K\tA\t-2\tz" ∷ bytes "M\t11\t" ∷ bytes "E" ∷ []
+unfolding recordText
+recordText-example = refl
+
+-- a slot that is a tab, a number of two digits for n, and a power of five
+wellFormed-example : map wellFormed (L (byte "A") ∷ L tab ∷ P (byte "A") 10 1 ∷ K (byte "A") (pos 10000) (byte "B") ∷ []) ≡ true ∷ false ∷ false ∷ false ∷ []
+unfolding wellFormed maxNumeral
+wellFormed-example = refl
 
 -- a line of no bytes, an unknown letter, a field too many, a letter of two bytes, a slot of two, and a byte 13 at the end
 not-record-example : map parse (bytes "" ∷ bytes "Q" ∷ bytes "T\t" ∷ bytes "TT" ∷ bytes "L\tAB" ∷ bytes "E\r" ∷ []) ≡ none ∷ none ∷ none ∷ none ∷ none ∷ none ∷ []

@@ -1,6 +1,6 @@
 -- The reply to each record, and the desk after it (document 01, "Records" and "When each operation says no"). Each operation is a
--- list of steps: `n when t` refuses with n where t holds, and the first step that refuses ends it. The answers about plans are those
--- of higman, with their numbers. Read Bytes.antt next.
+-- list of steps: `n when t` refuses with n where t holds, and the first step that refuses ends it. What all records have in common
+-- stands around the job of each. The answers about plans are those of higman, with their numbers. Read Bytes.antt next.
 use Prim.Native.Nat.{ℕ, suc, _+_, _-_}
 use mathlib.Core.Path.{_≡_, refl}
 use mathlib.Core.Bool.{Bool, true, false, _&&_, not}
@@ -8,19 +8,19 @@ use mathlib.Core.List.{List, [], _∷_, _++_, map}
 use mathlib.Core.Option.{Option, none, some}
 use lib.Dec.{leb}
 use lib.IntN.{pos, natAbs}
-use lib.ListN.{length, set, replicate}
+use lib.ListN.{length, replicate}
 use Rattle.higman.specs.Words.{Shape, Word, given, spell}
 use Rattle.higman.specs.Bases.{all}
 use Rattle.higman.specs.Tables.{Table, row, φ, ψ}
 use Rattle.higman.specs.Normal.{joined, normal, normalForm, keep, compose, inverse}
 use Rattle.higman.specs.Limits.{Plan, shapeInRange, granted, isCode, maxPairs, maxDigits, maxCode, maxPower, slotCount, isPlanWord}
-use Rattle.higman.specs.Answers.{Verdict, Accepted, InFrom, InTo, verdict, reasonNumber, Answer, Granted, Refused, PowerOutside, refusalNumber, followed, inverted, powered, Comparison, Alike, NotCompared, same, Route, Image, TooShort, NotRouted, routeNumber, routed}
-use Rattle.higman.specs.Refusals.{Letter}
+use Rattle.higman.specs.Answers.{Verdict, Accepted, InFrom, InTo, verdict, reasonNumber, Answer, Granted, Refused, refusalNumber, followed, inverted, powered, Comparison, Alike, NotCompared, same, Route, Image, TooShort, NotRouted, routeNumber, routed}
+use Rattle.higman.specs.Refusals.{noRecord, wrongState, shapeOutside, badWord, pairsFull, slotOutside, slotEmpty, powerOutside, countFull, Letter}
 use Rattle.higman.specs.Text.{Bytes, byte, bytes, digitOf, wordOf}
 use Rattle.higman.specs.Listing.{slotNumber, isSlot}
 use Rattle.desk.specs.Limits.{maxChanges, maxLine}
-use Rattle.desk.specs.Desk.{Draft, Desk, freshDesk, held, changed, withDraft, withPair, dropped}
-use Rattle.desk.specs.Records.{Record, P, M, E, F, I, K, S, W, L, C, T, U, grammar, parse}
+use Rattle.desk.specs.Desk.{Draft, Desk, freshDesk, countOf, held, changed, withDraft, dropped, atCount, withPair}
+use Rattle.desk.specs.Records.{Record, P, M, E, F, I, K, S, W, L, C, T, U, grammar, parse, needsOpen, SlotUse, slotsNamed, isChange}
 
 -- a slot that holds a plan
 pub record Held : Type 0 where
@@ -56,25 +56,28 @@ abbrev pub _when_ : ℕ → Bool → Outcome (Unit {0})
 n when true = refuse n none
 n when false = pass tt
 
--- 2, "any other record while one is open"
 abbrev pub isOpen : Desk → Bool
 isOpen d = given (d .draft)
 
--- the open plan; 2, "an M or E with no plan open"
+-- 2, "an M or E with no plan open, or any other record while one is open"
+abbrev pub openAmiss : Desk → Record → Bool
+openAmiss d r = elim (needsOpen r) [ true ↦ not (isOpen d) | false ↦ isOpen d ]
+
+-- the open plan, where there is one
 abbrev pub openPlan : Desk → Outcome Draft
-openPlan d = elim (d .draft) [ none ↦ refuse 2 none | some o ↦ pass o ]
+openPlan d = elim (d .draft) [ none ↦ refuse wrongState none | some o ↦ pass o ]
 
 -- 8, "a slot byte outside A to H"
-abbrev pub outside : List ℕ → Bool
-outside bs = not (all isSlot bs)
+abbrev pub outside : List SlotUse → Bool
+outside us = not (all (λ u. isSlot (u .slot)) us)
 
 -- the plan in a slot; 9, "a or b empty"
 abbrev pub planIn : Desk → ℕ → Outcome Plan
-planIn d b = elim (held d (slotNumber b)) [ none ↦ refuse 9 none | some p ↦ pass p ]
+planIn d b = elim (held d (slotNumber b)) [ none ↦ refuse slotEmpty none | some p ↦ pass p ]
 
 -- 16, "the count is at its limit"
 abbrev pub atLimit : Desk → Bool
-atLimit d = leb maxChanges (d .changes)
+atLimit d = leb maxChanges (countOf d)
 
 -- E: "both made of the from column and after that both of the to column", with the column's letter
 abbrev pub ofVerdict : Verdict → Outcome (Unit {0})
@@ -126,95 +129,78 @@ newDraft b s = record { slot = slotNumber b; shape = s; rows = [] }
 abbrev pub closed : Draft → Plan
 closed o = record { shape = o .shape; rows = keep (o .shape) (o .rows) }
 
--- "When each operation says no", and what it does when it does not
-unfoldable pub operation : Desk → Record → Outcome Effect
-operation d (P a n r) = do
-  _ ← 2 when isOpen d
-  _ ← 8 when outside (a ∷ [])
-  _ ← 3 when not (shapeInRange (record { arity = n; roots = r }))
+-- The record's own numbers, in the paper's order, and what is done where none of them is given. It is asked behind the tests of
+-- `operation`: M and E meet an open plan, and every slot that is named is one.
+unfoldable pub job : Desk → Record → Outcome Effect
+job d (P a n r) = do
+  _ ← shapeOutside when not (shapeInRange (record { arity = n; roots = r }))
   pass (withDraft d (newDraft a (record { arity = n; roots = r })), silent)
-operation d (M from to) = do
-  -- 2
+job d (M from to) = do
   o ← openPlan d
-  _ ← 4 when not (isPlanWord (o .shape) (wordOf from) && isPlanWord (o .shape) (wordOf to))
-  _ ← 5 when leb maxPairs (length (o .rows))
+  _ ← badWord when not (isPlanWord (o .shape) (wordOf from) && isPlanWord (o .shape) (wordOf to))
+  _ ← pairsFull when leb maxPairs (length (o .rows))
   pass (withDraft d (withPair o (record { from = wordOf from; to = wordOf to })), silent)
-operation d E = do
-  -- 2
+job d E = do
   o ← openPlan d
   -- 6 and 7
   _ ← ofVerdict (verdict (o .shape) (o .rows))
-  _ ← 16 when atLimit d
   pass (keepIn d (o .slot) (closed o))
-operation d (F a b c) = do
-  _ ← 2 when isOpen d
-  _ ← 8 when outside (a ∷ b ∷ c ∷ [])
+job d (F a b c) = do
   -- 9
   p ← planIn d a
   q ← planIn d b
   -- 10 and 11
   r ← ofAnswer (followed p q)
-  _ ← 16 when atLimit d
   pass (keepIn d (slotNumber c) r)
-operation d (I a c) = do
-  _ ← 2 when isOpen d
-  _ ← 8 when outside (a ∷ c ∷ [])
+job d (I a c) = do
   -- 9
   p ← planIn d a
   r ← ofAnswer (inverted p)
-  _ ← 16 when atLimit d
   pass (keepIn d (slotNumber c) r)
-operation d (K a k c) = do
-  _ ← 2 when isOpen d
-  _ ← 8 when outside (a ∷ c ∷ [])
+job d (K a k c) = do
   -- 12, before the slot is looked into
-  _ ← refusalNumber PowerOutside when not (leb (natAbs k) maxPower)
+  _ ← powerOutside when not (leb (natAbs k) maxPower)
   -- 9
   p ← planIn d a
   -- 11
   r ← ofAnswer (powered p k)
-  _ ← 16 when atLimit d
   pass (keepIn d (slotNumber c) r)
-operation d (S a b) = do
-  _ ← 2 when isOpen d
-  _ ← 8 when outside (a ∷ b ∷ [])
+job d (S a b) = do
   -- 9
   p ← planIn d a
   q ← planIn d b
   -- 10
   alike ← ofComparison (same p q)
   pass (d, okNumber (bit alike))
-operation d (W a code) = do
-  _ ← 2 when isOpen d
-  _ ← 8 when outside (a ∷ [])
+job d (W a code) = do
   -- 9
   p ← planIn d a
   -- 4 and 13
   image ← ofRoute (routed p (wordOf code))
   pass (d, okWord image)
-operation d (L a) = do
-  _ ← 2 when isOpen d
-  _ ← 8 when outside (a ∷ [])
+job d (L a) = do
   -- 9
   p ← planIn d a
   pass (d, lists a p)
-operation d (C a) = do
-  _ ← 2 when isOpen d
-  _ ← 8 when outside (a ∷ [])
+job d (C a) = do
   -- 9
   p ← planIn d a
-  _ ← 16 when atLimit d
   pass (changed d (slotNumber a) none, ok)
-operation d T = do
-  _ ← 2 when isOpen d
-  pass (d, okNumber (d .changes))
-operation d U = do
-  _ ← 2 when isOpen d
-  pass (d, surveys (heldFrom 0 (d .slots)))
+job d T = pass (d, okNumber (countOf d))
+job d U = pass (d, surveys (heldFrom 0 (d .slots)))
+
+-- "When each operation says no": 2, then 8, then the record's own numbers, and 16 last where the record is a change
+unfoldable pub operation : Desk → Record → Outcome Effect
+operation d r = do
+  _ ← wrongState when openAmiss d r
+  _ ← slotOutside when outside (slotsNamed r)
+  e ← job d r
+  _ ← countFull when (isChange r && atLimit d)
+  pass e
 
 -- "Every record: 1, unknown letter, wrong number of fields, a field form, or a line too long."
 abbrev pub recordOf : Bytes → Outcome Record
-recordOf line = elim (leb (length line) maxLine) [ false ↦ refuse 1 none | true ↦ elim (parse line) [ none ↦ refuse 1 none | some r ↦ pass r ] ]
+recordOf line = elim (leb (length line) maxLine) [ false ↦ refuse noRecord none | true ↦ elim (parse line) [ none ↦ refuse noRecord none | some r ↦ pass r ] ]
 
 -- what a line does
 unfoldable pub lineOperation : Desk → Bytes → Outcome Effect
@@ -233,11 +219,21 @@ respond d r = settle d (operation d r)
 unfoldable pub respondLine : Desk → Bytes → Effect
 respondLine d line = settle d (lineOperation d line)
 
+-- Lines answered one after the other: the desk after each of them, with its reply.
+unfoldable pub run : Desk → List Bytes → List Effect
+run d [] = []
+run d (l ∷ ls) = let e = respondLine d l in e ∷ run (e .0) ls
+
+-- the desk after them all
+abbrev pub deskAfter : Desk → List Effect → Desk
+deskAfter d [] = d
+deskAfter d (e ∷ es) = deskAfter (e .0) es
+
 -- On a fresh desk: T counts no change and U finds no plan; no pair without an open plan; a slot outside comes before an empty one,
 -- and so does a power outside.
 respond-example : map (λ r. respond freshDesk r .1) (T ∷ U ∷ M [] [] ∷ P (byte "I") 2 1 ∷ P (byte "H") 1 1 ∷ L (byte "A") ∷ F (byte "A") (byte "A") (byte "a") ∷ K (byte "A") (pos 1001) (byte "A") ∷ [])
     ≡ okNumber 0 ∷ surveys [] ∷ refuses 2 none ∷ refuses 8 none ∷ refuses 3 none ∷ refuses 9 none ∷ refuses 8 none ∷ refuses 12 none ∷ []
-unfolding _>>=_ respond operation freshDesk slotCount shapeInRange maxPower
+unfolding _>>=_ respond operation job needsOpen slotsNamed isChange freshDesk slotCount shapeInRange maxPower
 respond-example = refl
 
 -- "Lines hold at most 1,100 bytes": W with a code so long that the line has 1,100, and one byte more
@@ -248,41 +244,42 @@ recordOf-example = refl
 -- with a plan open: any record but M and E is refused with 2
 open-example : map (λ r. respond (withDraft freshDesk (newDraft (byte "A") (record { arity = 2; roots = 1 }))) r .1) (T ∷ U ∷ P (byte "A") 2 1 ∷ L (byte "A") ∷ M (bytes "1") (bytes "1") ∷ E ∷ [])
     ≡ refuses 2 none ∷ refuses 2 none ∷ refuses 2 none ∷ refuses 2 none ∷ silent ∷ refuses 7 (some Letter.F) ∷ []
-unfolding _>>=_ respond operation freshDesk withDraft slotCount isPlanWord maxPairs maxDigits verdict digitOf
+unfolding _>>=_ respond operation job needsOpen slotsNamed isChange freshDesk withDraft slotCount isPlanWord maxPairs maxDigits verdict digitOf
 open-example = refl
 
 -- a line that is no record, and a record
 respondLine-example : map (λ l. respondLine freshDesk (bytes l) .1) ("" ∷ "T " ∷ "T" ∷ []) ≡ refuses 1 none ∷ refuses 1 none ∷ okNumber 0 ∷ []
-unfolding _>>=_ respondLine lineOperation operation parse grammar freshDesk slotCount maxLine
+unfolding _>>=_ respondLine lineOperation operation job needsOpen slotsNamed isChange parse grammar freshDesk slotCount maxLine
 respondLine-example = refl
 
--- At the limit of the count, with ψ in slot A alone: 16 is the last of the refusals, and what changes nothing is still done.
-abbrev fullCount : Desk
-fullCount = record { slots = set (replicate slotCount none) 0 (some (record { shape = record { arity = 2; roots = 1 }; rows = ψ })); draft = none; changes = maxChanges }
-
-full-count-example : map (λ r. respond fullCount r .1) (T ∷ C (byte "A") ∷ C (byte "B") ∷ I (byte "A") (byte "B") ∷ K (byte "A") (pos 1001) (byte "B") ∷ W (byte "A") (bytes "12") ∷ [])
-    ≡ okNumber 4_000_000_000 ∷ refuses 16 none ∷ refuses 9 none ∷ refuses 16 none ∷ refuses 12 none ∷ okWord (spell 122) ∷ []
-unfolding _>>=_ respond operation slotCount maxChanges maxPower inverted inverse keep normalForm normal joined routed isCode maxCode digitOf
-full-count-example = refl
-
--- ψ in slot A and φ in slot B
+-- plans of shape (2,1), for examples
 abbrev plan21 : Table → Plan
 plan21 t = record { shape = record { arity = 2; roots = 1 }; rows = t }
 
+-- At the limit of the count, with ψ in slot A alone: 16 is the last of the refusals, and what changes nothing is still done.
+abbrev fullCount : Desk
+fullCount = atCount (changed freshDesk 0 (some (plan21 ψ))) maxChanges
+
+full-count-example : map (λ r. respond fullCount r .1) (T ∷ C (byte "A") ∷ C (byte "B") ∷ I (byte "A") (byte "B") ∷ K (byte "A") (pos 1001) (byte "B") ∷ W (byte "A") (bytes "12") ∷ [])
+    ≡ okNumber 4_000_000_000 ∷ refuses 16 none ∷ refuses 9 none ∷ refuses 16 none ∷ refuses 12 none ∷ okWord (spell 122) ∷ []
+unfolding _>>=_ respond operation job needsOpen slotsNamed isChange freshDesk changed slotCount maxChanges maxPower inverted inverse keep normalForm normal joined routed isCode maxCode digitOf
+full-count-example = refl
+
+-- ψ in slot A and φ in slot B
 abbrev twoPlans : Desk
-twoPlans = record { slots = set (set (replicate slotCount none) 0 (some (plan21 ψ))) 1 (some (plan21 φ)); draft = none; changes = 2 }
+twoPlans = changed (changed freshDesk 0 (some (plan21 ψ))) 1 (some (plan21 φ))
 
 done-example : map (λ r. respond twoPlans r .1) (S (byte "A") (byte "A") ∷ S (byte "A") (byte "B") ∷ L (byte "B") ∷ C (byte "B") ∷ U ∷ [])
     ≡ okNumber 1 ∷ okNumber 0 ∷ lists (byte "B") (plan21 φ) ∷ ok ∷ surveys (record { slot = 0; plan = plan21 ψ } ∷ record { slot = 1; plan = plan21 φ } ∷ []) ∷ []
-unfolding _>>=_ respond operation slotCount same maxChanges
+unfolding _>>=_ respond operation job needsOpen slotsNamed isChange freshDesk changed slotCount same maxChanges
 done-example = refl
 
-emptied-example : respond twoPlans (C (byte "B")) .0 ≡ record { slots = set (replicate slotCount none) 0 (some (plan21 ψ)); draft = none; changes = 3 }
-unfolding _>>=_ respond operation slotCount changed maxChanges
+emptied-example : respond twoPlans (C (byte "B")) .0 ≡ atCount (changed freshDesk 0 (some (plan21 ψ))) 3
+unfolding _>>=_ respond operation job needsOpen slotsNamed isChange freshDesk changed slotCount maxChanges
 emptied-example = refl
 
 -- "Operands are read before c is written, so letters may repeat."
 repeated-letters-example : map (λ r. held (respond twoPlans r .0) 0) (F (byte "A") (byte "A") (byte "A") ∷ F (byte "B") (byte "A") (byte "A") ∷ F (byte "A") (byte "B") (byte "A") ∷ I (byte "A") (byte "A") ∷ [])
     ≡ some (plan21 (row 1111 11 ∷ row 1112 121 ∷ row 112 1221 ∷ row 12 1222 ∷ [])) ∷ some (plan21 (row 111 1222 ∷ row 112 1221 ∷ row 121 11 ∷ row 122 121 ∷ [])) ∷ some (plan21 (row 1111 122 ∷ row 1112 121 ∷ row 112 111 ∷ row 12 112 ∷ [])) ∷ some (plan21 (row 11 111 ∷ row 121 112 ∷ row 122 12 ∷ [])) ∷ []
-unfolding _>>=_ respond operation slotCount changed maxChanges followed inverted granted maxPairs maxDigits compose inverse keep normalForm normal joined
+unfolding _>>=_ respond operation job needsOpen slotsNamed isChange freshDesk changed slotCount maxChanges followed inverted granted maxPairs maxDigits compose inverse keep normalForm normal joined
 repeated-letters-example = refl

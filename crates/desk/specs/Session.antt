@@ -1,9 +1,10 @@
--- A session, bytes in and bytes out (document 01, "Records"), fed in pieces: between two pieces there is the desk and the beginning
--- of a line, of which no more is held than a line may have. The example is the paper's "A session in full". Read Buffers.antt next.
+-- A session, bytes in and bytes out (document 01, "Records"): the replies to the lines of its input. And the same fed in pieces: between
+-- two pieces there is the desk and the beginning of a line, of which no more is held than a line may have. That both write the same
+-- is `SessionFed` of Theorems.antt. The example is the paper's "A session in full". Read Buffers.antt next.
 use Prim.Native.Nat.{ℕ}
 use mathlib.Core.Path.{_≡_, refl}
 use mathlib.Core.Bool.{Bool, true, false}
-use mathlib.Core.List.{[], _∷_, _++_, map}
+use mathlib.Core.List.{List, [], _∷_, _++_, map}
 use mathlib.Core.Option.{none}
 use lib.Dec.{eqb, ltb}
 use lib.ListN.{length, replicate}
@@ -11,11 +12,27 @@ use Rattle.higman.specs.Normal.{joined, normal, normalForm, keep, compose, inve
 use Rattle.higman.specs.Limits.{isPlanWord, maxPairs, maxDigits, maxCode, maxPower, shapeInRange, granted, isCode, slotCount}
 use Rattle.higman.specs.Answers.{verdict, followed, inverted, raised, powered, routed}
 use Rattle.higman.specs.Text.{digitOf, lineEnd, Bytes, byte, bytes, lines}
+use Rattle.higman.specs.Refusals.{noRecord}
+use Rattle.higman.specs.Listing.{joinLines}
 use Rattle.desk.specs.Limits.{maxChanges, maxLine, maxNumeral}
 use Rattle.desk.specs.Desk.{Desk, freshDesk, changed, withDraft, dropped}
-use Rattle.desk.specs.Records.{grammar, parse}
-use Rattle.desk.specs.Replies.{_>>=_, Effect, refuse, settle, operation, lineOperation, respondLine}
+use Rattle.desk.specs.Records.{grammar, parse, needsOpen, slotsNamed, isChange}
+use Rattle.desk.specs.Replies.{_>>=_, Effect, refuse, settle, job, operation, lineOperation, respondLine, run}
 use Rattle.desk.specs.Bytes.{Order, replyBytes}
+
+-- "lines ended by byte 10. A last line without that byte counts if it isn't empty": the lines of some bytes behind the beginning of one
+abbrev pub linesFrom : Bytes → Bytes → List Bytes
+linesFrom begun [] = elim begun [ [] ↦ [] | b ∷ l ↦ (b ∷ l) ∷ [] ]
+linesFrom begun (b ∷ input) =
+    elim (eqb b lineEnd) [ true ↦ begun ∷ linesFrom [] input | false ↦ linesFrom (begun ++ (b ∷ [])) input ]
+
+-- the bytes of the replies to lines, one after the other
+abbrev pub repliesTo : Order → Desk → List Bytes → Bytes
+repliesTo order d ls = joinLines (map (λ e. replyBytes order (e .1)) (run d ls))
+
+-- "The desk program reads standard input, one record a line": what it writes
+unfoldable pub session : Order → Bytes → Bytes
+session order input = repliesTo order freshDesk (linesFrom [] input)
 
 -- The desk, the line that has begun, and whether that line is too long already; what it holds then is let go.
 pub record State : Type 0 where
@@ -38,7 +55,7 @@ grown s b =
 
 -- the line is whole: "a longer one, up to its byte 10, is one refusal"
 abbrev pub effectOf : State → Effect
-effectOf s = elim (s .overlong) [ true ↦ settle (s .desk) (refuse 1 none) | false ↦ respondLine (s .desk) (s .line) ]
+effectOf s = elim (s .overlong) [ true ↦ settle (s .desk) (refuse noRecord none) | false ↦ respondLine (s .desk) (s .line) ]
 
 -- no line has begun
 abbrev pub isIdle : State → Bool
@@ -60,9 +77,9 @@ module _ (order : Order) where
   unfoldable pub finish : State → Desk × Bytes
   finish s = elim (isIdle s) [ true ↦ (dropped (s .desk), []) | false ↦ let r = lineEnded s in (dropped (r .0 .desk), r .1) ]
 
-  -- "The desk program reads standard input, one record a line": what it writes
-  unfoldable pub session : Bytes → Bytes
-  session input = let r = feed (idle freshDesk) input in r .1 ++ finish (r .0) .1
+  -- what is written when the input from a state on is fed whole and ends
+  abbrev pub fedWhole : State → Bytes → Bytes
+  fedWhole s input = let r = feed s input in r .1 ++ finish (r .0) .1
 
 -- document 01, "A session in full"
 abbrev pub inputInFull : Bytes
@@ -96,9 +113,12 @@ outputInFull =
     "ok\t2" ∷
     [])
 
+linesFrom-example : linesFrom [] (bytes "T\n\nU") ≡ bytes "T" ∷ [] ∷ bytes "U" ∷ []
+linesFrom-example = refl
+
 -- a last line without byte 10, and none behind the last byte 10
 last-line-example : (order : Order) → map (session order) (bytes "T" ∷ bytes "T\n" ∷ bytes "\nT\r" ∷ []) ≡ bytes "ok\t0\n" ∷ bytes "ok\t0\n" ∷ bytes "no\t1\nno\t1\n" ∷ []
-unfolding session finish feed feedByte replyBytes _>>=_ respondLine lineOperation operation parse grammar freshDesk dropped slotCount maxLine
+unfolding session run replyBytes _>>=_ respondLine lineOperation operation job needsOpen slotsNamed isChange parse grammar freshDesk dropped slotCount maxLine
 last-line-example order = refl
 
 -- behind 1,100 bytes of a line one more makes it too long: what it held is let go, and at its end it is refused
@@ -106,9 +126,9 @@ abbrev fullLine : State
 fullLine = record { desk = freshDesk; line = replicate maxLine (byte "T"); overlong = false }
 
 overlong-example : (order : Order) → feed order fullLine (bytes "TT\nT\n") ≡ (idle freshDesk, bytes "no\t1\nok\t0\n")
-unfolding feed feedByte replyBytes _>>=_ respondLine lineOperation operation parse grammar freshDesk dropped slotCount maxLine
+unfolding feed feedByte replyBytes _>>=_ respondLine lineOperation operation job needsOpen slotsNamed isChange parse grammar freshDesk dropped slotCount maxLine
 overlong-example order = refl
 
 session-in-full : (order : Order) → session order inputInFull ≡ outputInFull
-unfolding session finish feed feedByte replyBytes _>>=_ respondLine lineOperation operation parse grammar freshDesk changed withDraft dropped slotCount maxChanges maxLine maxNumeral isPlanWord digitOf maxPairs maxDigits maxCode maxPower shapeInRange granted isCode verdict followed inverted raised powered routed keep compose inverse identity normalForm normal joined
+unfolding session run replyBytes _>>=_ respondLine lineOperation operation job needsOpen slotsNamed isChange parse grammar freshDesk changed withDraft dropped slotCount maxChanges maxLine maxNumeral isPlanWord digitOf maxPairs maxDigits maxCode maxPower shapeInRange granted isCode verdict followed inverted raised powered routed keep compose inverse identity normalForm normal joined
 session-in-full order = refl

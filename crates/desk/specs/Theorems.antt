@@ -1,27 +1,31 @@
 -- The statements, for every order of U's lines. Of one line: RefusalDrops, DeskStays, DeskTest and SurveyExact. Of a session:
--- FedInPieces (wherever its input is cut), SessionIsLines (what the state holds of a line is enough), TypedIn and ListingReadBack. Of a library
--- call: CallsExact. proofs/ has one term of each. Read Conditions.antt next.
+-- FedInPieces (wherever its input is cut), SessionFed (what the state holds of a line is enough), TypedIn, AcceptedFromLines and
+-- ListingReadBack. Of a library call: CallsExact. proofs/ has one term of each. Read Conditions.antt next.
 use Prim.Native.Nat.{ℕ, suc, _≤_, _<_}
-use mathlib.Core.Path.{_≡_, refl}
+use mathlib.Core.Path.{_≡_}
 use mathlib.Core.Logic.{_↔_}
-use mathlib.Core.Bool.{true, false}
+use mathlib.Core.Bool.{_&&_}
 use mathlib.Core.List.{List, [], _∷_, _++_, map, List·Memᴰ, List·Permᴰ}
 use mathlib.Core.Option.{Option, none, some}
-use lib.Dec.{T, eqb}
-use Rattle.higman.specs.Refusals.{Letter}
+use lib.Dec.{T}
 use lib.ListN.{length}
 use Rattle.higman.specs.Words.{Shape}
+use Rattle.higman.specs.Text.{Bytes, decimal, wordOf}
+use Rattle.higman.specs.Bases.{all}
 use Rattle.higman.specs.Tables.{Table}
-use Rattle.higman.specs.Limits.{Plan, Kept}
+use Rattle.higman.specs.Normal.{keep}
+use Rattle.higman.specs.Limits.{Plan, Bases, Kept, shapeInRange, isPlanWord, maxPairs}
+use Rattle.higman.specs.Refusals.{bufferTooShort, invalidValue, Letter}
 use Rattle.higman.specs.Answers.{isTableOf}
-use Rattle.higman.specs.Text.{lineEnd, Bytes, bytes}
-use Rattle.higman.specs.Listing.{openRecord, pairRecords, joinLines, slotNumber, isSlot}
+use Rattle.higman.specs.Listing.{slotNumber, isSlot, openRecord, pairRecords, joinLines}
+use Rattle.higman.specs.Buffers.{written}
 use Rattle.desk.specs.Limits.{maxChanges}
-use Rattle.desk.specs.Desk.{Desk, held, IsDesk, isDesk, freshDesk, changed, withDraft, dropped}
-use Rattle.desk.specs.Replies.{refuse, pass, Effect, lists, Held, heldFrom, okNumber, refuses, respondLine}
-use Rattle.desk.specs.Bytes.{heldLine, Order, IsOrder, replyBytes}
-use Rattle.desk.specs.Session.{State, idle, feed, session}
-use Rattle.desk.specs.Buffers.{Work, overwritten, lentCall, plainCall}
+use Rattle.desk.specs.Desk.{Desk, countOf, held, IsDesk, isDesk, freshDesk, changed, withDraft, dropped}
+use Rattle.desk.specs.Records.{Record, P, M, E, recordText, wellFormed}
+use Rattle.desk.specs.Replies.{refuse, pass, Effect, lists, surveys, Held, heldFrom, okNumber, refuses, respondLine, run, deskAfter}
+use Rattle.desk.specs.Bytes.{lineOf, okLine, heldFields, Order, replyBytes}
+use Rattle.desk.specs.Session.{State, idle, feed, fedWhole, session}
+use Rattle.desk.specs.Buffers.{Work, lentCall, plainCall}
 
 -- "Any refusal drops an open plan and changes nothing else."
 abbrev pub RefusalDrops : Type 0
@@ -41,11 +45,18 @@ abbrev pub Ascending : ℕ → List Held → Type 0
 Ascending i [] = Unit {0}
 Ascending i (h ∷ hs) = (i ≤ h .slot) × Ascending (suc (h .slot)) hs
 
+-- the reply of U: some lines, which are those of the held slots in some order, and then `ok⇥` and how many
+pub record SurveyReply (order : Order) (hs : List Held) : Type 0 where
+  pub lines : List (List Bytes)
+  pub each-once : List·Permᴰ lines (map heldFields hs)
+  pub reply : replyBytes order (surveys hs) ≡ joinLines (map lineOf lines) ++ okLine (decimal (length hs) ∷ [])
+
 -- U: "in it each held slot has its line exactly once", whatever the order
 pub record SurveyExact : Type 0 where
-  pub held-listed : (d : Desk) (i : ℕ) (p : Plan) → (held d i ≡ some p) ↔ List·Memᴰ (record { slot = i; plan = p }) (heldFrom 0 (d .slots))
+  pub held-listed : (d : Desk) (i : ℕ) (p : Plan)
+      → (held d i ≡ some p) ↔ List·Memᴰ (record { slot = i; plan = p }) (heldFrom 0 (d .slots))
   pub once : (d : Desk) → Ascending 0 (heldFrom 0 (d .slots))
-  pub lines : (order : Order) → IsOrder order → (hs : List Held) → List·Permᴰ (map heldLine (order hs)) (map heldLine hs)
+  pub replied : (order : Order) (hs : List Held) → SurveyReply order hs
 
 -- two pieces, one after the other
 abbrev pub feedBoth : Order → State → Bytes → Bytes → State × Bytes
@@ -60,47 +71,79 @@ pub record FedInPieces : Type 0 where
   pub two : (order : Order) (s : State) (x y : Bytes) → feed order s (x ++ y) ≡ feedBoth order s x y
   pub any : (order : Order) (s : State) (pieces : List Bytes) → feed order s (joinLines pieces) ≡ feedPieces order s pieces
 
--- "lines ended by byte 10. A last line without that byte counts if it isn't empty": the lines of some bytes behind the beginning of one
-abbrev pub linesFrom : Bytes → Bytes → List Bytes
-linesFrom begun [] = elim begun [ [] ↦ [] | b ∷ l ↦ (b ∷ l) ∷ [] ]
-linesFrom begun (b ∷ input) = elim (eqb b lineEnd) [ true ↦ begun ∷ linesFrom [] input | false ↦ linesFrom (begun ++ (b ∷ [])) input ]
-
--- the replies to lines, one after the other
-abbrev pub repliesTo : Order → Desk → List Bytes → Bytes
-repliesTo order d [] = []
-repliesTo order d (l ∷ ls) = let e = respondLine d l in replyBytes order (e .1) ++ repliesTo order (e .0) ls
-
--- A session replies to its lines in turn, each as a whole and however long it is.
-abbrev pub SessionIsLines : Type 0
-SessionIsLines = (order : Order) (input : Bytes) → session order input ≡ repliesTo order freshDesk (linesFrom [] input)
-
-linesFrom-example : linesFrom [] (bytes "T\n\nU") ≡ bytes "T" ∷ [] ∷ bytes "U" ∷ []
-linesFrom-example = refl
+-- Fed whole from a fresh desk on, the input gets the replies to its lines, each line as a whole and however long it is.
+abbrev pub SessionFed : Type 0
+SessionFed = (order : Order) (input : Bytes) → fedWhole order (idle freshDesk) input ≡ session order input
 
 -- What is typed is what the lines say: P and M records of words within the limits, typed into a desk with no open plan, get no reply
 -- and open just the plan that they spell, in their order. Whatever follows, E first of all, meets that plan.
 abbrev pub TypedIn : Type 0
-TypedIn = (order : Order) (d : Desk) → d .draft ≡ none → (b : ℕ) → T (isSlot b) → (s : Shape) (t : Table) → T (isTableOf s t) → (rest : Bytes) → feed order (idle d) (openRecord b s ++ (joinLines (pairRecords t) ++ rest)) ≡ feed order (idle (withDraft d (record { slot = slotNumber b; shape = s; rows = t }))) rest
+TypedIn =
+    (order : Order) (d : Desk) → d .draft ≡ none → (b : ℕ) → T (isSlot b) → (s : Shape) (t : Table) → T (isTableOf s t) → (rest : Bytes)
+    → feed order (idle d) (openRecord b s ++ (joinLines (pairRecords t) ++ rest))
+    ≡ feed order (idle (withDraft d (record { slot = slotNumber b; shape = s; rows = t }))) rest
+
+-- two words as they are typed
+pub record TypedPair : Type 0 where
+  pub from : Bytes
+  pub to : Bytes
+
+abbrev pub typedTable : List TypedPair → Table
+typedTable ps = map (λ p. record { from = wordOf (p .from); to = wordOf (p .to) }) ps
+
+-- P, an M for each pair, and E
+abbrev pub typedRecords : ℕ → Shape → List TypedPair → List Record
+typedRecords b s ps = P b (s .arity) (s .roots) ∷ (map (λ p. M (p .from) (p .to)) ps ++ E ∷ [])
+
+-- what the paper asks of a typed plan: a slot, a shape, words of the shape within the limits, bases for columns, and room in the count
+pub record Acceptable (d : Desk) (b : ℕ) (s : Shape) (t : Table) : Type 0 where
+  pub slot-named : T (isSlot b)
+  pub in-range : T (shapeInRange s)
+  pub words : T (all (λ p. isPlanWord s (p .from) && isPlanWord s (p .to)) t)
+  pub few : length t ≤ maxPairs
+  pub bases : Bases s t
+  pub room : countOf d < maxChanges
+
+-- "plans accepted exactly when both columns are bases", from the typed lines on: on a desk with no open plan a plan is kept where all
+-- that is asked holds, and otherwise the desk is as it was.
+pub record AcceptedFromLines : Type 0 where
+  pub kept : (d : Desk) → d .draft ≡ none → (b : ℕ) (s : Shape) (ps : List TypedPair) → T (all wellFormed (typedRecords b s ps))
+      → Acceptable d b s (typedTable ps)
+      → deskAfter d (run d (map recordText (typedRecords b s ps)))
+      ≡ changed d (slotNumber b) (some (record { shape = s; rows = keep s (typedTable ps) }))
+  pub not-kept : (d : Desk) → d .draft ≡ none → (b : ℕ) (s : Shape) (ps : List TypedPair) → T (all wellFormed (typedRecords b s ps))
+      → (Acceptable d b s (typedTable ps) → ⊥)
+      → deskAfter d (run d (map recordText (typedRecords b s ps))) ≡ d
 
 -- What L replies, read back on a desk with no open plan and room for a change, keeps the plan in the slot that the listing names.
 abbrev pub ListingReadBack : Type 0
-ListingReadBack = (order : Order) (d : Desk) → d .draft ≡ none → d .changes < maxChanges → (b : ℕ) → T (isSlot b) → (p : Plan) → Kept p → feed order (idle d) (replyBytes order (lists b p)) ≡ (idle (changed d (slotNumber b) (some p)), replyBytes order (okNumber (length (p .rows))))
+ListingReadBack =
+    (order : Order) (d : Desk) → d .draft ≡ none → countOf d < maxChanges → (b : ℕ) → T (isSlot b) → (p : Plan) → Kept p
+    → feed order (idle d) (replyBytes order (lists b p))
+    ≡ (idle (changed d (slotNumber b) (some p)), replyBytes order (okNumber (length (p .rows))))
 
 -- Library calls: 15 first, then the refusals of the work itself, 14 last; what is lent and the desk after each of them.
 pub record CallsExact : Type 0 where
   -- no desk: 15, and everything is left as it came
-  pub no-desk : (order : Order) (d : Desk) (work : Work) (buffer : Bytes) → (IsDesk d → ⊥) → lentCall order d work buffer ≡ (d, record { buffer = buffer; answer = refuse 15 none })
+  pub no-desk : (order : Order) (d : Desk) (work : Work) (buffer : Bytes) → (IsDesk d → ⊥)
+      → lentCall order d work buffer ≡ (d, record { buffer = buffer; answer = refuse invalidValue none })
   -- a desk: a refusal of the work comes before 14
-  pub refused : (order : Order) (d : Desk) (work : Work) (buffer : Bytes) (n : ℕ) (c : Option Letter) → IsDesk d → work d ≡ refuse n c → lentCall order d work buffer ≡ (dropped d, record { buffer = buffer; answer = refuse n c })
+  pub refused : (order : Order) (d : Desk) (work : Work) (buffer : Bytes) (n : ℕ) (c : Option Letter) → IsDesk d → work d ≡ refuse n c
+      → lentCall order d work buffer ≡ (dropped d, record { buffer = buffer; answer = refuse n c })
   -- 14: "the lent buffer is shorter than the output"
-  pub no-room : (order : Order) (d : Desk) (work : Work) (buffer : Bytes) (e : Effect) → IsDesk d → work d ≡ pass e → length buffer < length (replyBytes order (e .1)) → lentCall order d work buffer ≡ (dropped d, record { buffer = buffer; answer = refuse 14 none })
+  pub no-room : (order : Order) (d : Desk) (work : Work) (buffer : Bytes) (e : Effect) → IsDesk d → work d ≡ pass e
+      → length buffer < length (replyBytes order (e .1))
+      → lentCall order d work buffer ≡ (dropped d, record { buffer = buffer; answer = refuse bufferTooShort none })
   -- otherwise the work is done, and "only the bytes of the output change"
-  pub written : (order : Order) (d : Desk) (work : Work) (buffer : Bytes) (e : Effect) → IsDesk d → work d ≡ pass e → length (replyBytes order (e .1)) ≤ length buffer
-      → lentCall order d work buffer ≡ (e .0, record { buffer = overwritten buffer (replyBytes order (e .1)); answer = pass (length (replyBytes order (e .1))) })
+  pub done : (order : Order) (d : Desk) (work : Work) (buffer : Bytes) (e : Effect) → IsDesk d → work d ≡ pass e
+      → length (replyBytes order (e .1)) ≤ length buffer
+      → let output = replyBytes order (e .1) in lentCall order d work buffer ≡ (e .0, record { buffer = written buffer 0 output; answer = pass (length output) })
   -- "a lent buffer then holds what it held before", at any refusal; and a buffer keeps its length at any answer
-  pub buffer-held : (order : Order) (d : Desk) (work : Work) (buffer : Bytes) (n : ℕ) (c : Option Letter) → lentCall order d work buffer .1 .answer ≡ refuse n c → lentCall order d work buffer .1 .buffer ≡ buffer
+  pub buffer-held : (order : Order) (d : Desk) (work : Work) (buffer : Bytes) (n : ℕ) (c : Option Letter)
+      → lentCall order d work buffer .1 .answer ≡ refuse n c → lentCall order d work buffer .1 .buffer ≡ buffer
   pub buffer-length : (order : Order) (d : Desk) (work : Work) (buffer : Bytes) → length (lentCall order d work buffer .1 .buffer) ≡ length buffer
   -- a call that is lent nothing
-  pub plain-no-desk : (d : Desk) (work : Work) → (IsDesk d → ⊥) → plainCall d work ≡ (d, refuse 15 none)
-  pub plain-refused : (d : Desk) (work : Work) (n : ℕ) (c : Option Letter) → IsDesk d → work d ≡ refuse n c → plainCall d work ≡ (dropped d, refuse n c)
+  pub plain-no-desk : (d : Desk) (work : Work) → (IsDesk d → ⊥) → plainCall d work ≡ (d, refuse invalidValue none)
+  pub plain-refused : (d : Desk) (work : Work) (n : ℕ) (c : Option Letter) → IsDesk d → work d ≡ refuse n c
+      → plainCall d work ≡ (dropped d, refuse n c)
   pub plain-done : (d : Desk) (work : Work) (e : Effect) → IsDesk d → work d ≡ pass e → plainCall d work ≡ (e .0, pass (e .1))

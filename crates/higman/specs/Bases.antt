@@ -39,6 +39,11 @@ abbrev pub all : {A : Type 0} → (A → Bool) → List A → Bool
 all f [] = true
 all f (x ∷ l) = elim (f x) [ true ↦ all f l | false ↦ false ]
 
+-- a test at some element
+abbrev pub anyOf : {A : Type 0} → (A → Bool) → List A → Bool
+anyOf f [] = false
+anyOf f (x ∷ l) = f x || anyOf f l
+
 -- "A block is covered if it is listed or if each of its n parts is covered", looked at d ways below the block.
 abbrev pub covered : ℕ → List Word → ℕ → Word → Bool
 covered n c zero w = listed w c

@@ -1,13 +1,13 @@
 -- Text as bytes: the letters and lines of document 01 written as they are read, and words as the digits that spell them. Every
 -- text here is plain ASCII, where a character's code is its byte. Read Bases.antt next.
-use Prim.Native.Nat.{ℕ, _+_, _-_}
+use Prim.Native.Nat.{ℕ, suc, _+_, _-_}
 use Prim.Native.Char.{Char, code}
 use Prim.Native.String.{String, [] as empty, _∷_ as _before_}
 use mathlib.Core.Path.{_≡_, refl}
 use mathlib.Core.Bool.{true, false, _&&_}
 use mathlib.Core.List.{List, [], _∷_, _++_, map}
 use lib.Dec.{leb}
-use Rattle.higman.specs.Words.{Word, spell}
+use Rattle.higman.specs.Words.{Word, spelled, spell}
 
 abbrev pub Bytes : Type 0
 Bytes = List ℕ
@@ -38,6 +38,10 @@ digitByte d = 48 + d
 abbrev pub wordBytes : Word → Bytes
 wordBytes w = map digitByte w
 
+-- a number in decimal, 0 as one digit
+abbrev pub decimal : ℕ → Bytes
+decimal k = wordBytes (spelled (suc k) k)
+
 -- "A code is a string of digits", 1 to 9: 0, which is no digit, for any byte but '1' to '9'.
 unfoldable pub digitOf : ℕ → ℕ
 digitOf b = elim (leb 49 b && leb b 57) [ true ↦ b - 48 | false ↦ 0 ]
@@ -54,6 +58,9 @@ lines-example = refl
 
 wordBytes-example : wordBytes (spell 1122) ≡ bytes "1122"
 wordBytes-example = refl
+
+decimal-example : map decimal (0 ∷ 10 ∷ 4_000_000_000 ∷ []) ≡ bytes "0" ∷ bytes "10" ∷ bytes "4000000000" ∷ []
+decimal-example = refl
 
 -- bytes that are no digits from 1 to 9 give 0, a digit of no word
 wordOf-example : wordOf (bytes "1290/:A\t") ≡ 1 ∷ 2 ∷ 9 ∷ 0 ∷ 0 ∷ 0 ∷ 0 ∷ 0 ∷ []

@@ -51,6 +51,10 @@ given (some a) = true
 abbrev pub begins : Word → Word → Bool
 begins p w = given (after p w)
 
+-- one word begins another and is not the whole of it
+abbrev pub beginsProperly : Word → Word → Bool
+beginsProperly p w = elim (after p w) [ none ↦ false | some x ↦ elim x [ [] ↦ false | i ∷ y ↦ true ] ]
+
 -- the i-th part of a block, `wα_i` in document 004
 abbrev pub child : Word → ℕ → Word
 child w i = w ++ (i ∷ [])
@@ -82,6 +86,9 @@ after-example = refl
 
 begins-example : map (begins (spell 12)) (spell 121 ∷ spell 12 ∷ spell 1 ∷ spell 112 ∷ []) ≡ true ∷ true ∷ false ∷ false ∷ []
 begins-example = refl
+
+beginsProperly-example : map (beginsProperly (spell 12)) (spell 121 ∷ spell 12 ∷ spell 1 ∷ spell 112 ∷ []) ≡ true ∷ false ∷ false ∷ false ∷ []
+beginsProperly-example = refl
 
 children-example : children 3 (spell 12) ≡ spell 121 ∷ spell 122 ∷ spell 123 ∷ []
 children-example = refl

@@ -1,0 +1,13 @@
+-- The three demands, gathered into one term.
+use Rattle.higman.proofs.Demand3.{demand3}
+use Rattle.desk.specs.Demands.{SessionExact, Demands}
+use Rattle.desk.proofs.Session.{fed-in-pieces, session-fed}
+use Rattle.desk.proofs.Grammar.{text-exact}
+use Rattle.desk.proofs.Demand1.{demand1}
+use Rattle.desk.proofs.Demand2.{demand2}
+
+session-exact : SessionExact
+session-exact = record { text = text-exact; fed = session-fed; pieces = fed-in-pieces }
+
+pub demands : Demands
+demands = record { demand1 = demand1; demand2 = demand2; demand3 = demand3; sessions = session-exact }

@@ -1,0 +1,234 @@
+-- What is read is what is written: the terms of specs/Grammar.antt. From a line to a record: what a rule of the grammar makes of
+-- fields is a record with just these fields. From a record to its line: by computation, with the laws of the number forms.
+use Prim.Native.Nat.{ℕ, suc, _≤_, _<_}
+use native.Mathlib.Omega.{arith}
+use mathlib.Core.Path.{_≡_, refl, sym, _∙_, ap, subst}
+use mathlib.Core.Logic.{_⊎_, inl, inr}
+use mathlib.Core.Bool.{Bool, true, false}
+use mathlib.Core.List.{List, [], _∷_, map}
+use mathlib.Core.Option.{Option, none, some, Option·none-ne-some, Option·some-injective}
+use lib.Dec.{T, leb, eqb, leb→le, le→leb}
+use lib.ListN.{length}
+use borrow.Author.Tests.{eqb-true, ne-eqb}
+use Rattle.higman.specs.Words.{spelled}
+use Rattle.higman.specs.Bases.{all}
+use Rattle.higman.specs.Limits.{slotCount}
+use Rattle.higman.specs.Text.{Bytes, byte, tab, decimal}
+use Rattle.higman.specs.Listing.{slotByte, isSlot}
+use Rattle.higman.proofs.Tests.{passes, and-left, and-right, and-intro, all-cons}
+use Rattle.desk.specs.Limits.{maxNumeral}
+use Rattle.desk.specs.Records.{Record, P, M, E, F, I, K, S, W, L, C, U}
+use Rattle.desk.specs.Records.{Form, slotField, anyField, numberField, field, noMore, Rule, grammar, readBy, readFields, parse}
+use Rattle.desk.specs.Records.{fields, parted, recordFields, recordText, noTab, hasDigits, numbersFit, wellFormed}
+use Rattle.desk.specs.Grammar.{GrammarExact, SlotsExact, DecimalsExact, HeldLinesRead, TextExact}
+use Rattle.desk.proofs.Fields.{no-tab-cons, word-no-tab, fields-of-parted, parted-of-fields, fields-no-tab}
+use Rattle.desk.proofs.Decimals.{decimal-numerals, decimal-read-back, decimal-no-leading-zero}
+use Rattle.desk.proofs.Decimals.{Written, ExactForm, number-exact, signed-exact}
+
+-- the two forms that are not numbers
+slot-exact : ExactForm slotField (λ b. b ∷ []) (λ b. true)
+slot-exact = record { reads = λ b h. refl; only = only }
+  where
+    only : (f : Bytes) (b : ℕ) → slotField f ≡ some b → Written (λ c. c ∷ []) (λ c. true) f b
+    only [] b e = absurd (Option·none-ne-some b e)
+    only (c ∷ []) b e = record { own-text = ap (λ x. x ∷ []) (Option·some-injective c b e); fit = tt }
+    only (c ∷ d ∷ f) b e = absurd (Option·none-ne-some b e)
+
+any-exact : ExactForm anyField (λ f. f) (λ f. true)
+any-exact = record { reads = λ f h. refl; only = λ f g e. record { own-text = Option·some-injective f g e; fit = tt } }
+
+-- what a record has to do with the fields that it was read from
+record Typed (fs : List Bytes) (r : Record) : Type 0 where
+  own-fields : recordFields r ≡ fs
+  numbers-fit : T (numbersFit r)
+
+-- A reader reads only what is typed: `front` puts back the fields that were read before it.
+abbrev Reader : Type 0
+Reader = List Bytes → Option Record
+
+record Only (front : List Bytes → List Bytes) (reader : Reader) : Type 0 where
+  typed : (fs : List Bytes) (r : Record) → reader fs ≡ some r → Typed (front fs) r
+
+only-noMore : {front : List Bytes → List Bytes} (r : Record) → recordFields r ≡ front [] → T (numbersFit r) → Only front (noMore r)
+only-noMore {front} r own fit = record { typed = none-left }
+  where
+    none-left : (fs : List Bytes) (q : Record) → noMore r fs ≡ some q → Typed (front fs) q
+    none-left [] q e = subst (Typed (front [])) (Option·some-injective r q e) (record { own-fields = own; numbers-fit = fit })
+    none-left (f ∷ fs) q e = absurd (Option·none-ne-some q e)
+
+module _ {A : Type 0} {form : Form A} {written : A → Bytes} {fits : A → Bool} (exact : ExactForm form written fits) where
+  only-field : {front : List Bytes → List Bytes} {next : A → Reader}
+      → ((a : A) → T (fits a) → Only (λ fs. front (written a ∷ fs)) (next a)) → Only front (field form next)
+  only-field {front} {next} rest = record { typed = one-more }
+    where
+      by-value : (f : Bytes) (fs : List Bytes) (r : Record) (o : Option A)
+          → form f ≡ o → elim o [ none ↦ none | some a ↦ next a fs ] ≡ some r → Typed (front (f ∷ fs)) r
+      by-value f fs r none p e = absurd (Option·none-ne-some r e)
+      by-value f fs r (some a) p e =
+          let value = exact .only f a p in
+          subst (λ g. Typed (front (g ∷ fs)) r) (sym (value .own-text)) (rest a (value .fit) .typed fs r e)
+
+      one-more : (fs : List Bytes) (r : Record) → field form next fs ≡ some r → Typed (front fs) r
+      one-more [] r e = absurd (Option·none-ne-some r e)
+      one-more (f ∷ fs) r e = by-value f fs r (form f) refl e
+
+only-slot : {front : List Bytes → List Bytes} {next : ℕ → Reader}
+    → ((b : ℕ) → Only (λ fs. front ((b ∷ []) ∷ fs)) (next b)) → Only front (field slotField next)
+only-slot rest = only-field slot-exact (λ b h. rest b)
+
+only-any : {front : List Bytes → List Bytes} {next : Bytes → Reader}
+    → ((f : Bytes) → Only (λ fs. front (f ∷ fs)) (next f)) → Only front (field anyField next)
+only-any rest = only-field any-exact (λ f h. rest f)
+
+only-digit : {front : List Bytes → List Bytes} {next : ℕ → Reader}
+    → ((n : ℕ) → T (hasDigits 1 n) → Only (λ fs. front (decimal n ∷ fs)) (next n)) → Only front (field (numberField 1) next)
+only-digit rest = only-field (number-exact 1) rest
+
+-- each rule of a list, behind its letter
+infixr 20 _and_
+data OnlyRules : List Rule → Type 0 where
+  no-rule : OnlyRules []
+  _and_ : {rule : Rule} {rules : List Rule}
+      → Only (λ fs. (rule .letter ∷ []) ∷ fs) (rule .reads) → OnlyRules rules → OnlyRules (rule ∷ rules)
+
+-- P, M, E, F, I, K, S, W, L, C, T and U
+grammar-only : OnlyRules grammar
+unfolding grammar
+grammar-only =
+    (only-slot λ a. only-digit λ n h. only-digit λ r k. only-noMore _ refl (and-intro (hasDigits 1 n) (hasDigits 1 r) h k)) and
+    (only-any λ from. only-any λ to. only-noMore _ refl tt) and
+    only-noMore _ refl tt and
+    (only-slot λ a. only-slot λ b. only-slot λ c. only-noMore _ refl tt) and
+    (only-slot λ a. only-slot λ c. only-noMore _ refl tt) and
+    (only-slot λ a. only-field (signed-exact maxNumeral) λ k h. only-slot λ c. only-noMore _ refl h) and
+    (only-slot λ a. only-slot λ b. only-noMore _ refl tt) and
+    (only-slot λ a. only-any λ code. only-noMore _ refl tt) and
+    (only-slot λ a. only-noMore _ refl tt) and
+    (only-slot λ a. only-noMore _ refl tt) and
+    only-noMore _ refl tt and
+    only-noMore _ refl tt and
+    no-rule
+
+readBy-only : {rules : List Rule} → OnlyRules rules → (b : ℕ) → Only (λ fs. (b ∷ []) ∷ fs) (readBy rules b)
+readBy-only no-rule b = record { typed = λ fs r e. absurd (Option·none-ne-some r e) }
+readBy-only (_and_ {rule} {rules} first others) b =
+    record { typed = λ fs r e. by-letter fs r (passes (eqb b (rule .letter))) (readBy-only others b) e }
+  where
+    by-letter : (fs : List Bytes) (r : Record) → (eqb b (rule .letter) ≡ true) ⊎ (eqb b (rule .letter) ≡ false)
+        → Only (λ fs. (b ∷ []) ∷ fs) (readBy rules b) → readBy (rule ∷ rules) b fs ≡ some r → Typed ((b ∷ []) ∷ fs) r
+    by-letter fs r (inl t) rest e =
+        subst (λ c. Typed ((c ∷ []) ∷ fs) r) (sym (eqb-true b (rule .letter) t)) (first .typed fs r (rw (t, readBy) at e))
+    by-letter fs r (inr t) rest e = rest .typed fs r (rw (t, readBy) at e)
+
+readFields-only : Only (λ fs. fs) readFields
+readFields-only = record { typed = by-letter }
+  where
+    by-letter : (fs : List Bytes) (r : Record) → readFields fs ≡ some r → Typed fs r
+    by-letter [] r e = absurd (Option·none-ne-some r e)
+    by-letter ([] ∷ fs) r e = absurd (Option·none-ne-some r e)
+    by-letter ((b ∷ []) ∷ fs) r e = readBy-only grammar-only b .typed fs r e
+    by-letter ((b ∷ c ∷ f) ∷ fs) r e = absurd (Option·none-ne-some r e)
+
+-- From a record to its fields, and back.
+readFields-recordFields : (r : Record) → T (numbersFit r) → readFields (recordFields r) ≡ some r
+unfolding grammar
+readFields-recordFields (P a n r) h =
+    let number = number-exact 1 in
+    rw (
+      number .reads n (and-left (hasDigits 1 n) (hasDigits 1 r) h),
+      field,
+      number .reads r (and-right (hasDigits 1 n) (hasDigits 1 r) h),
+      field,
+    )
+readFields-recordFields (M from to) h = refl
+readFields-recordFields E h = refl
+readFields-recordFields (F a b c) h = refl
+readFields-recordFields (I a c) h = refl
+readFields-recordFields (K a k c) h = rw (signed-exact maxNumeral .reads k h, field)
+readFields-recordFields (S a b) h = refl
+readFields-recordFields (W a code) h = refl
+readFields-recordFields (L a) h = refl
+readFields-recordFields (C a) h = refl
+readFields-recordFields Record.T h = refl
+readFields-recordFields U h = refl
+
+-- fields without a tab that are read as a record are a line that is parsed as it
+parse-parted : (fs : List Bytes) (r : Record) → T (all noTab fs) → readFields fs ≡ some r → parse (parted fs) ≡ some r
+unfolding parse
+parse-parted [] r h e = absurd (Option·none-ne-some r e)
+parse-parted (f ∷ fs) r h e = ap readFields (fields-of-parted f fs h) ∙ e
+
+pub parse-text : (r : Record) → T (wellFormed r) → parse (recordText r) ≡ some r
+unfolding recordText wellFormed
+parse-text r h =
+    let plain = all noTab (recordFields r) in
+    parse-parted (recordFields r) r (and-left plain (numbersFit r) h) (readFields-recordFields r (and-right plain (numbersFit r) h))
+
+text-of-parse : (line : Bytes) (r : Record) → parse line ≡ some r → T (wellFormed r) × (line ≡ recordText r)
+unfolding parse recordText wellFormed
+text-of-parse line r e =
+    let typed = readFields-only .typed (fields line) r e in
+    let plain = subst (λ fs. T (all noTab fs)) (sym (typed .own-fields)) (fields-no-tab line) in
+    let own = sym (parted-of-fields line) ∙ ap parted (sym (typed .own-fields)) in
+    (and-intro (all noTab (recordFields r)) (numbersFit r) plain (typed .numbers-fit), own)
+
+grammar-exact : GrammarExact
+grammar-exact line r = (text-of-parse line r, λ h. ap parse (h .1) ∙ parse-text r (h .0))
+
+module _ (b : ℕ) (h : T (isSlot b)) where
+  slot-low : byte "A" ≤ b
+  slot-low = leb→le (byte "A") b (and-left (leb (byte "A") b) (leb (suc b) (slotByte slotCount)) h)
+
+  slot-high : b < slotByte slotCount
+  slot-high = leb→le (suc b) (slotByte slotCount) (and-right (leb (byte "A") b) (leb (suc b) (slotByte slotCount)) h)
+
+slot-of-number : (i : ℕ) → i < slotCount → T (isSlot (slotByte i))
+slot-of-number i h =
+    let b = slotByte i in
+    let low = le→leb (byte "A") b (omega arith) in
+    let high = le→leb (suc b) (slotByte slotCount) (omega arith) in
+    and-intro (leb (byte "A") b) (leb (suc b) (slotByte slotCount)) low high
+
+slots-exact : SlotsExact
+slots-exact =
+    record {
+      named = slot-of-number;
+      number-of-byte = λ i. omega arith;
+      numbered = λ b h. omega (arith, slot-low b h, slot-high b h);
+      byte-of-number = λ b h. omega (arith, slot-low b h);
+    }
+
+decimals-exact : DecimalsExact
+decimals-exact = record { numerals = decimal-numerals; no-leading-zero = decimal-no-leading-zero; read-back = decimal-read-back }
+
+slot-no-tab : (i : ℕ) → T (noTab (slotByte i ∷ []))
+slot-no-tab i = no-tab-cons (slotByte i) [] (ne-eqb (slotByte i) tab (λ e. omega arith)) tt
+
+decimals-no-tab : (ks : List ℕ) → T (all noTab (map decimal ks))
+decimals-no-tab [] = tt
+decimals-no-tab (k ∷ ks) = all-cons noTab (decimal k) (map decimal ks) (word-no-tab (spelled (suc k) k)) (decimals-no-tab ks)
+
+slot-line-fields : (i : ℕ) (ks : List ℕ) → fields (parted ((slotByte i ∷ []) ∷ map decimal ks)) ≡ (slotByte i ∷ []) ∷ map decimal ks
+slot-line-fields i ks =
+    let slot = slotByte i ∷ [] in
+    fields-of-parted slot (map decimal ks) (all-cons noTab slot (map decimal ks) (slot-no-tab i) (decimals-no-tab ks))
+
+held-lines-read : HeldLinesRead
+held-lines-read h =
+    let n = h .plan .shape .arity in
+    let r = h .plan .shape .roots in
+    let m = length (h .plan .rows) in
+    record {
+      letter = slotByte (h .slot);
+      arity = decimal n;
+      roots = decimal r;
+      pairs = decimal m;
+      line-fields = slot-line-fields (h .slot) (n ∷ r ∷ m ∷ []);
+      letter-read = omega arith;
+      arity-read = decimal-read-back n;
+      roots-read = decimal-read-back r;
+      pairs-read = decimal-read-back m;
+    }
+
+pub text-exact : TextExact
+text-exact = record { grammar = grammar-exact; slots = slots-exact; decimals = decimals-exact; held-lines = held-lines-read }
