@@ -215,9 +215,9 @@ same-listing a b A B e =
     let i = alike-rows a b A B e in
     (λ p. i .0 (r .0 p), λ h. r .1 (i .1 h))
 
-power-zero : (a : Plan) → Kept a → powered a (pos 0) ≡ Granted (identityPlan (a .shape))
+power-zero : (a : Plan) → powered a (pos 0) ≡ Granted (identityPlan (a .shape))
 unfolding identityPlan
-power-zero a A = powered-zero a
+power-zero a = powered-zero a
 
 power-one : (a : Plan) → Kept a → powered a (pos 1) ≡ Granted a
 power-one a A = powered-one a (a .rows) (compose-identity-left (a .shape) (arity-of-range (a .shape) (A .in-range)) (a .rows) (member-of-kept a A)) (A .within)

@@ -8,15 +8,30 @@ use native.Mathlib.Nat.{le-of-eq}
 use Rattle.higman.specs.Words.{Shape, Word}
 use Rattle.higman.specs.Bases.{longest}
 use Rattle.higman.specs.Tables.{Table, BlockMap, froms, swapped, image}
-use Rattle.higman.specs.Normal.{normalForm, normal, keep, andThen, times, compose, inverse, identity, repeated}
+use Rattle.higman.specs.Normal.{normalForm, keep, andThen, times, compose, inverse, identity, repeated}
 use Rattle.higman.proofs.Tests.{IsWord}
 use Rattle.higman.proofs.Actions.{Action, Same, normal-form-unique, image-normal-form, and-then-some, and-then-cases, and-then-action}
+use Rattle.higman.proofs.Results.{identity-is}
 use Rattle.higman.proofs.Elements.{Element, Mutual, element-action, element-swapped, element-mutual, and-then-mutual, normal-form-element}
 
 -- an element of G(n,r): a table with bases for columns that is its own normal form
 pub record Member (s : Shape) (t : Table) : Type 0 where
   pub element : Element s t
   pub own : keep s t ≡ t
+
+-- the map that moves nothing
+nothing : (s : Shape) → Action s (λ w. some w)
+nothing s =
+    record {
+      steady = λ w v x e. ap some (ap (λ u. u ++ x) (Option·some-injective _ _ e));
+      words = λ w v y e. subst (IsWord s) (Option·some-injective _ _ e) y;
+      depth = 0;
+      total = λ w y l. (w, refl);
+    }
+
+pub identity-acts : (s : Shape) (w : Word) → IsWord s w → image (identity s) w ≡ some w
+unfolding nothing
+identity-acts s w y = ap (λ t. image t w) (identity-is s) ∙ image-normal-form s (λ u. some u) (nothing s) 0 zero-le w w y refl
 
 module _ (s : Shape) (n : 1 ≤ s .arity) where
   abbrev action : (t : Table) → Element s t → Action s (image t)
@@ -92,29 +107,12 @@ module _ (s : Shape) (n : 1 ≤ s .arity) where
   inverse-acts a A w v y e =
       keep-acts (swapped a) (element-swapped s a A) v w (action a A .words w v y e) (element-mutual s a A .undo w v y e)
 
-  -- the map that moves nothing
-  nothing : Action s (λ w. some w)
-  nothing =
-      record {
-        steady = λ w v x e. ap some (ap (λ u. u ++ x) (Option·some-injective _ _ e));
-        words = λ w v y e. subst (IsWord s) (Option·some-injective _ _ e) y;
-        depth = 0;
-        total = λ w y l. (w, refl);
-      }
-
-  identity-is : identity s ≡ normalForm s 0 (λ w. some w)
-  unfolding identity normalForm normal
-  identity-is = refl
-
   pub identity-member : Member s (identity s)
   unfolding nothing
   identity-member =
-      subst (Member s) (sym identity-is)
-      (member-of-action (λ w. some w) (λ w. some w) nothing nothing 0 zero-le (record { undo = λ w v y e. sym e; redo = λ w v y e. sym e }))
-
-  pub identity-acts : (w : Word) → IsWord s w → image (identity s) w ≡ some w
-  unfolding nothing
-  identity-acts w y = ap (λ t. image t w) identity-is ∙ image-normal-form s (λ u. some u) nothing 0 zero-le w w y refl
+      subst (Member s) (sym (identity-is s))
+      (member-of-action (λ w. some w) (λ w. some w) (nothing s) (nothing s) 0 zero-le
+      (record { undo = λ w v y e. sym e; redo = λ w v y e. sym e }))
 
   -- repetitions: elements, which act so many times in a row
   pub repeated-element : (a : Table) → Element s a → (k : ℕ) → Element s (repeated s a k)
@@ -124,7 +122,7 @@ module _ (s : Shape) (n : 1 ≤ s .arity) where
 
   pub repeated-acts : (a : Table) → Element s a → (k : ℕ) (w v : Word) → IsWord s w → times k (image a) w ≡ some v → image (repeated s a k) w ≡ some v
   unfolding repeated
-  repeated-acts a A zero w v y e = identity-acts w y ∙ e
+  repeated-acts a A zero w v y e = identity-acts s w y ∙ e
   repeated-acts a A (suc k) w v y e =
       let (u, p, q) = and-then-cases (times k (image a)) (image a) w v e in
       compose-acts (repeated s a k) a (repeated-element a A k) A w v y (and-then-some (image (repeated s a k)) (image a) w u (repeated-acts a A k w u y p) ∙ q)
@@ -158,14 +156,17 @@ module _ (s : Shape) (n : 1 ≤ s .arity) where
   compose-identity-left a A =
       let I = identity-member in
       by-common (compose s (identity s) a) a (compose-member (identity s) a (I .element) (A .element)) A (image a) (action a (A .element))
-      (λ w v y e. (compose-acts (identity s) a (I .element) (A .element) w v y (and-then-some (image (identity s)) (image a) w w (identity-acts w y) ∙ e), e))
+      (λ w v y e.
+      let composed = and-then-some (image (identity s)) (image a) w w (identity-acts s w y) ∙ e in
+      (compose-acts (identity s) a (I .element) (A .element) w v y composed, e))
 
   pub compose-identity-right : (a : Table) → Member s a → compose s a (identity s) ≡ a
   compose-identity-right a A =
       let I = identity-member in
       by-common (compose s a (identity s)) a (compose-member a (identity s) (A .element) (I .element)) A (image a) (action a (A .element))
       (λ w v y e.
-      (compose-acts a (identity s) (A .element) (I .element) w v y (and-then-some (image a) (image (identity s)) w v e ∙ identity-acts v (action a (A .element) .words w v y e)), e))
+      let composed = and-then-some (image a) (image (identity s)) w v e ∙ identity-acts s v (action a (A .element) .words w v y e) in
+      (compose-acts a (identity s) (A .element) (I .element) w v y composed, e))
 
   pub compose-inverse-right : (a : Table) → Member s a → compose s a (inverse s a) ≡ identity s
   compose-inverse-right a A =
@@ -174,7 +175,7 @@ module _ (s : Shape) (n : 1 ≤ s .arity) where
       (λ w y l.
       let (v, e) = action a (A .element) .total w y l in
       compose-acts a (inverse s a) (A .element) (A⁻ .element) w w y (and-then-some (image a) (image (inverse s a)) w v e ∙ inverse-acts a (A .element) w v y e)
-      ∙ sym (identity-acts w y))
+      ∙ sym (identity-acts s w y))
 
   pub compose-inverse-left : (a : Table) → Member s a → compose s (inverse s a) a ≡ identity s
   unfolding inverse
@@ -185,4 +186,4 @@ module _ (s : Shape) (n : 1 ≤ s .arity) where
       (λ w y l.
       let (v, e) = action (swapped a) S .total w y l in
       compose-acts (inverse s a) a (A⁻ .element) (A .element) w w y (and-then-some (image (inverse s a)) (image a) w v (keep-acts (swapped a) S w v y e) ∙ element-mutual s a (A .element) .redo w v y e)
-      ∙ sym (identity-acts w y))
+      ∙ sym (identity-acts s w y))

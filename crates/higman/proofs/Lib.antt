@@ -1,5 +1,5 @@
 -- The arguments, each file after those it leans on. The terms of the statements of specs/Theorems.antt and specs/Cases.antt are in
--- Columns (bases), Statements (normal form, group, answers), Demand3, Listing and Cases.
+-- Columns (bases), Results (what is reduced), Statements (normal form, group, answers), Demand3, Listing and Cases.
 pub mod Tests
 pub mod Text
 pub mod Prefixes
@@ -12,6 +12,7 @@ pub mod Expansions
 pub mod Columns
 pub mod Ordered
 pub mod Reduced
+pub mod Results
 pub mod Solid
 pub mod Elements
 pub mod Group

@@ -20,7 +20,9 @@ use Rattle.higman.proofs.Proper.{Proper}
 use Rattle.higman.proofs.Images.{row-of-image, image-of-row}
 use Rattle.higman.proofs.Expansions.{same-of-apart}
 use Rattle.higman.proofs.Columns.{Comparable, comparable-of-proper, column-is-basis}
-use Rattle.higman.proofs.Group.{keep-acts, keep-member, compose-acts, compose-member, inverse-acts, inverse-member, identity-acts, identity-member, repeated-acts}
+use Rattle.higman.proofs.Results.{identity-bases}
+use Rattle.higman.proofs.Group.{keep-acts, keep-member, compose-acts, compose-member, inverse-acts, inverse-member}
+use Rattle.higman.proofs.Group.{identity-acts, repeated-acts}
 use Rattle.higman.proofs.Smallest.{keep-granted}
 use Rattle.higman.proofs.KeptPlans.{element-of-bases, bases-of-element, keep-reduced, keep-ordered, own-of-reduced, arity-of-range, member-of-kept, kept-of-member}
 use Rattle.higman.proofs.Joins.{any-joins}
@@ -33,8 +35,8 @@ normal-form =
     record {
       acts = λ s n t b w v y e. keep-acts s n t (element-of-bases s t n b) w v (word-of-test s w y) e;
       bases = λ s n t b. bases-of-element s (keep s t) n (keep-member s n t (element-of-bases s t n b) .element);
-      reduced = λ s n t b. keep-reduced s t n;
-      in-order = λ s n t b. keep-ordered s t;
+      reduced = λ s n t. keep-reduced s t n;
+      in-order = keep-ordered;
       own = λ s n t b. (
         λ h. own-of-reduced s t n (element-of-bases s t n b) (h .0) (h .1),
         λ e. (subst (Reduced (s .arity)) e (keep-reduced s t n), subst (λ u. ordered (froms u) ≡ true) e (keep-ordered s t)),
@@ -51,8 +53,8 @@ group-acts =
       compose-bases = λ s n a b A B. bases-of-element s (compose s a b) n (compose-member s n a b (element-of-bases s a n A) (element-of-bases s b n B) .element);
       inverse-acts = λ s n a A w v y e. inverse-acts s n a (element-of-bases s a n A) w v (word-of-test s w y) e;
       inverse-bases = λ s n a A. bases-of-element s (inverse s a) n (inverse-member s n a (element-of-bases s a n A) .element);
-      identity-acts = λ s n w y. identity-acts s n w (word-of-test s w y);
-      identity-bases = λ s n. bases-of-element s (identity s) n (identity-member s n .element);
+      identity-acts = λ s w y. identity-acts s w (word-of-test s w y);
+      identity-bases = identity-bases;
       power-acts = λ s n a A k w v y e. repeated-acts s n a (element-of-bases s a n A) k w v (word-of-test s w y) e;
       power-acts-below = λ s n a A k w v y e. repeated-acts s n (inverse s a) (inverse-member s n a (element-of-bases s a n A) .element) (suc k) w v (word-of-test s w y) e;
     }

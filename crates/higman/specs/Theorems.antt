@@ -1,5 +1,6 @@
 -- The statements. proofs/ has one term of each: ColumnIsBasis and BasisSize (what "accepted exactly when both columns are bases"
--- rests on), NormalForm, GroupActs, AnswersExact, Demand3 and ListingFaithful. They hold for every arity and number of roots.
+-- rests on), NormalForm, GroupActs, ResultsReduced, AnswersExact, Demand3 and ListingFaithful. They hold for every arity and number of
+-- roots.
 use Prim.Native.Nat.{ℕ, suc, _+_, _*_, _-_, _≤_}
 use mathlib.Core.Path.{_≡_}
 use mathlib.Core.Logic.{_↔_}
@@ -31,8 +32,9 @@ pub record NormalForm : Type 0 where
   -- it acts as the table it came from
   pub acts : (s : Shape) → 1 ≤ s .arity → (t : Table) → Bases s t → (w v : Word) → T (isWord s w) → image t w ≡ some v → image (keep s t) w ≡ some v
   pub bases : (s : Shape) → 1 ≤ s .arity → (t : Table) → Bases s t → Bases s (keep s t)
-  pub reduced : (s : Shape) → 1 ≤ s .arity → (t : Table) → Bases s t → Reduced (s .arity) (keep s t)
-  pub in-order : (s : Shape) → 1 ≤ s .arity → (t : Table) → Bases s t → ordered (froms (keep s t)) ≡ true
+  -- no join is possible in it, and it is in order, whatever the columns of the table
+  pub reduced : (s : Shape) → 1 ≤ s .arity → (t : Table) → Reduced (s .arity) (keep s t)
+  pub in-order : (s : Shape) (t : Table) → ordered (froms (keep s t)) ≡ true
   -- a table with bases for columns is reduced and ordered exactly when it is its own normal form
   pub own : (s : Shape) → 1 ≤ s .arity → (t : Table) → Bases s t → (Reduced (s .arity) t × (ordered (froms t) ≡ true)) ↔ (keep s t ≡ t)
   -- it is reached from the table by joins, and the pairs listed in order
@@ -47,11 +49,26 @@ pub record GroupActs : Type 0 where
   pub compose-bases : (s : Shape) → 1 ≤ s .arity → (a b : Table) → Bases s a → Bases s b → Bases s (compose s a b)
   pub inverse-acts : (s : Shape) → 1 ≤ s .arity → (a : Table) → Bases s a → (w v : Word) → T (isWord s w) → image a w ≡ some v → image (inverse s a) v ≡ some w
   pub inverse-bases : (s : Shape) → 1 ≤ s .arity → (a : Table) → Bases s a → Bases s (inverse s a)
-  pub identity-acts : (s : Shape) → 1 ≤ s .arity → (w : Word) → T (isWord s w) → image (identity s) w ≡ some w
-  pub identity-bases : (s : Shape) → 1 ≤ s .arity → Bases s (identity s)
+  pub identity-acts : (s : Shape) (w : Word) → T (isWord s w) → image (identity s) w ≡ some w
+  pub identity-bases : (s : Shape) → Bases s (identity s)
   -- "for k above zero, k times in a row; .. below zero, the power −k of the inverse" (negsuc k is −(k + 1))
   pub power-acts : (s : Shape) → 1 ≤ s .arity → (a : Table) → Bases s a → (k : ℕ) (w v : Word) → T (isWord s w) → times k (image a) w ≡ some v → image (power s a (pos k)) w ≡ some v
   pub power-acts-below : (s : Shape) → 1 ≤ s .arity → (a : Table) → Bases s a → (k : ℕ) (w v : Word) → T (isWord s w) → times (suc k) (image (inverse s a)) w ≡ some v → image (power s a (negsuc k)) w ≡ some v
+
+-- "Only the reduced result is held to 128 pairs and 15 ways": what is held to them has no join left and is in order, whatever tables
+-- it is made of. Nothing is asked of these: neither bases for columns, nor that they keep the limits themselves.
+pub record ResultsReduced : Type 0 where
+  pub compose-reduced : (s : Shape) → 1 ≤ s .arity → (a b : Table) → Reduced (s .arity) (compose s a b)
+  pub compose-in-order : (s : Shape) (a b : Table) → ordered (froms (compose s a b)) ≡ true
+  pub inverse-reduced : (s : Shape) → 1 ≤ s .arity → (a : Table) → Reduced (s .arity) (inverse s a)
+  pub inverse-in-order : (s : Shape) (a : Table) → ordered (froms (inverse s a)) ≡ true
+  pub identity-reduced : (s : Shape) → 1 ≤ s .arity → Reduced (s .arity) (identity s)
+  pub identity-in-order : (s : Shape) → ordered (froms (identity s)) ≡ true
+  -- 11 of a power looks at the repetitions on the way, of the plan or of its inverse
+  pub repeated-reduced : (s : Shape) → 1 ≤ s .arity → (a : Table) (k : ℕ) → Reduced (s .arity) (repeated s a k)
+  pub repeated-in-order : (s : Shape) (a : Table) (k : ℕ) → ordered (froms (repeated s a k)) ≡ true
+  pub power-reduced : (s : Shape) → 1 ≤ s .arity → (a : Table) (k : ℤ) → Reduced (s .arity) (power s a k)
+  pub power-in-order : (s : Shape) (a : Table) (k : ℤ) → ordered (froms (power s a k)) ≡ true
 
 -- "Two plans send it to the same place if its two images agree in length and in every digit": every code that is long enough for both,
 -- whatever its length.
@@ -85,7 +102,7 @@ pub record Demand3 : Type 0 where
   -- (a then b) then c is a then (b then c)
   pub associative : (a b c ab bc : Plan) → Kept a → Kept b → Kept c → followed a b ≡ Granted ab → followed b c ≡ Granted bc → followed ab c ≡ followed a bc
   -- power 0 is the identity, on both sides
-  pub power-zero : (a : Plan) → Kept a → powered a (pos 0) ≡ Granted (identityPlan (a .shape))
+  pub power-zero : (a : Plan) → powered a (pos 0) ≡ Granted (identityPlan (a .shape))
   pub identity-left : (a : Plan) → Kept a → followed (identityPlan (a .shape)) a ≡ Granted a
   pub identity-right : (a : Plan) → Kept a → followed a (identityPlan (a .shape)) ≡ Granted a
   -- power 1 is the plan itself, and power −1 its inverse
