@@ -4,7 +4,8 @@ use Prim.Native.Nat.{ℕ, zero, suc, _<_}
 use mathlib.Core.Path.{_≡_, refl, sym, _∙_, ap}
 use mathlib.Core.Logic.{_⊎_, inl, inr}
 use mathlib.Core.Bool.{true}
-use mathlib.Core.List.{List, [], _∷_, _++_, append-assoc, List·Memᴰ, List·Memᴰ·head, List·Memᴰ·tail, List·Memᴰ·cases-cons, List·Memᴰ·not-nil, Memᴰ·map}
+use mathlib.Core.List.{List, [], _∷_, _++_, append-nil, append-assoc, Memᴰ·map}
+use mathlib.Core.List.{List·Memᴰ, List·Memᴰ·head, List·Memᴰ·tail, List·Memᴰ·cases-cons, List·Memᴰ·not-nil}
 use mathlib.Core.Option.{Option, none, some, Option·none-ne-some, Option·some-injective}
 use native.Mathlib.Omega.{arith}
 use borrow.Author.Tests.{eq-eqb, ne-eqb}
@@ -51,6 +52,11 @@ image-of-row (q ∷ t) a p m x = go (List·Memᴰ·cases-cons m) (λ k. image-of
     go : (p ≡ q) ⊎ List·Memᴰ p t → (List·Memᴰ p t → image t (p .from ++ x) ≡ some (p .to ++ x)) → image (q ∷ t) (p .from ++ x) ≡ some (p .to ++ x)
     go (inl e) rest = rw e (here (after-append (q .from) x))
     go (inr k) rest = skip (after-apart (q .from) (p .from) x (λ y. a .0 (p .from) (Memᴰ·map (λ r. r .from) k) y)) (rest k)
+
+-- a from-word itself goes to its to-word
+pub image-of-from : (t : Table) → Apart (froms t) → (p : Pair) → List·Memᴰ p t → image t (p .from) ≡ some (p .to)
+image-of-from t a p m =
+    sym (ap (image t) (append-nil (p .from))) ∙ image-of-row t a p m [] ∙ ap some (append-nil (p .to))
 
 -- what a block goes to, its parts follow
 pub image-steady : (t : Table) → Apart (froms t) → (w v x : Word) → image t w ≡ some v → image t (w ++ x) ≡ some (v ++ x)

@@ -1,4 +1,5 @@
--- Kept plans are the elements of the group that keep the limits: reduced and ordered is the same as being one's own normal form.
+-- Reduced plans are the elements of the group, and kept plans those that keep the limits: reduced and ordered is the same as being
+-- one's own normal form.
 use Prim.Native.Nat.{_≤_}
 use mathlib.Core.Path.{_≡_, subst}
 use mathlib.Core.Bool.{true, _&&_}
@@ -9,6 +10,7 @@ use Rattle.higman.specs.Bases.{longest}
 use Rattle.higman.specs.Tables.{Table, froms, tos, image}
 use Rattle.higman.specs.Normal.{keep, Reduced, ordered}
 use Rattle.higman.specs.Limits.{Plan, Bases, Kept, shapeInRange, granted}
+use Rattle.higman.specs.Theorems.{ReducedPlan}
 use Rattle.higman.proofs.Tests.{and-left, and-right}
 use Rattle.higman.proofs.Columns.{deep-longest, proper-of-basis, basis-of-proper}
 use Rattle.higman.proofs.Ordered.{normal-form-ordered}
@@ -61,19 +63,28 @@ in-range s t =
 pub arity-of-range : (s : Shape) → T (shapeInRange s) → 1 ≤ s .arity
 arity-of-range s t = let h = in-range s t .arity-low in omega arith
 
+-- the reduced plans are the elements of the group
+pub member-of-plan : (s : Shape) (t : Table) → 1 ≤ s .arity → ReducedPlan s t → Member s t
+member-of-plan s t n P =
+    let E = element-of-bases s t n (P .bases) in
+    record { element = E; own = own-of-reduced s t n E (P .reduced) (P .in-order) }
+
+pub plan-of-member : (s : Shape) (t : Table) → 1 ≤ s .arity → Member s t → ReducedPlan s t
+plan-of-member s t n M =
+    record {
+      bases = bases-of-element s t n (M .element);
+      reduced = subst (Reduced (s .arity)) (M .own) (keep-reduced s t n);
+      in-order = subst (λ u. ordered (froms u) ≡ true) (M .own) (keep-ordered s t);
+    }
+
+-- and the kept plans are those in the limits
+pub plan-of-kept : (a : Plan) → Kept a → ReducedPlan (a .shape) (a .rows)
+plan-of-kept a K = record { bases = K .bases; reduced = K .reduced; in-order = K .in-order }
+
 pub member-of-kept : (a : Plan) → Kept a → Member (a .shape) (a .rows)
-member-of-kept a K =
-    let n = arity-of-range (a .shape) (K .in-range) in
-    let E = element-of-bases (a .shape) (a .rows) n (K .bases) in
-    record { element = E; own = own-of-reduced (a .shape) (a .rows) n E (K .reduced) (K .in-order) }
+member-of-kept a K = member-of-plan (a .shape) (a .rows) (arity-of-range (a .shape) (K .in-range)) (plan-of-kept a K)
 
 pub kept-of-member : (a : Plan) → T (shapeInRange (a .shape)) → T (granted (a .rows)) → Member (a .shape) (a .rows) → Kept a
 kept-of-member a r g M =
-    let n = arity-of-range (a .shape) r in
-    record {
-      in-range = r;
-      within = g;
-      bases = bases-of-element (a .shape) (a .rows) n (M .element);
-      reduced = subst (Reduced (a .shape .arity)) (M .own) (keep-reduced (a .shape) (a .rows) n);
-      in-order = subst (λ t. ordered (froms t) ≡ true) (M .own) (keep-ordered (a .shape) (a .rows));
-    }
+    let P = plan-of-member (a .shape) (a .rows) (arity-of-range (a .shape) r) M in
+    record { in-range = r; within = g; bases = P .bases; reduced = P .reduced; in-order = P .in-order }

@@ -1,5 +1,5 @@
 -- The arguments, each file after those it leans on. The terms of the statements of specs/Theorems.antt and specs/Cases.antt are in
--- Columns (bases), Results (what is reduced), Statements (normal form, group, answers), Demand3, Listing and Cases.
+-- Columns (bases), Results (what is reduced), MinimalExpansion, Statements (normal form, group, answers), Demand3, Listing and Cases.
 pub mod Tests
 pub mod Text
 pub mod Prefixes
@@ -19,6 +19,7 @@ pub mod Group
 pub mod Smallest
 pub mod KeptPlans
 pub mod PlanWords
+pub mod MinimalExpansion
 pub mod Answers
 pub mod Powers
 pub mod Listing

@@ -3,7 +3,8 @@
 use Prim.Native.Nat.{ℕ, suc, _≤_, _<_, zero-le, suc-le-suc}
 use mathlib.Core.Path.{_≡_, refl, sym, _∙_, ap, subst}
 use mathlib.Core.Logic.{_⊎_, inl, inr}
-use mathlib.Core.List.{List, [], _∷_, _++_, append-nil, append-assoc, append-cancel-right, List·Memᴰ, List·Memᴰ·head, List·Memᴰ·tail, List·Memᴰ·cases-cons, Memᴰ·map, Memᴰ·of-map, List·Permᴰ}
+use mathlib.Core.List.{List, [], _∷_, _++_, append-assoc, append-cancel-right, Memᴰ·map, Memᴰ·of-map, List·Permᴰ}
+use mathlib.Core.List.{List·Memᴰ, List·Memᴰ·head, List·Memᴰ·tail, List·Memᴰ·cases-cons}
 use mathlib.Core.Option.{some, Option·some-injective}
 use native.Mathlib.Nat.{le-trans}
 use native.Mathlib.Omega.{arith}
@@ -17,7 +18,7 @@ use Rattle.higman.specs.Limits.{maxPairs, maxDigits, fits, pairFits, gra
 use Rattle.higman.proofs.Tests.{IsWord, and-left, and-right, and-intro, all-at, all-of}
 use Rattle.higman.proofs.Prefixes.{comparable, word-append, ones, ones-ways, ones-length}
 use Rattle.higman.proofs.Proper.{Apart}
-use Rattle.higman.proofs.Images.{row-of-image, image-of-row}
+use Rattle.higman.proofs.Images.{row-of-image, image-of-row, image-of-from}
 use Rattle.higman.proofs.Expansions.{mem-of-perm, length-of-perm, perm-of-mem, same-of-apart}
 use Rattle.higman.proofs.Actions.{Action}
 use Rattle.higman.proofs.Elements.{Element, element-action, word-length}
@@ -90,13 +91,11 @@ module _ (s : Shape) (n : 1 ≤ s .arity) where
       -- the pair q of the table goes on below a pair of the normal form, and that is p
       beneath : (q : Pair) (z : Word) → List·Memᴰ q t → p .from ++ ones k ≡ q .from ++ z → Extended t p
       beneath q z l f =
-          let e = keep-acts s n t E (q .from) (q .to) (E .from-proper .words (q .from) (Memᴰ·map (λ r. r .from) l)) (own-row q l) in
+          let y′ = E .from-proper .words (q .from) (Memᴰ·map (λ r. r .from) l) in
+          let e = keep-acts s n t E (q .from) (q .to) y′ (image-of-from t (E .from-proper .apart) q l) in
           let (r, y, h, f′, g′) = row-of-image (keep s t) (q .from) (q .to) e in
           let (a, b) = one-row (keep s t) (K .element .from-proper .apart) p r m h (ones k) (y ++ z) (f ∙ ap (λ w. w ++ z) f′ ∙ append-assoc (r .from) y z) in
           (q, y, l, f′ ∙ ap (λ w. w ++ y) (sym a), g′ ∙ ap (λ w. w ++ y) (sym b))
-        where
-          own-row : (q : Pair) → List·Memᴰ q t → image t (q .from) ≡ some (q .to)
-          own-row q l = sym (ap (image t) (append-nil (q .from))) ∙ image-of-row t (E .from-proper .apart) q l [] ∙ ap some (append-nil (q .to))
 
   pub keep-length : (t : Table) → Element s t → length (keep s t) ≤ length t
   keep-length t E =

@@ -1,6 +1,6 @@
 -- The statements. proofs/ has one term of each: ColumnIsBasis and BasisSize (what "accepted exactly when both columns are bases"
--- rests on), NormalForm, GroupActs, ResultsReduced, AnswersExact, Demand3 and ListingFaithful. They hold for every arity and number of
--- roots.
+-- rests on), NormalForm, GroupActs, ResultsReduced, MinimalExpansion, AnswersExact, Demand3 and ListingFaithful. They hold for every
+-- arity and number of roots.
 use Prim.Native.Nat.{ℕ, suc, _+_, _*_, _-_, _≤_}
 use mathlib.Core.Path.{_≡_}
 use mathlib.Core.Logic.{_↔_}
@@ -74,6 +74,20 @@ pub record ResultsReduced : Type 0 where
 -- whatever its length.
 abbrev pub ActAlike : Plan → Plan → Type 0
 ActAlike a b = (w : Word) → T (isWord (a .shape) w) → T (longEnough (a .rows) w) → T (longEnough (b .rows) w) → image (a .rows) w ≡ image (b .rows) w
+
+-- A plan in its reduced form, of any size: both columns bases, no join possible, from-words in order. `Kept` is this in the limits.
+pub record ReducedPlan (s : Shape) (t : Table) : Type 0 where
+  pub bases : Bases s t
+  pub reduced : Reduced (s .arity) t
+  pub in-order : ordered (froms t) ≡ true
+
+-- "Document 004, Lemma 4.3, gives the reduced plan as the one on the minimal expansion": whatever table acts as the plan does, its
+-- from-words each begin with one of the plan's. (004: "any other expansion of X with this property is an expansion of Y.")
+abbrev pub MinimalExpansion : Type 0
+MinimalExpansion =
+    (s : Shape) → 1 ≤ s .arity → (a t : Table) → ReducedPlan s a → Bases s t
+    → ActAlike (record { shape = s; rows = a }) (record { shape = s; rows = t })
+    → (w : Word) → List·Memᴰ w (froms t) → T (longEnough a w)
 
 -- Each answer is given under its condition and no other.
 pub record AnswersExact : Type 0 where
