@@ -1,5 +1,6 @@
 -- The arguments, each file after those it leans on. The terms of the statements of specs/Theorems.antt and specs/Cases.antt are in
--- Columns (bases), Results (what is reduced), MinimalExpansion, Statements (normal form, group, answers), Demand3, Listing and Cases.
+-- Columns (bases), Results (what is reduced), MinimalExpansion, Statements (normal form, group, answers), Demand3, Listing and Cases;
+-- that of specs/Automorphisms.antt is in Automorphisms, and the files from Codes on lead to it.
 pub mod Tests
 pub mod Text
 pub mod Prefixes
@@ -27,4 +28,13 @@ pub mod Joins
 pub mod Reached
 pub mod Demand3
 pub mod Statements
+pub mod Codes
+pub mod Algebras
+pub mod StandardForms
+pub mod FreeForms
+pub mod Extensions
+pub mod Readings
+pub mod Endomorphisms
+pub mod TableAutomorphisms
+pub mod Automorphisms
 pub mod Cases
