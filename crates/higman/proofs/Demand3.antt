@@ -3,7 +3,6 @@
 use Prim.Native.Nat.{ℕ, zero, suc, _+_, _≤_}
 use mathlib.Core.Path.{_≡_, refl, sym, _∙_, ap, ap₂, subst}
 use mathlib.Core.Logic.{_↔_}
-use mathlib.Core.Bool.{Bool, true, false}
 use mathlib.Core.List.{[], _∷_, List·Memᴰ, Memᴰ·of-map}
 use native.Mathlib.Nat.{le-refl, le-trans}
 use native.Mathlib.Omega.{arith}
@@ -18,7 +17,7 @@ use Rattle.higman.specs.Limits.{Plan, Kept, shapeInRange, granted, maxPa
 use Rattle.higman.specs.Answers.{Granted, followed, inverted, powered, identityPlan, grant}
 use Rattle.higman.specs.Listing.{pairRecords}
 use Rattle.higman.specs.Theorems.{ActAlike, Demand3}
-use Rattle.higman.proofs.Tests.{T-of, and-left, and-right, and-intro, all-at, all-of, test-of-word}
+use Rattle.higman.proofs.Tests.{T-of, same-test, and-left, and-right, and-intro, all-at, all-of, test-of-word}
 use Rattle.higman.proofs.Images.{long-enough-of-image}
 use Rattle.higman.proofs.Actions.{Action, Same}
 use Rattle.higman.proofs.Elements.{Element, element-action, element-swapped}
@@ -228,13 +227,6 @@ power-minus-one a A =
     let n = arity-of-range (a .shape) (A .in-range) in
     let E = member-of-kept a A .element in
     powered-minus-one a (inverse (a .shape) (a .rows)) (compose-identity-left (a .shape) n (inverse (a .shape) (a .rows)) (inverse-member (a .shape) n (a .rows) E)) (inverse-granted (a .shape) n (a .rows) E (A .within))
-
--- two tests that imply each other
-same-test : (b c : Bool) → (T b → T c) → (T c → T b) → b ≡ c
-same-test true true f g = refl
-same-test true false f g = absurd (f tt)
-same-test false true f g = absurd (g tt)
-same-test false false f g = refl
 
 -- power −j is the inverse of power j
 repeated-inverse : (s : Shape) → 1 ≤ s .arity → (a : Table) → Member s a → (j : ℕ) → inverse s (repeated s a j) ≡ repeated s (inverse s a) j

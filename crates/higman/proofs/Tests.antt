@@ -28,6 +28,13 @@ T-of e = subst T (sym e) tt
 pub clash : {b : Bool} → b ≡ true → b ≡ false → ⊥
 clash p q = subst T (sym p ∙ q) tt
 
+-- two tests that imply each other are one
+pub same-test : (b c : Bool) → (T b → T c) → (T c → T b) → b ≡ c
+same-test true true f g = refl
+same-test true false f g = absurd (f tt)
+same-test false true f g = absurd (g tt)
+same-test false false f g = refl
+
 pub and-left : (a b : Bool) → T (a && b) → T a
 and-left true b t = tt
 and-left false b t = t
