@@ -1,5 +1,8 @@
 -- The three demands, gathered into one term.
 use Rattle.higman.proofs.Demand3.{demand3}
+use Rattle.higman.proofs.Results.{results-reduced}
+use Rattle.higman.proofs.MinimalExpansion.{minimal-expansion}
+use Rattle.higman.proofs.Automorphisms.{plans-are-automorphisms}
 use Rattle.desk.specs.Demands.{SessionExact, Demands}
 use Rattle.desk.proofs.Session.{fed-in-pieces, session-fed}
 use Rattle.desk.proofs.Grammar.{text-exact}
@@ -10,4 +13,13 @@ session-exact : SessionExact
 session-exact = record { text = text-exact; fed = session-fed; pieces = fed-in-pieces }
 
 pub demands : Demands
-demands = record { demand1 = demand1; demand2 = demand2; demand3 = demand3; sessions = session-exact }
+demands =
+    record {
+      demand1 = demand1;
+      demand2 = demand2;
+      demand3 = demand3;
+      group = plans-are-automorphisms;
+      results = results-reduced;
+      minimal = minimal-expansion;
+      sessions = session-exact;
+    }

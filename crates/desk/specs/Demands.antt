@@ -14,7 +14,8 @@ use Rattle.higman.specs.Tables.{image}
 use Rattle.higman.specs.Normal.{andThen, power}
 use Rattle.higman.specs.Limits.{Plan, Bases, Kept, slotCount}
 use Rattle.higman.specs.Text.{lineEnd, Bytes, wordOf}
-use Rattle.higman.specs.Theorems.{ActAlike, Demand3}
+use Rattle.higman.specs.Theorems.{ActAlike, ResultsReduced, MinimalExpansion, Demand3}
+use Rattle.higman.specs.Automorphisms.{PlansAreAutomorphisms}
 use Rattle.higman.specs.Refusals.{noRecord, wrongState, shapeOutside, badWord, pairsFull, wordsOverlap, rootUncovered, slotOutside, slotEmpty, shapesDiffer, limitBroken, powerOutside, codeTooShort, countFull, Letter}
 use Rattle.desk.specs.Limits.{maxChanges}
 use Rattle.desk.specs.Desk.{Draft, Desk, countOf, held, IsDesk, changed, withDraft, withPair, dropped}
@@ -144,10 +145,13 @@ pub record SessionExact : Type 0 where
   pub fed : SessionFed
   pub pieces : FedInPieces
 
--- All three demands, in one place, with what they take for granted: that bytes are read and written as the paper says, and that
--- plans are the automorphisms of V(n,r).
-pub record Demands : Type 0 where
+-- All three demands, in one place, with what their words lean on: the plans are the automorphisms of V(n,r), a result is the reduced
+-- plan on the minimal expansion, and bytes are read and written as the paper says.
+pub record Demands : Type 1 where
   pub demand1 : Demand1
   pub demand2 : Demand2
   pub demand3 : Demand3
+  pub group : PlansAreAutomorphisms
+  pub results : ResultsReduced
+  pub minimal : MinimalExpansion
   pub sessions : SessionExact
