@@ -6,7 +6,7 @@ use mathlib.Core.Bool.{Bool, true, false}
 use mathlib.Core.List.{_++_}
 use mathlib.Core.Option.{Option, none}
 use borrow.Author.Tests.{leb-true, lt-leb}
-use lib.Dec.{T, leb, le→leb}
+use lib.Dec.{leb, le→leb}
 use lib.ListN.{length, drop, length-append, length-drop}
 use Rattle.higman.specs.Refusals.{bufferTooShort, invalidValue, Letter}
 use Rattle.higman.specs.Buffers.{written, ifRoom}

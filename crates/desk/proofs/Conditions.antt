@@ -26,8 +26,8 @@ use Rattle.desk.specs.Desk.{Draft, Desk, held, IsDesk}
 use Rattle.desk.specs.Records.{Record, P, M, E, F, I, K, S, W, L, C, T as Tᴿ, U, needsOpen, slotsNamed, isChange}
 use Rattle.higman.specs.Listing.{slotNumber}
 use Rattle.higman.specs.Text.{wordOf}
-use Rattle.desk.specs.Replies.{Outcome, refuse, pass, _>>=_, _when_, isOpen, openAmiss, outside, atLimit, openPlan, planIn, ofVerdict, ofAnswer, ofComparison, ofRoute, job, operation}
-use Rattle.desk.specs.Conditions.{Condition, _if_, inColumn, isEmpty, ofPlan, ofBoth, ownConditions, conditions, firstOf, refusalOf}
+use Rattle.desk.specs.Replies.{Outcome, refuse, pass, _>>=_, isOpen, openAmiss, outside, atLimit, openPlan, planIn, ofVerdict, ofAnswer, ofComparison, ofRoute, job, operation, _when_}
+use Rattle.desk.specs.Conditions.{Condition, inColumn, isEmpty, ofPlan, ofBoth, ownConditions, conditions, firstOf, refusalOf, _if_}
 
 -- an outcome is refused as the first condition that holds says
 record Says {A : Type 0} (o : Outcome A) (cs : List Condition) : Type 0 where

@@ -4,7 +4,7 @@ use Prim.Native.Nat.{ℕ, suc}
 use mathlib.Core.Path.{_≡_, refl, sym, _∙_, ap, subst}
 use mathlib.Core.Logic.{_⊎_, inl, inr, _↔_}
 use mathlib.Core.Bool.{Bool, true, false, _&&_, _||_, not}
-use mathlib.Core.List.{List, [], _∷_, _++_, List·Memᴰ, List·Memᴰ·head, List·Memᴰ·tail, List·Memᴰ·cases-cons, List·Memᴰ·not-nil, List·Memᴰ·eq-of-singleton, List·Memᴰ·append-cases, Memᴰ·of-map}
+use mathlib.Core.List.{List, [], _∷_, List·Memᴰ, List·Memᴰ·head, List·Memᴰ·tail, List·Memᴰ·cases-cons, List·Memᴰ·not-nil, List·Memᴰ·eq-of-singleton, List·Memᴰ·append-cases, Memᴰ·of-map}
 use mathlib.Core.Option.{Option, none, some, Option·none-ne-some, Option·some-injective}
 use native.Mathlib.Omega.{arith}
 use lib.Dec.{T, leb, eqb, eqb→eq}
@@ -22,7 +22,7 @@ use Rattle.higman.proofs.Tests.{so, T-of, clash, or-cases, or-true-left, or-tru
 use Rattle.desk.specs.Limits.{maxLine}
 use Rattle.desk.specs.Desk.{Draft, Desk, held}
 use Rattle.desk.specs.Records.{Record, P, M, E, F, I, K, S, W, L, C, T as Tᴿ, U, parted, parse, slotsNamed, isChange}
-use Rattle.desk.specs.Replies.{Outcome, refuse, pass, _>>=_, _when_, Effect, openAmiss, outside, atLimit, openPlan, planIn, ofVerdict, ofAnswer, ofComparison, ofRoute, settle, job, operation, recordOf, lineOperation, respondLine}
+use Rattle.desk.specs.Replies.{Outcome, refuse, pass, _>>=_, Effect, openAmiss, outside, atLimit, openPlan, planIn, ofVerdict, ofAnswer, ofComparison, ofRoute, settle, job, operation, recordOf, lineOperation, respondLine, _when_}
 use Rattle.desk.specs.Bytes.{Order, columnField, replyBytes}
 use Rattle.desk.specs.Conditions.{refusalOf}
 use Rattle.desk.specs.Demands.{refusalNumbers, Done, Refused, Demand1}

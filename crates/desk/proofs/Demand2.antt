@@ -3,31 +3,30 @@
 use Prim.Native.Nat.{ℕ, _<_}
 use mathlib.Core.Path.{_≡_, refl, sym, _∙_, ap, subst}
 use mathlib.Core.Logic.{_⊎_, inl, inr, _↔_}
-use mathlib.Core.Bool.{Bool, true, false, not}
-use mathlib.Core.List.{List, [], _∷_, List·Memᴰ, List·Memᴰ·head, List·Memᴰ·tail}
+use mathlib.Core.Bool.{Bool, true, false}
+use mathlib.Core.List.{List, List·Memᴰ, List·Memᴰ·head, List·Memᴰ·tail}
 use mathlib.Core.Option.{Option, none, some, Option·some-injective, Option·none-ne-some}
 use native.Mathlib.Omega.{arith}
 use lib.Dec.{T}
 use lib.IntN.{ℤ}
 use borrow.Author.Tests.{lt-leb}
-use Rattle.higman.specs.Words.{Word, isWord, given}
+use Rattle.higman.specs.Words.{Word, isWord}
 use Rattle.higman.specs.Tables.{image, sameTable}
 use Rattle.higman.specs.Normal.{andThen, power}
 use Rattle.higman.specs.Limits.{Plan, Bases, Kept, isCode, slotCount}
-use Rattle.higman.specs.Answers.{Verdict, Accepted, InFrom, InTo, verdict, Answer, Granted, Refused, followed, inverted, powered, Comparison, Alike, NotCompared, same, sameShape, Route, Image, TooShort, NotRouted, BadCode, ShapesDiffer, routed}
+use Rattle.higman.specs.Answers.{Accepted, verdict, Answer, Granted, Refused, followed, inverted, powered, Comparison, Alike, NotCompared, same, sameShape, Route, Image, TooShort, NotRouted, BadCode, ShapesDiffer, routed}
 use Rattle.higman.specs.Theorems.{ActAlike}
-use Rattle.higman.specs.Bases.{all}
-use Rattle.higman.proofs.Tests.{T-of, all-at}
+use Rattle.higman.proofs.Tests.{T-of}
 use Rattle.higman.proofs.KeptPlans.{arity-of-range}
 use Rattle.higman.proofs.Answers.{followed-cases, inverted-cases, shape-path}
 use Rattle.higman.proofs.Demand3.{demand3}
 use Rattle.higman.proofs.Statements.{normal-form, group-acts, answers-exact}
 use Rattle.higman.specs.Text.{Bytes, wordOf}
 use Rattle.desk.specs.Limits.{maxChanges}
-use Rattle.desk.specs.Desk.{Draft, Desk, countOf, held, IsDraft, IsDesk}
-use Rattle.desk.specs.Records.{E, F, I, K, S, W, writing, needsOpen, slotsNamed, isChange}
-use Rattle.higman.specs.Listing.{slotNumber, isSlot}
-use Rattle.desk.specs.Replies.{Outcome, refuse, pass, _>>=_, Effect, Reply, silent, ok, okNumber, okWord, lists, surveys, refuses, bit, openPlan, planIn, ofVerdict, ofAnswer, ofComparison, ofRoute, atLimit, keepIn, closed, job, operation}
+use Rattle.desk.specs.Desk.{Draft, Desk, countOf, held, IsDesk}
+use Rattle.desk.specs.Records.{E, F, I, K, S, W, writing, slotsNamed}
+use Rattle.higman.specs.Listing.{slotNumber}
+use Rattle.desk.specs.Replies.{pass, Effect, Reply, silent, ok, okNumber, okWord, lists, surveys, refuses, bit, ofAnswer, ofComparison, ofRoute, keepIn, closed, job, operation}
 use Rattle.desk.specs.Demands.{KeptAsTyped, KeptIn, Demand2}
 use Rattle.desk.proofs.ReadBack.{typed-in, listing-read-back}
 use Rattle.desk.proofs.TypedLines.{accepted-from-lines}

@@ -1,29 +1,27 @@
 -- What is read is what is written: the terms of specs/Grammar.antt. From a line to a record: what a rule of the grammar makes of
 -- fields is a record with just these fields. From a record to its line: by computation, with the laws of the number forms.
-use Prim.Native.Nat.{ℕ, suc, _≤_, _<_}
+use Prim.Native.Nat.{ℕ, suc}
 use native.Mathlib.Omega.{arith}
 use mathlib.Core.Path.{_≡_, refl, sym, _∙_, ap, subst}
 use mathlib.Core.Logic.{_⊎_, inl, inr}
 use mathlib.Core.Bool.{Bool, true, false}
 use mathlib.Core.List.{List, [], _∷_, map}
 use mathlib.Core.Option.{Option, none, some, Option·none-ne-some, Option·some-injective}
-use lib.Dec.{T, leb, eqb, leb→le, le→leb}
+use lib.Dec.{T, eqb}
 use lib.ListN.{length}
 use borrow.Author.Tests.{eqb-true, ne-eqb}
 use Rattle.higman.specs.Words.{spelled}
 use Rattle.higman.specs.Bases.{all}
-use Rattle.higman.specs.Limits.{slotCount}
-use Rattle.higman.specs.Text.{Bytes, byte, tab, decimal}
-use Rattle.higman.specs.Listing.{slotByte, isSlot}
+use Rattle.higman.specs.Text.{Bytes, tab, decimal}
+use Rattle.higman.specs.Listing.{slotByte}
 use Rattle.higman.proofs.Tests.{passes, and-left, and-right, and-intro, all-cons}
 use Rattle.desk.specs.Limits.{maxNumeral}
-use Rattle.desk.specs.Records.{Record, P, M, E, F, I, K, S, W, L, C, U}
-use Rattle.desk.specs.Records.{Form, slotField, anyField, numberField, field, noMore, Rule, grammar, readBy, readFields, parse}
-use Rattle.desk.specs.Records.{fields, parted, recordFields, recordText, noTab, hasDigits, numbersFit, wellFormed}
-use Rattle.desk.specs.Grammar.{GrammarExact, SlotsExact, DecimalsExact, HeldLinesRead, TextExact}
+use Rattle.desk.specs.Records.{Record, P, M, E, F, I, K, S, W, L, C, U, Form, slotField, anyField, numberField, field, noMore, Rule, grammar, readBy, readFields, parse, fields, parted, recordFields, recordText, noTab, hasDigits, numbersFit, wellFormed}
+use Rattle.desk.specs.Grammar.{GrammarExact, HeldLinesRead, TextExact}
 use Rattle.desk.proofs.Fields.{no-tab-cons, word-no-tab, fields-of-parted, parted-of-fields, fields-no-tab}
-use Rattle.desk.proofs.Decimals.{decimal-numerals, decimal-read-back, decimal-no-leading-zero}
-use Rattle.desk.proofs.Decimals.{Written, ExactForm, number-exact, signed-exact}
+use Rattle.higman.proofs.Decimals.{decimal-read-back, decimals-exact}
+use Rattle.higman.proofs.Listing.{slots-exact}
+use Rattle.desk.proofs.NumberFields.{Written, ExactForm, number-exact, signed-exact}
 
 -- the two forms that are not numbers
 slot-exact : ExactForm slotField (λ b. b ∷ []) (λ b. true)
@@ -174,32 +172,6 @@ text-of-parse line r e =
 
 grammar-exact : GrammarExact
 grammar-exact line r = (text-of-parse line r, λ h. ap parse (h .1) ∙ parse-text r (h .0))
-
-module _ (b : ℕ) (h : T (isSlot b)) where
-  slot-low : byte "A" ≤ b
-  slot-low = leb→le (byte "A") b (and-left (leb (byte "A") b) (leb (suc b) (slotByte slotCount)) h)
-
-  slot-high : b < slotByte slotCount
-  slot-high = leb→le (suc b) (slotByte slotCount) (and-right (leb (byte "A") b) (leb (suc b) (slotByte slotCount)) h)
-
-slot-of-number : (i : ℕ) → i < slotCount → T (isSlot (slotByte i))
-slot-of-number i h =
-    let b = slotByte i in
-    let low = le→leb (byte "A") b (omega arith) in
-    let high = le→leb (suc b) (slotByte slotCount) (omega arith) in
-    and-intro (leb (byte "A") b) (leb (suc b) (slotByte slotCount)) low high
-
-slots-exact : SlotsExact
-slots-exact =
-    record {
-      named = slot-of-number;
-      number-of-byte = λ i. omega arith;
-      numbered = λ b h. omega (arith, slot-low b h, slot-high b h);
-      byte-of-number = λ b h. omega (arith, slot-low b h);
-    }
-
-decimals-exact : DecimalsExact
-decimals-exact = record { numerals = decimal-numerals; no-leading-zero = decimal-no-leading-zero; read-back = decimal-read-back }
 
 slot-no-tab : (i : ℕ) → T (noTab (slotByte i ∷ []))
 slot-no-tab i = no-tab-cons (slotByte i) [] (ne-eqb (slotByte i) tab (λ e. omega arith)) tt

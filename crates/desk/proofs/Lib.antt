@@ -6,7 +6,7 @@ pub mod Outcomes
 pub mod Stays
 pub mod OpenPlans
 pub mod Fields
-pub mod Decimals
+pub mod NumberFields
 pub mod Grammar
 pub mod Lines
 pub mod TypedLines

@@ -3,24 +3,24 @@ use Prim.Native.Nat.{ℕ, _<_}
 use mathlib.Core.Path.{_≡_, refl, ap}
 use mathlib.Core.Logic.{_↔_}
 use mathlib.Core.Bool.{Bool, true, false, _&&_, not}
-use mathlib.Core.List.{[], _∷_}
+use mathlib.Core.List.{[]}
 use mathlib.Core.Option.{none, some}
 use lib.Dec.{T, leb}
 use lib.ListN.{length}
 use borrow.Author.Tests.{lt-leb}
-use Rattle.higman.specs.Words.{Shape, Word, given}
+use Rattle.higman.specs.Words.{Shape, given}
 use Rattle.higman.specs.Text.{Bytes, wordOf}
 use Rattle.higman.specs.Tables.{Pair}
 use Rattle.higman.specs.Limits.{Bases, shapeInRange, isPlanWord, maxPairs}
 use Rattle.higman.specs.Refusals.{shapeOutside, badWord, pairsFull}
 use Rattle.higman.specs.Answers.{Accepted, verdict}
 use Rattle.higman.specs.Listing.{isSlot}
-use Rattle.higman.proofs.Tests.{so, all-cons, all-head}
+use Rattle.higman.proofs.Tests.{all-cons, all-head}
 use Rattle.higman.proofs.KeptPlans.{arity-of-range}
 use Rattle.higman.proofs.Statements.{answers-exact}
 use Rattle.desk.specs.Desk.{Draft, Desk, IsDraft, withDraft, withPair}
 use Rattle.desk.specs.Records.{P, M, E, writing, needsOpen, slotsNamed, isChange}
-use Rattle.desk.specs.Replies.{pass, _>>=_, _when_, Effect, silent, atLimit, keepIn, newDraft, closed, job, operation}
+use Rattle.desk.specs.Replies.{pass, _>>=_, Effect, silent, atLimit, keepIn, newDraft, closed, job, operation, _when_}
 use Rattle.desk.proofs.Outcomes.{Passes, passes, passes-then, test-failed, test-held, plan-open, passes-operation, operation-pass}
 use Rattle.desk.proofs.Stays.{verdict-accepted}
 

@@ -12,7 +12,7 @@ use Rattle.higman.specs.Text.{Bytes}
 use Rattle.desk.specs.Desk.{Draft, Desk, held, dropped}
 use Rattle.desk.specs.Records.{Record, P, M, E, F, I, K, S, W, L, C, T as Tᴿ, U, slotsNamed, isChange}
 use Rattle.higman.specs.Listing.{slotNumber, isSlot}
-use Rattle.desk.specs.Replies.{Reply, silent, ok, okNumber, okWord, lists, surveys, refuses, Outcome, refuse, pass, _>>=_, _when_, openAmiss, openPlan, planIn, atLimit, job, Effect, settle, operation, lineOperation, respondLine}
+use Rattle.desk.specs.Replies.{Reply, silent, ok, okNumber, okWord, lists, surveys, refuses, Outcome, refuse, pass, _>>=_, openAmiss, openPlan, planIn, atLimit, job, Effect, settle, operation, lineOperation, respondLine, _when_}
 use Rattle.desk.specs.Theorems.{RefusalDrops}
 
 pub data Passes {A : Type 0} (Q : A → Type 0) : Outcome A → Type 0 where

@@ -3,11 +3,11 @@
 use Prim.Native.Nat.{ℕ, suc, _+_, _≤_, _<_}
 use native.Mathlib.Omega.{arith}
 use mathlib.Core.Path.{_≡_, refl, sym, _∙_, ap, subst}
-use mathlib.Core.Bool.{Bool, true, false, _&&_, not}
-use mathlib.Core.List.{List, [], _∷_, _++_, append-assoc, append-nil}
-use mathlib.Core.Option.{none, some}
+use mathlib.Core.Bool.{true, false, _&&_}
+use mathlib.Core.List.{[], _∷_, _++_, append-assoc, append-nil}
+use mathlib.Core.Option.{some}
 use borrow.Author.Tests.{ne-eqb, lt-leb}
-use lib.Dec.{T, leb, ltb, eqb, leb→le, le→leb, lt→ltb, lit<, lit≤}
+use lib.Dec.{T, leb, ltb, eqb, leb→le, lt→ltb, lit<, lit≤}
 use lib.ListN.{length, length-append, length-map}
 use Rattle.higman.specs.Words.{Shape, Word, isWord, spelled}
 use Rattle.higman.specs.Bases.{all}
@@ -16,7 +16,7 @@ use Rattle.higman.specs.Limits.{shapeInRange, granted, fits, pairFits, maxPairs
 use Rattle.higman.specs.Normal.{keep}
 use Rattle.higman.specs.Answers.{Accepted, verdict}
 use Rattle.higman.specs.Text.{tab, lineEnd, digitByte, wordBytes, Bytes, bytes, decimal, wordOf}
-use Rattle.higman.specs.Listing.{openRecord, pairRecord, pairRecords, joinLines, closeRecord, slotNumber, slotByte, isSlot}
+use Rattle.higman.specs.Listing.{pairRecord, pairRecords, joinLines, closeRecord, slotNumber, slotByte, isSlot}
 use Rattle.higman.proofs.Tests.{so, and-left, and-right, and-intro, all-cons, all-head, all-tail, pair-path}
 use Rattle.higman.proofs.Statements.{table-of, test-table, normal-form, answers-exact}
 use Rattle.higman.proofs.Columns.{column-is-basis}
@@ -26,13 +26,13 @@ use Rattle.higman.proofs.Text.{word-of-bytes}
 use Rattle.desk.specs.Limits.{maxChanges, maxLine}
 use Rattle.desk.specs.Desk.{Draft, Desk, countOf, withDraft, withPair, changed}
 use Rattle.desk.specs.Records.{Record, P, M, E, parse, recordFields, recordText, noTab, hasDigits, wellFormed}
-use Rattle.desk.specs.Replies.{lists, pass, Effect, silent, okNumber, newDraft, operation, settle, respondLine}
+use Rattle.desk.specs.Replies.{pass, Effect, silent, okNumber, newDraft, operation, settle, respondLine}
 use Rattle.desk.specs.Bytes.{Order, replyBytes}
 use Rattle.desk.specs.Session.{State, idle, grown, feedByte, feed}
 use Rattle.desk.specs.Theorems.{TypedIn, ListingReadBack}
 use Rattle.desk.proofs.OpenPlans.{typedPair, open-pass, pair-pass, close-pass}
 use Rattle.desk.proofs.Fields.{no-tab-cons, word-no-tab}
-use Rattle.desk.proofs.Decimals.{decimal-digit}
+use Rattle.higman.proofs.Decimals.{decimal-digit}
 use Rattle.desk.proofs.Grammar.{parse-text}
 use Rattle.desk.proofs.Lines.{respond-record}
 

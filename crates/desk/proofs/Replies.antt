@@ -7,13 +7,13 @@ use mathlib.Core.List.{List, [], _∷_}
 use mathlib.Core.Option.{Option, none, some}
 use lib.ListN.{length, getD, set}
 use Rattle.higman.specs.Words.{given}
-use Rattle.higman.specs.Limits.{Plan, slotCount}
+use Rattle.higman.specs.Limits.{Plan}
 use Rattle.higman.proofs.Tests.{clash}
 use Rattle.higman.specs.Text.{Bytes, wordOf}
 use Rattle.desk.specs.Desk.{Draft, Desk, countOf, held, changed, withDraft, withPair, dropped}
 use Rattle.desk.specs.Records.{Record, P, M, E, F, I, K, S, W, L, C, T, U, needsOpen, isChange}
 use Rattle.higman.specs.Listing.{slotNumber}
-use Rattle.desk.specs.Replies.{pass, Effect, silent, ok, okNumber, lists, surveys, isOpen, heldFrom, newDraft, job, operation}
+use Rattle.desk.specs.Replies.{Effect, silent, ok, okNumber, lists, surveys, isOpen, heldFrom, newDraft, job, operation}
 use Rattle.desk.specs.Demands.{RepliesExact, DeskParts}
 use Rattle.desk.proofs.Outcomes.{Passes, passes, passes-then, any-then, passed, plan-held, plan-open, passes-operation}
 

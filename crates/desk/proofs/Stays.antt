@@ -1,31 +1,32 @@
 -- A desk stays one, whatever line it is given. What is kept is a kept plan by higman's theorems; the rest is that one slot is
 -- written and the others are not.
-use Prim.Native.Nat.{ℕ, zero, suc, _≤_, _<_, zero-le}
+use Prim.Native.Nat.{ℕ, zero, suc, _<_, zero-le}
 use native.Mathlib.Omega.{arith}
 use mathlib.Core.Path.{_≡_, refl, sym, _∙_, subst}
 use mathlib.Core.Logic.{_⊎_, inl, inr}
-use mathlib.Core.Bool.{Bool, true, false, _&&_}
+use mathlib.Core.Bool.{false, _&&_}
 use mathlib.Core.List.{List, [], _∷_, _++_, map-append, List·Memᴰ, List·Memᴰ·head}
 use mathlib.Core.Option.{Option, none, some, Option·some-injective, Option·none-ne-some}
 use borrow.Author.Tests.{leb-false}
-use lib.Dec.{T, leb, leb→le, le→leb, nleb→lt, not-T}
+use lib.Dec.{T, leb, le→leb, nleb→lt, not-T}
 use lib.ListN.{length, getD, set, replicate, length-set, length-append, length-replicate}
-use Rattle.higman.specs.Words.{Shape, Word, isWord}
+use Rattle.higman.specs.Words.{Shape, isWord}
 use Rattle.higman.specs.Bases.{all}
 use Rattle.higman.specs.Tables.{Pair, Table, froms, tos}
 use Rattle.higman.specs.Limits.{Plan, Kept, shapeInRange, granted, fits, pairFits, maxPairs, slotCount, isPlanWord}
 use Rattle.higman.specs.Answers.{Verdict, Accepted, InFrom, InTo, verdict, Answer, Granted, Refused, followed, inverted, powered}
+use Rattle.higman.proofs.Listing.{slots-exact}
 use Rattle.higman.proofs.Demand3.{demand3}
 use Rattle.higman.proofs.Statements.{answers-exact}
-use Rattle.higman.proofs.Tests.{so, clash, and-left, and-right, and-intro, all-cons, all-at}
+use Rattle.higman.proofs.Tests.{so, clash, and-left, and-right, and-intro, all-at, all-snoc}
 use Rattle.higman.proofs.KeptPlans.{arity-of-range}
-use Rattle.higman.specs.Text.{Bytes, byte, wordOf}
+use Rattle.higman.specs.Text.{Bytes, wordOf}
 use Rattle.higman.proofs.PlanWords.{word-of-plan-word, plan-word-fits}
 use Rattle.higman.specs.Refusals.{wrongState, shapeOutside, badWord, pairsFull, slotEmpty}
 use Rattle.desk.specs.Limits.{maxChanges}
 use Rattle.desk.specs.Desk.{Draft, Desk, freshDesk, countOf, held, IsDraft, IsDesk, changed, withDraft, dropped, withPair}
 use Rattle.desk.specs.Records.{Record, P, M, E, F, I, K, S, W, L, C, T as Tᴿ, U, SlotUse, writing, slotsNamed, isChange}
-use Rattle.higman.specs.Listing.{slotNumber, slotByte, isSlot}
+use Rattle.higman.specs.Listing.{slotNumber, isSlot}
 use Rattle.desk.specs.Replies.{Outcome, refuse, pass, openPlan, planIn, atLimit, ofVerdict, ofAnswer, Effect, newDraft, closed, job, operation, recordOf, lineOperation, settle, respondLine}
 use Rattle.desk.specs.Theorems.{DeskStays}
 use Rattle.desk.proofs.Outcomes.{Passes, stops, passes, passes-then, any-then, test-failed, test-held, Tested, passes-operation}
@@ -37,14 +38,6 @@ held-set (y ∷ l) zero zero x p e = inl e
 held-set (y ∷ l) zero (suc j) x p e = inr e
 held-set (y ∷ l) (suc i) zero x p e = inr e
 held-set (y ∷ l) (suc i) (suc j) x p e = held-set l i j x p e
-
-all-snoc : {A : Type 0} (f : A → Bool) (l : List A) (x : A) → T (all f l) → T (f x) → T (all f (l ++ (x ∷ [])))
-all-snoc f [] x h k = all-cons f x [] k tt
-all-snoc f (y ∷ l) x h k = by-first (f y) h (λ t. all-snoc f l x t k)
-  where
-    by-first : (b : Bool) → T (elim b [ true ↦ all f l | false ↦ false ]) → (T (all f l) → T (all f (l ++ (x ∷ [])))) → T (elim b [ true ↦ all f (l ++ (x ∷ [])) | false ↦ false ])
-    by-first true t next = next t
-    by-first false t next = t
 
 pub below-limit : (d : Desk) → atLimit d ≡ false → countOf d < maxChanges
 below-limit d e = leb-false maxChanges (countOf d) e
@@ -102,10 +95,7 @@ verdict-accepted (InFrom r) = stops
 verdict-accepted (InTo r) = stops
 
 pub slot-below : (a : ℕ) → T (isSlot a) → slotNumber a < slotCount
-slot-below a h =
-    let low : byte "A" ≤ a = leb→le (byte "A") a (and-left (leb (byte "A") a) (leb (suc a) (slotByte slotCount)) h) in
-    let high : suc a ≤ slotByte slotCount = leb→le (suc a) (slotByte slotCount) (and-right (leb (byte "A") a) (leb (suc a) (slotByte slotCount)) h) in
-    omega arith
+slot-below a h = slots-exact .numbered a h
 
 pub new-draft : (a : ℕ) (s : Shape) → slotNumber a < slotCount → T (shapeInRange s) → IsDraft (newDraft a s)
 unfolding granted maxPairs

@@ -18,7 +18,7 @@ use Rattle.higman.specs.Normal.{keep}
 use Rattle.higman.specs.Limits.{Bases, shapeInRange, granted, pairFits, isPlanWord, maxPairs, maxDigits}
 use Rattle.higman.specs.Answers.{Accepted, verdict}
 use Rattle.higman.specs.Refusals.{Letter}
-use Rattle.higman.specs.Listing.{slotNumber, isSlot}
+use Rattle.higman.specs.Listing.{isSlot}
 use Rattle.higman.proofs.Tests.{passes, clash, and-left, and-right, all-cons, all-head, all-tail}
 use Rattle.higman.proofs.PlanWords.{plan-word-length}
 use Rattle.desk.specs.Limits.{maxChanges, maxLine}

@@ -7,11 +7,11 @@ use mathlib.Core.List.{List, [], _∷_, _++_, map}
 use mathlib.Core.Option.{Option, none, some}
 use lib.Dec.{T, leb, eqb}
 use lib.ListN.{length, getD, set, replicate}
-use Rattle.higman.specs.Words.{Shape, Word, isWord, spell}
+use Rattle.higman.specs.Words.{Shape, isWord}
 use Rattle.higman.specs.Bases.{all}
 use Rattle.higman.specs.Tables.{Pair, Table, froms, tos, row, ψ}
 use Rattle.higman.specs.Normal.{joined, normal, normalForm, keep}
-use Rattle.higman.specs.Limits.{Plan, Kept, shapeInRange, granted, fits, maxPairs, maxDigits, slotCount}
+use Rattle.higman.specs.Limits.{Plan, Kept, shapeInRange, granted, maxPairs, maxDigits, slotCount}
 use Rattle.higman.specs.Answers.{verdict, isTableOf, isKept}
 use Rattle.desk.specs.Limits.{maxChanges}
 

@@ -1,36 +1,22 @@
 -- What is read is what is written, as statements: a line is a record exactly when it is the record's text; letters name slots one to
 -- one; a number's digits read back to it; and a line of U gives back what it says of a slot. Read Session.antt next.
-use Prim.Native.Nat.{ℕ, _<_}
+use Prim.Native.Nat.{ℕ}
 use mathlib.Core.Path.{_≡_}
 use mathlib.Core.Logic.{_↔_}
 use mathlib.Core.List.{[], _∷_}
 use mathlib.Core.Option.{some}
 use lib.Dec.{T}
 use lib.ListN.{length}
-use Rattle.higman.specs.Bases.{all}
-use Rattle.higman.specs.Text.{Bytes, decimal}
-use Rattle.higman.specs.Limits.{slotCount}
-use Rattle.higman.specs.Listing.{slotNumber, slotByte, isSlot}
-use Rattle.desk.specs.Records.{Record, fields, parted, isNumeral, spelledOut, noLeadingZero, parse, recordText, wellFormed}
+use Rattle.higman.specs.Text.{Bytes, spelledOut}
+use Rattle.higman.specs.Listing.{slotNumber}
+use Rattle.higman.specs.Theorems.{SlotsExact, DecimalsExact}
+use Rattle.desk.specs.Records.{Record, fields, parted, parse, recordText, wellFormed}
 use Rattle.desk.specs.Replies.{Held}
 use Rattle.desk.specs.Bytes.{heldFields}
 
 -- "1, unknown letter, wrong number of fields, a field form": every other line is the text of the record that it is read as.
 abbrev pub GrammarExact : Type 0
 GrammarExact = (line : Bytes) (r : Record) → (parse line ≡ some r) ↔ (T (wellFormed r) × (line ≡ recordText r))
-
--- "slots A to H": letters and numbers below `slotCount`, one to one
-pub record SlotsExact : Type 0 where
-  pub named : (i : ℕ) → i < slotCount → T (isSlot (slotByte i))
-  pub number-of-byte : (i : ℕ) → slotNumber (slotByte i) ≡ i
-  pub numbered : (b : ℕ) → T (isSlot b) → slotNumber b < slotCount
-  pub byte-of-number : (b : ℕ) → T (isSlot b) → slotByte (slotNumber b) ≡ b
-
--- a number in decimal: digits, "no leading zero", and the number that they spell
-pub record DecimalsExact : Type 0 where
-  pub numerals : (k : ℕ) → T (all isNumeral (decimal k))
-  pub no-leading-zero : (k : ℕ) → T (noLeadingZero (decimal k))
-  pub read-back : (k : ℕ) → spelledOut 0 (decimal k) ≡ k
 
 -- what a line of U says, read from its fields: "`slot⇥n⇥r⇥pairs`"
 pub record HeldRead (line : Bytes) (h : Held) : Type 0 where
@@ -47,7 +33,7 @@ pub record HeldRead (line : Bytes) (h : Held) : Type 0 where
 abbrev pub HeldLinesRead : Type 0
 HeldLinesRead = (h : Held) → HeldRead (parted (heldFields h)) h
 
--- all of it
+-- all of it, with what higman says of letters and numbers
 pub record TextExact : Type 0 where
   pub grammar : GrammarExact
   pub slots : SlotsExact

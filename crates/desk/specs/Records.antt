@@ -1,7 +1,7 @@
 -- From a line of bytes to a record (document 01, "Records", with "Field forms"). A line that is no record, by its letter, its number
 -- of fields or a field's form, has none: that is refusal 1. With it the text of each record, and what of its kind a record says: whether
 -- it needs an open plan, which slots it names and what for, and whether it is a change. Read Replies.antt next.
-use Prim.Native.Nat.{ℕ, zero, suc, _+_, _*_, _-_}
+use Prim.Native.Nat.{ℕ, zero, suc}
 use mathlib.Core.Path.{_≡_, refl}
 use mathlib.Core.Bool.{Bool, true, false, _&&_, not}
 use mathlib.Core.List.{List, [], _∷_, _++_, map}
@@ -10,7 +10,7 @@ use lib.Dec.{leb, eqb}
 use lib.IntN.{ℤ, pos, negsuc, natAbs}
 use lib.ListN.{length}
 use Rattle.higman.specs.Bases.{all}
-use Rattle.higman.specs.Text.{tab, Bytes, byte, bytes, decimal}
+use Rattle.higman.specs.Text.{tab, Bytes, byte, bytes, isNumeral, spelledOut, noLeadingZero, decimal}
 use Rattle.desk.specs.Limits.{maxNumeral}
 
 -- A record, by its letter. A slot is the byte that names it, a word or code the bytes that spell it.
@@ -68,24 +68,6 @@ slotField (b ∷ c ∷ l) = none
 -- "Words and codes may be any bytes, none included."
 abbrev pub anyField : Form Bytes
 anyField f = some f
-
--- a byte from '0' to '9', and its value
-abbrev pub isNumeral : ℕ → Bool
-isNumeral b = leb (byte "0") b && leb b (byte "9")
-
-abbrev pub numeralValue : ℕ → ℕ
-numeralValue b = b - byte "0"
-
--- the number that digits spell, behind the number that stands before them
-abbrev pub spelledOut : ℕ → Bytes → ℕ
-spelledOut n [] = n
-spelledOut n (b ∷ l) = spelledOut (n * 10 + numeralValue b) l
-
--- "no leading zero": a number of several digits does not begin with 0
-abbrev pub noLeadingZero : Bytes → Bool
-noLeadingZero [] = false
-noLeadingZero (b ∷ []) = true
-noLeadingZero (b ∷ c ∷ l) = leb (byte "1") b
 
 -- A number of one digit, or of some: so many at most, "no leading zero". "n and r one digit 0 to 9"
 abbrev pub numberField : ℕ → Form ℕ

@@ -1,7 +1,7 @@
 -- The reply to each record, and the desk after it (document 01, "Records" and "When each operation says no"). Each operation is a
 -- list of steps: `n when t` refuses with n where t holds, and the first step that refuses ends it. What all records have in common
 -- stands around the job of each. The answers about plans are those of higman, with their numbers. Read Bytes.antt next.
-use Prim.Native.Nat.{ℕ, suc, _+_, _-_}
+use Prim.Native.Nat.{ℕ, suc, _+_}
 use mathlib.Core.Path.{_≡_, refl}
 use mathlib.Core.Bool.{Bool, true, false, _&&_, not}
 use mathlib.Core.List.{List, [], _∷_, _++_, map}

@@ -3,6 +3,7 @@
 -- that of specs/Automorphisms.antt is in Automorphisms, and the files from Codes on lead to it.
 pub mod Tests
 pub mod Text
+pub mod Decimals
 pub mod Prefixes
 pub mod Blocks
 pub mod Proper

@@ -1,16 +1,17 @@
 -- A listing determines its plan. The byte of a digit is at least 48, so a run of digit bytes ends at the first tab or line end,
--- and the two columns of an M record can be read back.
-use Prim.Native.Nat.{ℕ, _<_}
+-- and the two columns of an M record can be read back. And letters name slots one to one.
+use Prim.Native.Nat.{ℕ, suc, _≤_, _<_}
 use mathlib.Core.Path.{_≡_, refl, ap, ap₂}
 use mathlib.Core.List.{List, [], _∷_, _++_, nil≢cons, cons≢nil, head-eq-of-cons-eq, tail-eq-of-cons-eq, append-assoc, append-cancel-right}
 use native.Mathlib.Omega.{arith}
+use lib.Dec.{T, leb, leb→le, le→leb}
 use Rattle.higman.specs.Words.{Word}
 use Rattle.higman.specs.Tables.{Pair, Table}
-use Rattle.higman.specs.Limits.{Plan}
-use Rattle.higman.specs.Text.{tab, lineEnd, digitByte, wordBytes}
-use Rattle.higman.specs.Listing.{pairRecord, closeRecord, pairRecords, joinLines, listing}
-use Rattle.higman.specs.Theorems.{ListingFaithful}
-use Rattle.higman.proofs.Tests.{pair-path, ways-of-test}
+use Rattle.higman.specs.Limits.{Plan, slotCount}
+use Rattle.higman.specs.Text.{byte, tab, lineEnd, digitByte, wordBytes}
+use Rattle.higman.specs.Listing.{slotByte, isSlot, pairRecord, closeRecord, pairRecords, joinLines, listing}
+use Rattle.higman.specs.Theorems.{ListingFaithful, SlotsExact}
+use Rattle.higman.proofs.Tests.{and-left, and-right, and-intro, pair-path, ways-of-test}
 use Rattle.higman.proofs.Text.{word-of-bytes}
 
 digit-of-byte : (d c : ℕ) → digitByte d ≡ digitByte c → d ≡ c
@@ -54,3 +55,26 @@ listing-faithful = record {
   lines = λ t u. (lines-read-back t u, ap (λ t. joinLines (pairRecords t)));
   whole-listing = λ slot a b. (plan-read-back slot a b, ap (listing slot));
 }
+
+module _ (b : ℕ) (h : T (isSlot b)) where
+  slot-low : byte "A" ≤ b
+  slot-low = leb→le (byte "A") b (and-left (leb (byte "A") b) (leb (suc b) (slotByte slotCount)) h)
+
+  slot-high : b < slotByte slotCount
+  slot-high = leb→le (suc b) (slotByte slotCount) (and-right (leb (byte "A") b) (leb (suc b) (slotByte slotCount)) h)
+
+slot-of-number : (i : ℕ) → i < slotCount → T (isSlot (slotByte i))
+slot-of-number i h =
+    let b = slotByte i in
+    let low = le→leb (byte "A") b (omega arith) in
+    let high = le→leb (suc b) (slotByte slotCount) (omega arith) in
+    and-intro (leb (byte "A") b) (leb (suc b) (slotByte slotCount)) low high
+
+pub slots-exact : SlotsExact
+slots-exact =
+    record {
+      named = slot-of-number;
+      number-of-byte = λ i. omega arith;
+      numbered = λ b h. omega (arith, slot-low b h, slot-high b h);
+      byte-of-number = λ b h. omega (arith, slot-low b h);
+    }

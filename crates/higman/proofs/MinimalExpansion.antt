@@ -1,13 +1,13 @@
 -- A reduced plan stands on the minimal expansion (document 004, Lemma 4.3). It is the normal form of whatever table acts alike, so it
 -- sends the from-words of that table whole. Of the table's to column only this is used, that no word of it is empty.
-use Prim.Native.Nat.{ℕ, suc, _+_, _≤_}
+use Prim.Native.Nat.{suc, _+_, _≤_}
 use mathlib.Core.Path.{_≡_, refl, sym, _∙_, ap, subst}
 use mathlib.Core.List.{[], _∷_, _++_, List·Memᴰ, Memᴰ·map, Memᴰ·of-map}
 use mathlib.Core.Option.{some, Option·some-injective}
 use native.Mathlib.Nat.{le-of-eq}
 use native.Mathlib.Omega.{arith}
 use lib.Dec.{T}
-use lib.ListN.{length, length-append}
+use lib.ListN.{length-append}
 use Rattle.higman.specs.Words.{Shape, Word}
 use Rattle.higman.specs.Bases.{longest}
 use Rattle.higman.specs.Tables.{Pair, Table, froms, image, longEnough}

@@ -11,7 +11,7 @@ use lib.ListN.{length, length-append}
 use Rattle.higman.specs.Words.{Shape, Word, isWord}
 use Rattle.higman.specs.Bases.{Basis, Column, all, overlap, gap}
 use Rattle.higman.specs.Tables.{Pair, Table, froms, tos, image, sameTable}
-use Rattle.higman.specs.Normal.{keep, compose, inverse, identity, power, Reduced, ordered}
+use Rattle.higman.specs.Normal.{keep, compose, inverse, power, Reduced, ordered}
 use Rattle.higman.specs.Limits.{Plan, Bases, Kept, shapeInRange, granted, isCode, maxCode}
 use Rattle.higman.specs.Answers.{Reason, Overlap, Gap, Verdict, Accepted, InFrom, InTo, fault, verdict, accepts, isTableOf, isKept, same, Alike, NotCompared, Comparison, sameShape, Route, Image, TooShort, NotRouted, routed}
 use Rattle.higman.specs.Theorems.{NormalForm, GroupActs, AnswersExact, ActAlike}

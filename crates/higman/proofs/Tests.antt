@@ -4,7 +4,7 @@ use Prim.Native.Nat.{ℕ, zero, suc, _+_, _≤_, _<_}
 use mathlib.Core.Path.{_≡_, refl, sym, _∙_, ap₂, subst}
 use mathlib.Core.Logic.{_⊎_, inl, inr}
 use mathlib.Core.Bool.{Bool, true, false, _&&_, _||_}
-use mathlib.Core.List.{List, [], _∷_, List·Memᴰ, List·Memᴰ·head, List·Memᴰ·tail, List·Memᴰ·cases-cons, List·Memᴰ·not-nil}
+use mathlib.Core.List.{List, [], _∷_, _++_, List·Memᴰ, List·Memᴰ·head, List·Memᴰ·tail, List·Memᴰ·cases-cons, List·Memᴰ·not-nil}
 use native.Mathlib.Omega.{arith}
 use lib.Dec.{T, leb, eqb, leb→le, le→leb, eqb→eq, eqb-refl}
 use borrow.Author.Tests.{eqb-true, eq-eqb}
@@ -219,3 +219,7 @@ same-table-refl (p ∷ t) =
     (sameTable t t)
     (and-intro (sameWord (p .from) (p .from)) (sameWord (p .to) (p .to)) (same-word-refl (p .from)) (same-word-refl (p .to)))
     (same-table-refl t)
+
+pub all-snoc : {A : Type 0} (f : A → Bool) (l : List A) (a : A) → T (all f l) → T (f a) → T (all f (l ++ (a ∷ [])))
+all-snoc f [] a h k = all-cons f a [] k tt
+all-snoc f (b ∷ l) a h k = all-cons f b (l ++ (a ∷ [])) (all-head f b l h) (all-snoc f l a (all-tail f b l h) k)

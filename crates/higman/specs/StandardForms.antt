@@ -1,9 +1,7 @@
 -- Higman's standard forms (document 004, Remark 3.3): the elements of V(n,r), each written in one way. Read Automorphisms.antt next.
-use Prim.Native.Nat.{ℕ}
 use mathlib.Core.Path.{_≡_, refl}
 use mathlib.Core.List.{[], _∷_, _++_}
-use lib.Dec.{T}
-use Rattle.higman.specs.Words.{Shape, isDigit, spell}
+use Rattle.higman.specs.Words.{Shape}
 use Rattle.higman.specs.Algebras.{Way, Code, spellCode}
 
 -- "(i) xα_i1 .. α_ik", a word of at least a belt, or "(ii) w_1 .. w_nλ", n trees under a λ

@@ -1,10 +1,10 @@
 -- Text as bytes: the letters and lines of document 01 written as they are read, and words as the digits that spell them. Every
 -- text here is plain ASCII, where a character's code is its byte. Read Bases.antt next.
-use Prim.Native.Nat.{ℕ, suc, _+_, _-_}
+use Prim.Native.Nat.{ℕ, suc, _+_, _*_, _-_}
 use Prim.Native.Char.{Char, code}
 use Prim.Native.String.{String, [] as empty, _∷_ as _before_}
 use mathlib.Core.Path.{_≡_, refl}
-use mathlib.Core.Bool.{true, false, _&&_}
+use mathlib.Core.Bool.{Bool, true, false, _&&_}
 use mathlib.Core.List.{List, [], _∷_, _++_, map}
 use lib.Dec.{leb}
 use Rattle.higman.specs.Words.{Word, spelled, spell}
@@ -42,6 +42,24 @@ wordBytes w = map digitByte w
 abbrev pub decimal : ℕ → Bytes
 decimal k = wordBytes (spelled (suc k) k)
 
+-- a byte from '0' to '9', and its value
+abbrev pub isNumeral : ℕ → Bool
+isNumeral b = leb (byte "0") b && leb b (byte "9")
+
+abbrev pub numeralValue : ℕ → ℕ
+numeralValue b = b - byte "0"
+
+-- the number that digits spell, behind the number that stands before them
+abbrev pub spelledOut : ℕ → Bytes → ℕ
+spelledOut n [] = n
+spelledOut n (b ∷ l) = spelledOut (n * 10 + numeralValue b) l
+
+-- "no leading zero": a number of several digits does not begin with 0
+abbrev pub noLeadingZero : Bytes → Bool
+noLeadingZero [] = false
+noLeadingZero (b ∷ []) = true
+noLeadingZero (b ∷ c ∷ l) = leb (byte "1") b
+
 -- "A code is a string of digits", 1 to 9: 0, which is no digit, for any byte but '1' to '9'.
 unfoldable pub digitOf : ℕ → ℕ
 digitOf b = elim (leb 49 b && leb b 57) [ true ↦ b - 48 | false ↦ 0 ]
@@ -61,6 +79,12 @@ wordBytes-example = refl
 
 decimal-example : map decimal (0 ∷ 10 ∷ 4_000_000_000 ∷ []) ≡ bytes "0" ∷ bytes "10" ∷ bytes "4000000000" ∷ []
 decimal-example = refl
+
+spelledOut-example : map (spelledOut 0) (bytes "0" ∷ bytes "1000" ∷ []) ≡ 0 ∷ 1000 ∷ []
+spelledOut-example = refl
+
+noLeadingZero-example : map noLeadingZero (bytes "0" ∷ bytes "10" ∷ bytes "01" ∷ bytes "" ∷ []) ≡ true ∷ true ∷ false ∷ false ∷ []
+noLeadingZero-example = refl
 
 -- bytes that are no digits from 1 to 9 give 0, a digit of no word
 wordOf-example : wordOf (bytes "1290/:A\t") ≡ 1 ∷ 2 ∷ 9 ∷ 0 ∷ 0 ∷ 0 ∷ 0 ∷ 0 ∷ []

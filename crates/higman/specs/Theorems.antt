@@ -1,7 +1,7 @@
 -- The statements. proofs/ has one term of each: ColumnIsBasis and BasisSize (what "accepted exactly when both columns are bases"
--- rests on), NormalForm, GroupActs, ResultsReduced, MinimalExpansion, AnswersExact, Demand3 and ListingFaithful. They hold for every
--- arity and number of roots.
-use Prim.Native.Nat.{ℕ, suc, _+_, _*_, _-_, _≤_}
+-- rests on), NormalForm, GroupActs, ResultsReduced, MinimalExpansion, AnswersExact, Demand3, ListingFaithful,
+-- SlotsExact and DecimalsExact. They hold for every arity and number of roots.
+use Prim.Native.Nat.{ℕ, suc, _+_, _*_, _-_, _≤_, _<_}
 use mathlib.Core.Path.{_≡_}
 use mathlib.Core.Logic.{_↔_}
 use mathlib.Core.Bool.{true, false}
@@ -11,13 +11,13 @@ use lib.Dec.{T, leb}
 use lib.ListN.{length}
 use lib.IntN.{ℤ, pos, negsuc, natAbs, _+ℤ_, _*ℤ_}
 use Rattle.higman.specs.Words.{Shape, Word, isWays, isWord}
-use Rattle.higman.specs.Text.{wordBytes, wordOf}
+use Rattle.higman.specs.Text.{wordBytes, isNumeral, spelledOut, noLeadingZero, decimal, wordOf}
 use Rattle.higman.specs.Bases.{Basis, Column, all}
 use Rattle.higman.specs.Tables.{Pair, Table, froms, tos, image, longEnough}
 use Rattle.higman.specs.Normal.{keep, andThen, times, compose, inverse, identity, repeated, power, Reduced, ordered, Joins}
-use Rattle.higman.specs.Limits.{Plan, Bases, Kept, shapeInRange, granted, isCode, maxPower}
+use Rattle.higman.specs.Limits.{Plan, Bases, Kept, shapeInRange, granted, isCode, maxPower, slotCount}
 use Rattle.higman.specs.Answers.{verdict, Accepted, isKept, Granted, Refused, LimitBroken, followed, inverted, powered, repeatable, identityPlan, same, Alike, routed, TooShort}
-use Rattle.higman.specs.Listing.{pairRecords, joinLines, listing}
+use Rattle.higman.specs.Listing.{slotNumber, slotByte, isSlot, pairRecords, joinLines, listing}
 
 -- A column is a basis exactly when its words are words of the shape, none begins or equals another and every belt is covered.
 abbrev pub ColumnIsBasis : Type 0
@@ -139,3 +139,16 @@ pub record ListingFaithful : Type 0 where
   pub records : (t u : Table) → (pairRecords t ≡ pairRecords u) ↔ (t ≡ u)
   pub lines : (t u : Table) → (joinLines (pairRecords t) ≡ joinLines (pairRecords u)) ↔ (t ≡ u)
   pub whole-listing : (slot : ℕ) (a b : Plan) → (listing slot a ≡ listing slot b) ↔ (a ≡ b)
+
+-- "slots A to H": letters and numbers below `slotCount`, one to one
+pub record SlotsExact : Type 0 where
+  pub named : (i : ℕ) → i < slotCount → T (isSlot (slotByte i))
+  pub number-of-byte : (i : ℕ) → slotNumber (slotByte i) ≡ i
+  pub numbered : (b : ℕ) → T (isSlot b) → slotNumber b < slotCount
+  pub byte-of-number : (b : ℕ) → T (isSlot b) → slotByte (slotNumber b) ≡ b
+
+-- a number in decimal: digits, "no leading zero", and the number that they spell
+pub record DecimalsExact : Type 0 where
+  pub numerals : (k : ℕ) → T (all isNumeral (decimal k))
+  pub no-leading-zero : (k : ℕ) → T (noLeadingZero (decimal k))
+  pub read-back : (k : ℕ) → spelledOut 0 (decimal k) ≡ k

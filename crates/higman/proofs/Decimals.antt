@@ -1,22 +1,17 @@
--- Numbers as digits: a number's decimal digits are numerals with no zero in front, they spell it, and no other such digits do. So
--- the forms of numbers in specs/Records.antt read exactly the decimal digits of numbers that are short enough.
-use Prim.Native.Nat.{ℕ, zero, suc, _+_, _*_, _-_, _/_, _%_, _≤_, _<_}
+-- Numbers as digits: a number's decimal digits are numerals with no zero in front, they spell it, and no other such digits do.
+use Prim.Native.Nat.{ℕ, zero, suc, _+_, _*_, _/_, _%_, _≤_, _<_}
 use native.Mathlib.Omega.{arith}
 use mathlib.Core.Path.{_≡_, refl, sym, _∙_, ap, subst}
 use mathlib.Core.Logic.{_⊎_, inl, inr}
-use mathlib.Core.Bool.{Bool, true, false, _&&_}
-use mathlib.Core.List.{List, [], _∷_, _++_, map-append, append-nil, append-assoc}
-use mathlib.Core.Option.{Option, none, some, Option·none-ne-some, Option·some-injective}
-use lib.Dec.{T, leb, eqb, leb→le, le→leb}
-use lib.IntN.{ℤ, pos, negsuc, natAbs}
-use lib.ListN.{length}
-use borrow.Author.Tests.{leb-true, leb-false, eqb-true, ne-eqb}
+use mathlib.Core.Bool.{true, false}
+use mathlib.Core.List.{[], _∷_, _++_, map-append, append-nil, append-assoc}
+use lib.Dec.{T, leb, leb→le, le→leb}
+use borrow.Author.Tests.{leb-true, leb-false}
 use Rattle.higman.specs.Words.{spelled}
 use Rattle.higman.specs.Bases.{all}
-use Rattle.higman.specs.Text.{Bytes, byte, digitByte, wordBytes, decimal}
-use Rattle.higman.proofs.Tests.{passes, so, T-of, and-left, and-right, and-intro, all-head, all-tail, all-cons}
-use Rattle.desk.specs.Records.{Form, isNumeral, numeralValue, spelledOut, noLeadingZero, numberField, signedField}
-use Rattle.desk.specs.Records.{positive, negative, signedDecimal, hasDigits}
+use Rattle.higman.specs.Text.{Bytes, byte, digitByte, wordBytes, isNumeral, numeralValue, spelledOut, noLeadingZero, decimal}
+use Rattle.higman.specs.Theorems.{DecimalsExact}
+use Rattle.higman.proofs.Tests.{passes, and-left, and-right, and-intro, all-head, all-tail, all-cons, all-snoc}
 
 -- A number is a digit, or a number over 0 and a digit behind it.
 module _ (P : ℕ → Type 0)
@@ -86,7 +81,7 @@ numeral-of-digit d h =
     let high = le→leb b (byte "9") (omega arith) in
     and-intro (leb (byte "0") b) (leb b (byte "9")) low high
 
-numeral-low : (b : ℕ) → T (isNumeral b) → byte "0" ≤ b
+pub numeral-low : (b : ℕ) → T (isNumeral b) → byte "0" ≤ b
 numeral-low b t = leb→le (byte "0") b (and-left (leb (byte "0") b) (leb b (byte "9")) t)
 
 numeral-high : (b : ℕ) → T (isNumeral b) → b ≤ byte "9"
@@ -97,10 +92,6 @@ digit-of-numeral b t = omega (arith, numeral-low b t, numeral-high b t)
 
 byte-of-numeral : (b : ℕ) → T (isNumeral b) → digitByte (numeralValue b) ≡ b
 byte-of-numeral b t = omega (arith, numeral-low b t)
-
-pub all-snoc : {A : Type 0} (f : A → Bool) (l : List A) (a : A) → T (all f l) → T (f a) → T (all f (l ++ (a ∷ [])))
-all-snoc f [] a h k = all-cons f a [] k tt
-all-snoc f (b ∷ l) a h k = all-cons f b (l ++ (a ∷ [])) (all-head f b l h) (all-snoc f l a (all-tail f b l h) k)
 
 spelledOut-snoc : (n : ℕ) (x : Bytes) (b : ℕ) → spelledOut n (x ++ (b ∷ [])) ≡ spelledOut n x * 10 + numeralValue b
 spelledOut-snoc n [] b = refl
@@ -162,101 +153,5 @@ decimal-unique (b ∷ c ∷ x) h z =
     decimal-of-spelledOut (spelledOut 0 (b ∷ [])) (c ∷ x) over-0 (all-tail isNumeral b (c ∷ x) h)
     ∙ ap (λ f. f ++ c ∷ x) (decimal-of-numeral b (all-head isNumeral b (c ∷ x) h))
 
--- A field form is exact for a way to write values: it reads every value that fits, and what it reads is a value that fits, written.
-pub record Written {A : Type 0} (written : A → Bytes) (fits : A → Bool) (f : Bytes) (a : A) : Type 0 where
-  pub own-text : f ≡ written a
-  pub fit : T (fits a)
-
-pub record ExactForm {A : Type 0} (form : Form A) (written : A → Bytes) (fits : A → Bool) : Type 0 where
-  pub reads : (a : A) → T (fits a) → form (written a) ≡ some a
-  pub only : (f : Bytes) (a : A) → form f ≡ some a → Written written fits f a
-
-module _ (m : ℕ) where
-  abbrev isNumber : Bytes → Bool
-  isNumber f = all isNumeral f && leb (length f) m && noLeadingZero f
-
-  record IsNumber (f : Bytes) : Type 0 where
-    numerals : T (all isNumeral f)
-    short : T (leb (length f) m)
-    no-leading-zero : T (noLeadingZero f)
-
-  test-of-number : (f : Bytes) → IsNumber f → T (isNumber f)
-  test-of-number f t =
-      let front = and-intro (all isNumeral f) (leb (length f) m) (t .numerals) (t .short) in
-      and-intro (all isNumeral f && leb (length f) m) (noLeadingZero f) front (t .no-leading-zero)
-
-  number-of-test : (f : Bytes) → T (isNumber f) → IsNumber f
-  number-of-test f t =
-      let front = and-left (all isNumeral f && leb (length f) m) (noLeadingZero f) t in
-      record {
-        numerals = and-left (all isNumeral f) (leb (length f) m) front;
-        short = and-right (all isNumeral f) (leb (length f) m) front;
-        no-leading-zero = and-right (all isNumeral f && leb (length f) m) (noLeadingZero f) t;
-      }
-
-  decimal-is-number : (n : ℕ) → T (hasDigits m n) → IsNumber (decimal n)
-  decimal-is-number n h = record { numerals = decimal-numerals n; short = h; no-leading-zero = decimal-no-leading-zero n }
-
-  number-read : (n : ℕ) → T (hasDigits m n) → numberField m (decimal n) ≡ some n
-  number-read n h =
-      rw (so (isNumber (decimal n)) (test-of-number (decimal n) (decimal-is-number n h)), numberField) (ap some (decimal-read-back n))
-
-  number-own-text : (f : Bytes) → IsNumber f → Written decimal (hasDigits m) f (spelledOut 0 f)
-  number-own-text f t =
-      let own = sym (decimal-unique f (t .numerals) (t .no-leading-zero)) in
-      record { own-text = own; fit = subst (λ x. T (leb (length x) m)) own (t .short) }
-
-  number-only : (f : Bytes) (n : ℕ) → numberField m f ≡ some n → Written decimal (hasDigits m) f n
-  number-only f n e = by-test (passes (isNumber f))
-    where
-      by-test : (isNumber f ≡ true) ⊎ (isNumber f ≡ false) → Written decimal (hasDigits m) f n
-      by-test (inl t) =
-          let spelt = Option·some-injective (spelledOut 0 f) n (rw (t, numberField) at e) in
-          subst (Written decimal (hasDigits m) f) spelt (number-own-text f (number-of-test f (T-of t)))
-      by-test (inr t) = absurd (Option·none-ne-some n (rw (t, numberField) at e))
-
-  pub number-exact : ExactForm (numberField m) decimal (hasDigits m)
-  number-exact = record { reads = number-read; only = number-only }
-
-  -- digits have no minus in front
-  signed-of-numerals : (f : Bytes) → T (all isNumeral f) → T (noLeadingZero f) → signedField m f ≡ positive (numberField m f)
-  signed-of-numerals [] h z = absurd z
-  signed-of-numerals (b ∷ f) h z = rw (ne-eqb b (byte "-") no-minus, signedField)
-    where
-      no-minus : b ≡ byte "-" → ⊥
-      no-minus e = omega (arith, numeral-low b (all-head isNumeral b f h))
-
-  signed-read : (k : ℤ) → T (hasDigits m (natAbs k)) → signedField m (signedDecimal k) ≡ some k
-  signed-read (pos k) h =
-      signed-of-numerals (decimal k) (decimal-numerals k) (decimal-no-leading-zero k) ∙ ap positive (number-read k h)
-  signed-read (negsuc k) h = ap negative (number-read (suc k) h)
-
-  abbrev WrittenSigned : Bytes → ℤ → Type 0
-  WrittenSigned f k = Written signedDecimal (λ i. hasDigits m (natAbs i)) f k
-
-  positive-only : (f : Bytes) (o : Option ℕ) (k : ℤ) → numberField m f ≡ o → positive o ≡ some k → WrittenSigned f k
-  positive-only f none k e p = absurd (Option·none-ne-some k p)
-  positive-only f (some n) k e p =
-      let digits = number-only f n e in
-      subst (WrittenSigned f) (Option·some-injective (pos n) k p) (record { own-text = digits .own-text; fit = digits .fit })
-
-  negative-only : (f : Bytes) (o : Option ℕ) (k : ℤ) → numberField m f ≡ o → negative o ≡ some k → WrittenSigned (byte "-" ∷ f) k
-  negative-only f none k e p = absurd (Option·none-ne-some k p)
-  negative-only f (some zero) k e p = absurd (Option·none-ne-some k p)
-  negative-only f (some (suc n)) k e p =
-      let digits = number-only f (suc n) e in
-      let own = ap (λ x. byte "-" ∷ x) (digits .own-text) in
-      subst (WrittenSigned (byte "-" ∷ f)) (Option·some-injective (negsuc n) k p) (record { own-text = own; fit = digits .fit })
-
-  signed-only : (f : Bytes) (k : ℤ) → signedField m f ≡ some k → WrittenSigned f k
-  signed-only [] k e = absurd (Option·none-ne-some k e)
-  signed-only (b ∷ f) k e = by-sign (passes (eqb b (byte "-")))
-    where
-      by-sign : (eqb b (byte "-") ≡ true) ⊎ (eqb b (byte "-") ≡ false) → WrittenSigned (b ∷ f) k
-      by-sign (inl t) =
-          let behind = negative-only f (numberField m f) k refl (rw (t, signedField) at e) in
-          subst (λ c. WrittenSigned (c ∷ f) k) (sym (eqb-true b (byte "-") t)) behind
-      by-sign (inr t) = positive-only (b ∷ f) (numberField m (b ∷ f)) k refl (rw (t, signedField) at e)
-
-  pub signed-exact : ExactForm (signedField m) signedDecimal (λ k. hasDigits m (natAbs k))
-  signed-exact = record { reads = signed-read; only = signed-only }
+pub decimals-exact : DecimalsExact
+decimals-exact = record { numerals = decimal-numerals; no-leading-zero = decimal-no-leading-zero; read-back = decimal-read-back }
