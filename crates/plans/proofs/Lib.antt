@@ -18,3 +18,7 @@ pub mod Signs
 pub mod Powered
 pub mod Codes
 pub mod Lists
+pub mod Handed
+pub mod Made
+pub mod ValueLaws
+pub mod Theorems

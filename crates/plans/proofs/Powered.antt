@@ -49,14 +49,14 @@ module _ (a : Plan) where
   raising-no-plan k h = sym (rw (h, raising))
 
   module _ (h : isPlan a ≡ true) where
-    raising-plan : (k : ℤ) → raising a k ≡ making (powered (planOf a) k)
+    pub raising-plan : (k : ℤ) → raising a k ≡ making (powered (planOf a) k)
     unfolding raising
     raising-plan k = rw (h, raising)
 
     pub raising-outside : (k : ℤ) → maxPower < natAbs k → refusing 12 ≡ raising a k
     raising-outside k l = sym (raising-plan k ∙ ap making (outside (planOf a) k (lt-leb (natAbs k) maxPower l)))
 
-    raising-within : (k : ℤ) → natAbs k ≤ maxPower → raising a k ≡ repeated (raised (shapeOf a) (repeatable (planOf a) k) (natAbs k)) (shapeOf a)
+    pub raising-within : (k : ℤ) → natAbs k ≤ maxPower → raising a k ≡ repeated (raised (shapeOf a) (repeatable (planOf a) k) (natAbs k)) (shapeOf a)
     raising-within k l =
         raising-plan k
         ∙ ap making (within (planOf a) k (le-leb (natAbs k) maxPower l))

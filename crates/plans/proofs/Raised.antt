@@ -51,7 +51,7 @@ abbrev IsGranted : Answer → Type 0
 IsGranted Granted = Unit {0}
 IsGranted (Refused n) = ⊥
 
-not-refused : (n : ℕ) → Granted ≡ Refused n → ⊥
+pub not-refused : (n : ℕ) → Granted ≡ Refused n → ⊥
 not-refused n e = subst IsGranted e tt
 
 module _ (a : Plan) (h : isPlan a ≡ true) where

@@ -1,15 +1,15 @@
--- The values that hold plans: a column of packed words with zeros behind, cleared step by step; and a value that holds a plan gives the
--- plan back.
-use Prim.Native.Nat.{ℕ, _+_, _-_, _≤_, _<_}
+-- The values that hold plans: their pairs by place; a column of packed words with zeros behind, cleared step by step; and a value that
+-- holds a plan gives the plan back.
+use Prim.Native.Nat.{ℕ, zero, suc, _+_, _-_, _≤_, _<_}
 use mathlib.Core.Path.{_≡_, refl, sym, _∙_, ap, ap₂}
 use mathlib.Core.Bool.{_&&_}
 use mathlib.Core.List.{List, [], _∷_, _++_, map, append-nil, append-assoc, List·Memᴰ, List·Memᴰ·head, List·Memᴰ·tail, Memᴰ·map}
 use native.Mathlib.Numerals.{add-one}
 use native.Mathlib.Omega.{arith}
 use lib.Dec.{T, leb, leb→le}
-use lib.ListN.{length, take, drop, set, replicate, length-map, replicate-append-replicate}
+use lib.ListN.{length, getD, take, drop, set, replicate, length-map, replicate-append-replicate}
 use lib.Seq.{length-take-le, take-at, take-suc-set}
-use Rattle.higman.specs.Words.{Shape, Word}
+use Rattle.higman.specs.Words.{Shape, Word, count}
 use Rattle.higman.specs.Tables.{Pair, Table, froms, tos}
 use Rattle.higman.specs.Normal.{keep}
 use Rattle.higman.specs.Limits.{maxPairs, shapeInRange}
@@ -22,9 +22,27 @@ use Rattle.higman.proofs.PlanWords.{ways-of-word}
 use Rattle.plans.specs.declared.Plan.{Plan}
 use Rattle.columns.specs.Packed.{wordsOf, table, rows}
 use Rattle.plans.specs.Plans.{rowsOf, zeros, inTable, column, packed}
+use Rattle.plans.specs.Theorems.{pairAt}
 use Rattle.plans.specs.Keeping.{KeptColumns}
 use Rattle.columns.proofs.Rearranged.{froms-table, tos-table}
-use Rattle.columns.proofs.Rows.{rows-length}
+use Rattle.columns.proofs.Rows.{pairOf, rows-length}
+
+-- the pairs of two columns by their places
+count-shifted : {A : Type 0} (g : ℕ → A) (a m : ℕ) → map g (count (suc a) m) ≡ map (λ i. g (suc i)) (count a m)
+count-shifted g a zero = refl
+count-shifted g a (suc m) = ap (λ l. g (suc a) ∷ l) (count-shifted g (suc a) m)
+
+rows-by-place : (n : ℕ) (f t : List ℕ) → n ≤ length f → n ≤ length t → rows n f t ≡ map (λ i. pairOf (getD f i 0) (getD t i 0)) (count 0 n)
+rows-by-place zero f t h k = refl
+rows-by-place (suc n) [] t h k = absurd (omega arith)
+rows-by-place (suc n) (x ∷ f) [] h k = absurd (omega arith)
+rows-by-place (suc n) (x ∷ f) (y ∷ t) h k =
+    ap (λ l. pairOf x y ∷ l)
+    (rows-by-place n f t (omega arith) (omega arith) ∙ sym (count-shifted (λ i. pairOf (getD (x ∷ f) i 0) (getD (y ∷ t) i 0)) 0 n))
+
+-- the pairs that a value holds stand at its first places, from-words in the one column and to-words in the other
+pub pairs-by-place : (p : Plan) → p .pairs ≤ length (p .from) → p .pairs ≤ length (p .to) → rowsOf p ≡ map (pairAt p) (count 0 (p .pairs))
+pairs-by-place p h k = rows-by-place (p .pairs) (p .from) (p .to) h k
 
 -- a column is cleared from a place on, and one place further
 pub cleared-none : (place : ℕ) (l : List ℕ) → take place l ≡ take place l ++ replicate (place - place) 0

@@ -151,7 +151,7 @@ judgementColumn-example : map judgementColumn (Accepted ∷ InFrom Overlap ∷ I
 judgementColumn-example = refl
 
 -- a value of shape (2,1), for examples
-abbrev value21 : Table → Plan
+abbrev pub value21 : Table → Plan
 value21 t = packed (record { shape = shape 2 1; rows = t })
 
 -- "11→11, 12→12 is kept as 1→1, one pair"; "to column 1, 11: 6, T"; no draft

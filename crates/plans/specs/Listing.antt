@@ -1,5 +1,5 @@
--- The listing of a plan for a slot: what the call answers and leaves in the lent buffer. 15 comes first, and 14 last. What is left
--- of this folder is what the functions beneath the public calls promise.
+-- The listing of a plan for a slot: what the call answers and leaves in the lent buffer. 15 comes first, and 14 last. Read
+-- Theorems.antt next.
 use Prim.Native.Nat.{ℕ}
 use mathlib.Core.Path.{_≡_, refl}
 use mathlib.Core.Bool.{Bool, true, false, _&&_}
