@@ -14,7 +14,7 @@ use borrow.Author.Tests.{eq-eqb}
 use Rattle.higman.specs.Words.{Word, spelled}
 use Rattle.higman.specs.Text.{tab, lineEnd, digitByte, wordBytes, Bytes, bytes, decimal, wordOf}
 use Rattle.higman.specs.Limits.{Plan, shapeInRange, isPlanWord, maxPairs, maxPower}
-use Rattle.higman.specs.Refusals.{noRecord, wrongState, shapeOutside, badWord, pairsFull, wordsOverlap, rootUncovered, slotOutside, slotEmpty, shapesDiffer, limitBroken, powerOutside, codeTooShort, countFull, Letter}
+use Rattle.higman.specs.Refusals.{noRecord, wrongState, shapeOutside, badWord, pairsFull, slotOutside, slotEmpty, powerOutside, countFull, Letter}
 use Rattle.higman.specs.Answers as Answers
 use Rattle.higman.specs.Answers.{Overlap, Gap, Verdict, Accepted, InFrom, InTo, verdict, Refusal, BadCode, ShapesDiffer, LimitBroken, PowerOutside, refusalNumber, Answer, Granted, followed, inverted, powered, Comparison, Alike, NotCompared, same, Route, Image, TooShort, NotRouted, routed}
 use Rattle.higman.specs.Listing.{slotNumber}
@@ -25,7 +25,7 @@ use Rattle.desk.specs.Records.{Record, P, M, E, F, I, K, S, W, L, C, T a
 use Rattle.desk.specs.Replies.{Outcome, refuse, pass, _>>=_, Effect, openAmiss, outside, atLimit, openPlan, planIn, ofVerdict, ofAnswer, ofComparison, ofRoute, settle, job, operation, recordOf, lineOperation, respondLine, _when_}
 use Rattle.desk.specs.Bytes.{Order, columnField, replyBytes}
 use Rattle.desk.specs.Conditions.{refusalOf}
-use Rattle.desk.specs.Demands.{refusalNumbers, Done, Refused, Demand1}
+use Rattle.desk.specs.Demands.{operationNumbers, refusalNumbers, Done, Refused, Demand1}
 use Rattle.desk.proofs.Outcomes.{refusal-drops}
 use Rattle.desk.proofs.Stays.{desk-stays}
 use Rattle.desk.proofs.Desks.{desk-test}
@@ -46,27 +46,9 @@ mem-of-among n (m ∷ l) e = go (or-cases (eqb n m) (among n l) e) (λ k. mem-of
     go (inl h) rest = List·Memᴰ·head (eqb→eq n m (T-of h))
     go (inr h) rest = List·Memᴰ·tail (rest h)
 
--- the numbers of operations: all but 1
-laterNumbers : List ℕ
-laterNumbers =
-    wrongState ∷
-    shapeOutside ∷
-    badWord ∷
-    pairsFull ∷
-    wordsOverlap ∷
-    rootUncovered ∷
-    slotOutside ∷
-    slotEmpty ∷
-    shapesDiffer ∷
-    limitBroken ∷
-    powerOutside ∷
-    codeTooShort ∷
-    countFull ∷
-    []
-
--- an outcome is refused with a later number or not at all
+-- an outcome is refused with a number of operations or not at all
 data Numbered {A : Type 0} : Outcome A → Type 0 where
-  numbered-refusal : {n : ℕ} {c : Option Letter} → T (among n laterNumbers) → Numbered (refuse n c)
+  numbered-refusal : {n : ℕ} {c : Option Letter} → T (among n operationNumbers) → Numbered (refuse n c)
   no-refusal : {a : A} → Numbered (pass a)
 
 numbered-then : {A B : Type 0} {o : Outcome A} {f : A → Outcome B} → Numbered o → ((a : A) → Numbered (f a)) → Numbered (o >>= f)
@@ -74,12 +56,12 @@ unfolding _>>=_
 numbered-then (numbered-refusal h) k = numbered-refusal h
 numbered-then (no-refusal {a}) k = k a
 
-numbered-test : (n : ℕ) (b : Bool) → T (among n laterNumbers) → Numbered (n when b)
+numbered-test : (n : ℕ) (b : Bool) → T (among n operationNumbers) → Numbered (n when b)
 numbered-test n true h = numbered-refusal h
 numbered-test n false h = no-refusal
 
 numbered-open : (d : Desk) → Numbered (openPlan d)
-unfolding among laterNumbers
+unfolding among operationNumbers
 numbered-open d = by-draft (d .draft)
   where
     by-draft : (x : Option Draft) → Numbered {A = Draft} (elim x as (λ _. Outcome Draft) [ none ↦ refuse wrongState none | some o ↦ pass o ])
@@ -87,7 +69,7 @@ numbered-open d = by-draft (d .draft)
     by-draft (some o) = no-refusal
 
 numbered-plan : (d : Desk) (a : ℕ) → Numbered (planIn d a)
-unfolding among laterNumbers
+unfolding among operationNumbers
 numbered-plan d a = by-content (held d (slotNumber a))
   where
     by-content : (x : Option Plan) → Numbered {A = Plan} (elim x as (λ _. Outcome Plan) [ none ↦ refuse slotEmpty none | some p ↦ pass p ])
@@ -96,15 +78,15 @@ numbered-plan d a = by-content (held d (slotNumber a))
 
 -- the answers about plans
 numbered-verdict : (v : Verdict) → Numbered (ofVerdict v)
-unfolding among laterNumbers
+unfolding among operationNumbers
 numbered-verdict Accepted = no-refusal
 numbered-verdict (InFrom Overlap) = numbered-refusal tt
 numbered-verdict (InFrom Gap) = numbered-refusal tt
 numbered-verdict (InTo Overlap) = numbered-refusal tt
 numbered-verdict (InTo Gap) = numbered-refusal tt
 
-refusal-among : (r : Refusal) → T (among (refusalNumber r) laterNumbers)
-unfolding among laterNumbers
+refusal-among : (r : Refusal) → T (among (refusalNumber r) operationNumbers)
+unfolding among operationNumbers
 refusal-among BadCode = tt
 refusal-among ShapesDiffer = tt
 refusal-among LimitBroken = tt
@@ -119,13 +101,13 @@ numbered-comparison (Alike b) = no-refusal
 numbered-comparison (NotCompared r) = numbered-refusal (refusal-among r)
 
 numbered-route : (r : Route) → Numbered (ofRoute r)
-unfolding among laterNumbers
+unfolding among operationNumbers
 numbered-route (Image w) = no-refusal
 numbered-route TooShort = numbered-refusal tt
 numbered-route (NotRouted r) = numbered-refusal (refusal-among r)
 
 job-numbered : (d : Desk) (r : Record) → Numbered (job d r)
-unfolding job among laterNumbers
+unfolding job among operationNumbers
 job-numbered d (P a n r) = numbered-then (numbered-test shapeOutside (not (shapeInRange (record { arity = n; roots = r }))) tt) (λ _. no-refusal)
 job-numbered d (M from to) =
     numbered-then (numbered-open d) (λ o. numbered-then
@@ -146,19 +128,19 @@ job-numbered d Tᴿ = no-refusal
 job-numbered d U = no-refusal
 
 numbered-operation : (d : Desk) (r : Record) → Numbered (operation d r)
-unfolding operation among laterNumbers
+unfolding operation among operationNumbers
 numbered-operation d r =
     numbered-then (numbered-test wrongState (openAmiss d r) tt) (λ _. numbered-then
     (numbered-test slotOutside (outside (slotsNamed r)) tt) (λ _. numbered-then (job-numbered d r)
     (λ e. numbered-then (numbered-test countFull (isChange r && atLimit d) tt) (λ _. no-refusal))))
 
-operation-numbered : (d : Desk) (r : Record) (n : ℕ) (c : Option Letter) → operation d r ≡ refuse n c → List·Memᴰ n laterNumbers
+operation-numbered : (d : Desk) (r : Record) (n : ℕ) (c : Option Letter) → operation d r ≡ refuse n c → List·Memᴰ n operationNumbers
 operation-numbered d r n c e = by-outcome (operation d r) (numbered-operation d r) e
   where
-    by-outcome : (o : Outcome Effect) → Numbered o → o ≡ refuse n c → List·Memᴰ n laterNumbers
+    by-outcome : (o : Outcome Effect) → Numbered o → o ≡ refuse n c → List·Memᴰ n operationNumbers
     by-outcome (refuse m b) (numbered-refusal h) e =
         let same : m ≡ n = ap (λ p. p .0) (Option·some-injective _ _ (ap refusalOf e)) in
-        subst (λ k. List·Memᴰ k laterNumbers) same (mem-of-among m laterNumbers (so (among m laterNumbers) h))
+        subst (λ k. List·Memᴰ k operationNumbers) same (mem-of-among m operationNumbers (so (among m operationNumbers) h))
     by-outcome (pass x) h e = absurd (Option·none-ne-some _ (ap refusalOf e))
 
 -- the bytes of a field
@@ -229,33 +211,33 @@ record-line : (d : Desk) (line : Bytes) (r : Record) → recordOf line ≡ pass 
 unfolding lineOperation _>>=_
 record-line d line r e = ap (λ o. o >>= operation d) e
 
--- 1 where the line is no record, a later number where the record's operation is refused
-line-cases : (d : Desk) (line : Bytes) (n : ℕ) (c : Option Letter) → lineOperation d line ≡ refuse n c → ((n ≡ noRecord) × (recordOf line ≡ refuse n c)) ⊎ List·Memᴰ n laterNumbers
+-- 1 where the line is no record, another number where the record's operation is refused
+line-cases : (d : Desk) (line : Bytes) (n : ℕ) (c : Option Letter) → lineOperation d line ≡ refuse n c → ((n ≡ noRecord) × (recordOf line ≡ refuse n c)) ⊎ List·Memᴰ n operationNumbers
 line-cases d line n c e = go (record-cases line)
   where
     first : _≡_ {A = Outcome Effect} (refuse noRecord none) (refuse n c) → (n ≡ noRecord) × (_≡_ {A = Outcome Record} (refuse noRecord none) (refuse n c))
     first h = let p = Option·some-injective _ _ (ap refusalOf h) in (sym (ap (λ x. x .0) p), ap (λ x. refuse (x .0) (x .1)) p)
 
-    go : (recordOf line ≡ refuse noRecord none) ⊎ ((r : Record) × (recordOf line ≡ pass r)) → ((n ≡ noRecord) × (recordOf line ≡ refuse n c)) ⊎ List·Memᴰ n laterNumbers
+    go : (recordOf line ≡ refuse noRecord none) ⊎ ((r : Record) × (recordOf line ≡ pass r)) → ((n ≡ noRecord) × (recordOf line ≡ refuse n c)) ⊎ List·Memᴰ n operationNumbers
     go (inl h) = let (p, q) = first (sym (no-record-line d line noRecord none h) ∙ e) in inl (p, h ∙ q)
     go (inr (r, h)) = inr (operation-numbered d r n c (sym (record-line d line r h) ∙ e))
 
-not-later : (n : ℕ) → n ≡ noRecord → List·Memᴰ n laterNumbers → ⊥
-unfolding among laterNumbers
-not-later n e m = clash (among-of-mem n laterNumbers m) (ap (λ k. among k laterNumbers) e)
+not-later : (n : ℕ) → n ≡ noRecord → List·Memᴰ n operationNumbers → ⊥
+unfolding among operationNumbers
+not-later n e m = clash (among-of-mem n operationNumbers m) (ap (λ k. among k operationNumbers) e)
 
 no-record : (d : Desk) (line : Bytes) (c : Option Letter) → (lineOperation d line ≡ refuse noRecord c) ↔ (recordOf line ≡ refuse noRecord c)
 no-record d line c = (λ e. go (line-cases d line noRecord c e), no-record-line d line noRecord c)
   where
-    go : (_≡_ {A = ℕ} noRecord noRecord × (recordOf line ≡ refuse noRecord c)) ⊎ List·Memᴰ noRecord laterNumbers → recordOf line ≡ refuse noRecord c
+    go : (_≡_ {A = ℕ} noRecord noRecord × (recordOf line ≡ refuse noRecord c)) ⊎ List·Memᴰ noRecord operationNumbers → recordOf line ≡ refuse noRecord c
     go (inl (p, q)) = q
     go (inr m) = absurd (not-later noRecord refl m)
 
 numbered : (d : Desk) (line : Bytes) (n : ℕ) (c : Option Letter) → lineOperation d line ≡ refuse n c → List·Memᴰ n refusalNumbers
-unfolding refusalNumbers laterNumbers
+unfolding refusalNumbers operationNumbers
 numbered d line n c e = go (line-cases d line n c e)
   where
-    go : ((n ≡ noRecord) × (recordOf line ≡ refuse n c)) ⊎ List·Memᴰ n laterNumbers → List·Memᴰ n refusalNumbers
+    go : ((n ≡ noRecord) × (recordOf line ≡ refuse n c)) ⊎ List·Memᴰ n operationNumbers → List·Memᴰ n refusalNumbers
     go (inl (p, q)) = List·Memᴰ·head p
     go (inr m) = List·Memᴰ·tail m
 

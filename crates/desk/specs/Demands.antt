@@ -27,10 +27,9 @@ use Rattle.desk.specs.Conditions.{conditions, firstOf, refusalOf}
 use Rattle.desk.specs.Theorems.{RefusalDrops, DeskStays, DeskTest, SurveyExact, FedInPieces, SessionFed, TypedIn, AcceptedFromLines, ListingReadBack, CallsExact}
 use Rattle.desk.specs.Grammar.{TextExact}
 
--- the numbers that a record may be refused with; 14 and 15 are of library calls
-unfoldable pub refusalNumbers : List ℕ
-refusalNumbers =
-    noRecord ∷
+-- the numbers that the operation of a record may be refused with; 14 and 15 are of library calls
+unfoldable pub operationNumbers : List ℕ
+operationNumbers =
     wrongState ∷
     shapeOutside ∷
     badWord ∷
@@ -45,6 +44,10 @@ refusalNumbers =
     codeTooShort ∷
     countFull ∷
     []
+
+-- and those of a line, which may be no record
+unfoldable pub refusalNumbers : List ℕ
+refusalNumbers = noRecord ∷ operationNumbers
 
 -- a line's job is done, with this effect
 abbrev pub Done : Desk → Bytes → Type 0
