@@ -1,22 +1,26 @@
--- Search in a sorted column: the turns of the binary search for the place that parts the column at a word w, and what the word
--- before that place says. It begins w if a word of a column without overlap does.
+-- Search in a sorted column: the turns of the binary search for the place that parts the column at a word w, what `placeIn` says of the
+-- words of a column, and that the word before the parting begins w if a word of a column without overlap does.
 use Prim.Native.Nat.{ℕ, zero, suc, _+_, _-_, _≤_, _<_}
-use mathlib.Core.Path.{_≡_, _∙_, ap, subst}
+use mathlib.Core.Path.{_≡_, sym, _∙_, ap, subst}
 use mathlib.Core.Logic.{_⊎_, inl, inr, ⊎-elim}
 use mathlib.Core.Bool.{true, false, _||_}
 use mathlib.Core.List.{List, [], _∷_, List·Memᴰ, List·Memᴰ·cases-cons, List·Memᴰ·not-nil}
+use mathlib.Core.Option.{Option, Option·getD}
 use native.Mathlib.Omega.{arith}
 use lib.Dec.{ltb}
-use lib.ListN.{length}
+use lib.ListN.{length, length-map}
 use borrow.Author.Tests.{ltb-true, ltb-false}
 use Rattle.higman.specs.Words.{Word, begins}
 use Rattle.higman.specs.Bases.{meets, overlap}
+use Rattle.higman.specs.Tables.{firstMatch}
 use Rattle.higman.proofs.Tests.{passes, clash, or-left-false, or-right-false}
+use Rattle.higman.proofs.Matches.{FirstAt, first-place, match-found, match-nowhere, match-map}
 use Rattle.words.specs.Packed.{unpack}
+use Rattle.words.proofs.Codes.{after-drop}
 use Rattle.columns.specs.Packed.{wordsOf, inOrder, sorted}
-use Rattle.columns.specs.Columns.{wordAt, PartedAt, BegunAt}
+use Rattle.columns.specs.Columns.{wordAt, PartedAt, placeIn}
 use Rattle.columns.proofs.InOrder.{InOrder, in-order-of-test, test-of-in-order, in-order-of-begins, in-order-trans, begins-between}
-use Rattle.columns.proofs.Places.{mem-at, place-of, sorted-at}
+use Rattle.columns.proofs.Places.{mem-at, sorted-at}
 
 -- low and high bracket the place: all before low is in order with w, and nothing from high on
 pub record Bracket (column : List ℕ) (w low high : ℕ) : Type 0 where
@@ -95,31 +99,73 @@ apart-at (x ∷ column) o zero (suc k) h l =
 apart-at (x ∷ column) o (suc j) (suc k) h l =
     apart-at column (or-right-false (meets (unpack x) (wordsOf column)) (overlap (wordsOf column)) o) j k (omega arith) (omega arith)
 
-module _ (column : List ℕ) (s : sorted (wordsOf column) ≡ true) (o : overlap (wordsOf column) ≡ false) (w r : ℕ) (p : PartedAt column w r) where
-  -- a word that begins w stands before the place that parts the column at w, and it is the last one there
-  begun-last : (u : Word) → List·Memᴰ u (wordsOf column) → begins u (unpack w) ≡ true → (0 < r) × (u ≡ wordAt column (r - 1))
-  begun-last u m b =
-      let (k, l, e) = place-of column u m in
-      let b′ = subst (λ v. begins v (unpack w) ≡ true) e b in
-      let h = before-parting column s w r p k l (in-order-of-begins (wordAt column k) (unpack w) b′) in
-      go k h e b′ (passes (ltb k (r - 1)))
-    where
-      go : (k : ℕ) → k < r → u ≡ wordAt column k → begins (wordAt column k) (unpack w) ≡ true → (ltb k (r - 1) ≡ true) ⊎ (ltb k (r - 1) ≡ false) → (0 < r) × (u ≡ wordAt column (r - 1))
-      go k h e b′ (inl t) =
-          let last = in-order-of-test (wordAt column (r - 1)) (unpack w) (p .front (r - 1) (omega arith)) in
-          let begun = begins-between (wordAt column k) (wordAt column (r - 1)) (unpack w) (up-to-last column s w r p k h) last b′ in
-          absurd (clash begun (apart-at column o k (r - 1) (ltb-true k (r - 1) t) (omega (arith, p .within))))
-      go k h e b′ (inr f) =
-          let same : k ≡ r - 1 = omega (arith, ltb-false k (r - 1) f) in
-          (omega arith, e ∙ ap (wordAt column) same)
+-- r is the place of the first word of a packed column that begins w, or the length of the column where none does
+abbrev pub FirstIn : List ℕ → Word → ℕ → Type 0
+FirstIn column w r = FirstAt unpack 0 column w r
 
-  pub begun-found : 0 < r → begins (wordAt column (r - 1)) (unpack w) ≡ true → BegunAt column w (r - 1)
+-- `placeIn` is that place, and only that place is `placeIn`
+pub place-of-first : (column : List ℕ) (w : Word) (r : ℕ) → FirstIn column w r → r ≡ placeIn (wordsOf column) w
+unfolding placeIn
+place-of-first column w r f = by-end (passes (ltb r (length column)))
+  where
+    search : firstMatch (λ u. u) (λ place u tail. place) (wordsOf column) w ≡ firstMatch unpack (λ place x tail. place) column w
+    search = match-map (λ u. u) unpack (λ place u tail. place) column w
+
+    or-length : Option ℕ → ℕ
+    or-length o = Option·getD o (length (wordsOf column))
+
+    by-end : (ltb r (length column) ≡ true) ⊎ (ltb r (length column) ≡ false) → r ≡ placeIn (wordsOf column) w
+    by-end (inl t) =
+        let h = ltb-true r (length column) t in
+        let tail = after-drop (wordAt column r) w (f .found h) in
+        sym (ap or-length (search ∙ match-found unpack 0 (λ place x tail. place) column w r f h _ tail))
+    by-end (inr t) =
+        let e : r ≡ length column = omega (arith, f .within, ltb-false r (length column) t) in
+        e ∙ sym (length-map column unpack) ∙ sym (ap or-length (search ∙ match-nowhere unpack 0 (λ place x tail. place) column w r f e))
+
+pub first-of-place : (column : List ℕ) (w : Word) (r : ℕ) → r ≡ placeIn (wordsOf column) w → FirstIn column w r
+first-of-place column w r e =
+    let (k, f) = first-place unpack 0 column w in
+    subst (FirstIn column w) (place-of-first column w k f ∙ sym e) f
+
+module _
+    (column : List ℕ)
+    (s : sorted (wordsOf column) ≡ true)
+    (o : overlap (wordsOf column) ≡ false)
+    (w r : ℕ)
+    (p : PartedAt column w r) where
+  -- only the last word before the place that parts the column at w may begin w
+  begun-last : (k : ℕ) → k < length column → begins (wordAt column k) (unpack w) ≡ true → suc k ≡ r
+  begun-last k l b = by-place (passes (ltb k (r - 1)))
+    where
+      h : k < r
+      h = before-parting column s w r p k l (in-order-of-begins (wordAt column k) (unpack w) b)
+
+      by-place : (ltb k (r - 1) ≡ true) ⊎ (ltb k (r - 1) ≡ false) → suc k ≡ r
+      by-place (inl t) =
+          let last = in-order-of-test (wordAt column (r - 1)) (unpack w) (p .front (r - 1) (omega (arith, h))) in
+          let begun = begins-between (wordAt column k) (wordAt column (r - 1)) (unpack w) (up-to-last column s w r p k h) last b in
+          absurd (clash begun (apart-at column o k (r - 1) (ltb-true k (r - 1) t) (omega (arith, h, p .within))))
+      by-place (inr f) = omega (arith, h, ltb-false k (r - 1) f)
+
+  unbegun : (k : ℕ) → k < length column → (suc k ≡ r → begins (wordAt column k) (unpack w) ≡ false)
+      → begins (wordAt column k) (unpack w) ≡ false
+  unbegun k l f = ⊎-elim (λ t. f (begun-last k l t)) (λ n. n) (passes (begins (wordAt column k) (unpack w)))
+
+  pub begun-found : 0 < r → begins (wordAt column (r - 1)) (unpack w) ≡ true → r - 1 ≡ placeIn (wordsOf column) (unpack w)
   begun-found h b =
-      record { within = omega (arith, p .within); found = λ l. b; none = λ e. absurd (omega (arith, p .within)) }
+      place-of-first column (unpack w) (r - 1)
+      record {
+        within = omega (arith, p .within);
+        earlier = λ j l. unbegun j (omega (arith, p .within)) (λ e. absurd (omega arith));
+        found = λ l. b;
+      }
 
-  pub begun-nowhere : (0 < r → begins (wordAt column (r - 1)) (unpack w) ≡ false) → BegunAt column w (length column)
-  begun-nowhere f = record { within = omega arith; found = λ l. absurd (omega arith); none = λ e u m. go u m (passes (begins u (unpack w))) }
-    where
-      go : (u : Word) → List·Memᴰ u (wordsOf column) → (begins u (unpack w) ≡ true) ⊎ (begins u (unpack w) ≡ false) → begins u (unpack w) ≡ false
-      go u m (inl t) = let (h, e) = begun-last u m t in ap (λ v. begins v (unpack w)) e ∙ f h
-      go u m (inr n) = n
+  pub begun-nowhere : (0 < r → begins (wordAt column (r - 1)) (unpack w) ≡ false) → length column ≡ placeIn (wordsOf column) (unpack w)
+  begun-nowhere f =
+      place-of-first column (unpack w) (length column)
+      record {
+        within = omega arith;
+        earlier = λ j l. unbegun j l (λ e. ap (λ k. begins (wordAt column k) (unpack w)) (omega arith) ∙ f (omega arith));
+        found = λ l. absurd (omega arith);
+      }

@@ -4,11 +4,13 @@ use Prim.Native.Nat.{ℕ, zero, suc, _+_, _-_, _≤_, _<_}
 use mathlib.Core.Path.{_≡_, refl}
 use mathlib.Core.Logic.{_⊎_, inr}
 use mathlib.Core.Bool.{Bool, true, false}
-use mathlib.Core.List.{List, [], _∷_, map, List·Memᴰ}
+use mathlib.Core.List.{List, [], _∷_, map}
+use mathlib.Core.Option.{Option·getD}
 use native.Mathlib.Omega.{arith}
 use lib.ListN.{length, getD}
 use Rattle.higman.specs.Words.{Word, count, begins, child, spell}
 use Rattle.higman.specs.Bases.{all, covered}
+use Rattle.higman.specs.Tables.{firstMatch}
 use Rattle.higman.specs.Normal.{before}
 use Rattle.words.specs.Packed.{unpackIn, unpack}
 use Rattle.columns.specs.Packed.{wordsOf, inOrder}
@@ -25,11 +27,9 @@ pub record PartedAt (column : List ℕ) (w r : ℕ) : Type 0 where
   pub front : (k : ℕ) → k < r → inOrder (wordAt column k) (unpack w) ≡ true
   pub back : (k : ℕ) → r ≤ k → k < length column → inOrder (wordAt column k) (unpack w) ≡ false
 
--- r is the place of the word that begins w, or the length of the column where no word of it does.
-pub record BegunAt (column : List ℕ) (w r : ℕ) : Type 0 where
-  pub within : r ≤ length column
-  pub found : r < length column → begins (wordAt column r) (unpack w) ≡ true
-  pub none : r ≡ length column → (u : Word) → List·Memᴰ u (wordsOf column) → begins u (unpack w) ≡ false
+-- The place of the first word of a column that begins w, counted from 0, or the length of the column where no word of it does.
+unfoldable pub placeIn : List Word → Word → ℕ
+placeIn c w = Option·getD (firstMatch (λ u. u) (λ place u tail. place) c w) (length c)
 
 -- The words before the place r stand before the block w.
 pub record AtBlock (column : List ℕ) (w : Word) (r : ℕ) : Type 0 where
@@ -54,6 +54,11 @@ Walked column w c Gap = c ≡ false
 -- "To cover the parts is to cover way 1 and then the ways after it": the ways from the i-th to the n-th, looked at d ways below them.
 abbrev pub coveredFrom : ℕ → List Word → ℕ → Word → ℕ → Bool
 coveredFrom n c d w i = all (λ j. covered n c d (child w j)) (count i (n + 1 - i))
+
+-- 12 begins 1211; nothing begins 21
+placeIn-example : map (placeIn (spell 11 ∷ spell 12 ∷ [])) (spell 1211 ∷ spell 21 ∷ []) ≡ 1 ∷ 2 ∷ []
+unfolding placeIn
+placeIn-example = refl
 
 -- of the block 12 the first way is covered and the second is not; behind the last there is nothing to cover
 coveredFrom-example : map (λ i. coveredFrom 2 (spell 11 ∷ spell 121 ∷ []) 1 (spell 12) i) (1 ∷ 2 ∷ 3 ∷ []) ≡ false ∷ false ∷ true ∷ []

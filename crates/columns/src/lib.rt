@@ -11,7 +11,7 @@ ghost use Rattle.higman.specs.Limits.{maxDigits};
 ghost use Rattle.words.specs.Packed.{unpack};
 ghost use Rattle.words.specs.Bytes.{shape};
 ghost use Rattle.columns.specs.Packed.{wordsOf, inOrder, sorted};
-ghost use Rattle.columns.specs.Columns.{PartedAt, BegunAt, AtBlock, Reached, coveredFrom, Walked};
+ghost use Rattle.columns.specs.Columns.{PartedAt, placeIn, AtBlock, Reached, coveredFrom, Walked};
 
 pub mod sorting;
 
@@ -55,7 +55,7 @@ pub fn first_after(column: &[u64], w: u64) -> usize
 pub fn begun_by(column: &[u64], w: u64) -> usize
     requires { ⌜ sorted (wordsOf (now column)) ≡ true ⌝ }
     requires { ⌜ overlap (wordsOf (now column)) ≡ false ⌝ }
-    ensures { λ r. ⌜ BegunAt (now (column .entry)) w r ⌝ }
+    ensures { λ r. ⌜ r ≡ placeIn (wordsOf (now (column .entry))) (unpack w) ⌝ }
 {
     let end = first_after(column, w);
     if end == 0 {

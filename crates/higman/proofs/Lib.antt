@@ -7,6 +7,7 @@ pub mod Decimals
 pub mod Prefixes
 pub mod Blocks
 pub mod Proper
+pub mod Matches
 pub mod Images
 pub mod Maps
 pub mod Actions

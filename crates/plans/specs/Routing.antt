@@ -71,7 +71,8 @@ value = packed (record { shape = shape 2 1; rows = ψ })
 
 -- 1122 behind 112; 13, which has a wrong digit; 1122 by what is no plan
 matching-example : (matching value (49 ∷ 49 ∷ 50 ∷ 50 ∷ []) ≡ 50 ∷ []) × (matching value (49 ∷ 51 ∷ []) ≡ 49 ∷ 51 ∷ []) × (matching blank (49 ∷ 49 ∷ 50 ∷ 50 ∷ []) ≡ 49 ∷ 49 ∷ 50 ∷ 50 ∷ [])
-unfolding matched isPlan inTable Of.isKept isCode maxCode shapeInRange granted maxPairs maxDigits Of.verdict keep normalForm normal joined packed blank pack packOn unpack unpackIn digitOf
+unfolding matched matchedDigits isPlan inTable Of.isKept isCode maxCode shapeInRange granted maxPairs maxDigits Of.verdict
+    keep normalForm normal joined packed blank pack packOn unpack unpackIn digitOf
 matching-example = (refl, refl, refl)
 
 -- 1122 goes to 1212, with room for all of it and for three bytes; 11 is too short, and 13 has a wrong digit

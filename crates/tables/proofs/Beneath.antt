@@ -14,14 +14,16 @@ use lib.Seq.{getD-drop}
 use Rattle.higman.specs.Words.{Word, after, begins}
 use Rattle.higman.specs.Tables.{Table, image}
 use Rattle.higman.proofs.Tests.{passes, clash}
+use Rattle.higman.proofs.Matches.{after-none}
 use Rattle.words.specs.Packed.{unpack}
 use Rattle.columns.specs.Packed.{wordsOf, table, sorted}
 use Rattle.columns.specs.Columns.{wordAt, PartedAt}
 use Rattle.tables.specs.Spread.{beneath, spreadPair}
 use Rattle.tables.specs.Spreading.{pair, Unbegun}
 use Rattle.columns.proofs.InOrder.{InOrder, in-order-of-test, test-of-in-order, in-order-of-begins, in-order-antisym, begins-between}
-use Rattle.columns.proofs.Places.{mem-at, sorted-at}
-use Rattle.tables.proofs.Lookup.{after-none, table-left}
+use Rattle.columns.proofs.Places.{sorted-at}
+use Rattle.columns.proofs.Search.{first-of-place}
+use Rattle.tables.proofs.Lookup.{table-left}
 
 in-order-total : (u v : Word) → InOrder u v ⊎ InOrder v u
 in-order-total [] v = inl tt
@@ -45,7 +47,7 @@ module _ (column : List ℕ) (w r : ℕ) (p : PartedAt column w r) where
           let u = wordAt column k in
           let e = in-order-antisym u (unpack w) (in-order-of-test u (unpack w) (p .front k h)) (in-order-of-begins (unpack w) u t) in
           let own : begins u (unpack w) ≡ true = subst (λ x. begins x (unpack w) ≡ true) (sym e) (subst (λ x. begins (unpack w) x ≡ true) e t) in
-          clash own (n u (mem-at column k (omega (arith, p .within))))
+          clash own (first-of-place column (unpack w) (length column) (sym n) .earlier k (omega (arith, p .within)))
 
   -- behind a word after w that w does not begin there is none that it begins
   pub none-behind : sorted (wordsOf column) ≡ true → (i : ℕ) → r ≤ i → i < length column → begins (unpack w) (wordAt column i) ≡ false → (k : ℕ) → i ≤ k → k < length column → begins (unpack w) (wordAt column k) ≡ false

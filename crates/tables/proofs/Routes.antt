@@ -1,11 +1,11 @@
 -- Routing a code of any length: the word of a column that begins it begins its front, the tail behind that word is a part of the code,
 -- and the image, in bytes, is the to-word's bytes and then that part.
-use Prim.Native.Nat.{ℕ, zero, suc, _+_, _-_, _≤_, _<_}
+use Prim.Native.Nat.{ℕ, _+_, _-_, _≤_, _<_}
 use mathlib.Core.Path.{_≡_, refl, sym, _∙_, ap, ap₂, subst}
 use mathlib.Core.Logic.{_⊎_, inl, inr}
 use mathlib.Core.Bool.{true, false}
-use mathlib.Core.List.{List, [], _∷_, _++_, append-nil, append-assoc, map-append, List·Memᴰ, List·Memᴰ·head, List·Memᴰ·tail}
-use mathlib.Core.Option.{Option, none, some}
+use mathlib.Core.List.{List, [], _∷_, _++_, append-nil, append-assoc, map-append}
+use mathlib.Core.Option.{Option, none, some, Option·getD}
 use native.Mathlib.Nat.{zero-add}
 use native.Mathlib.Omega.{arith}
 use lib.Dec.{leb, lit≤}
@@ -13,12 +13,12 @@ use lib.ListN.{length, take, drop, length-append, length-drop, length-map, take-
 use lib.Seq.{take-all, take-at, drop-at, drop-drop}
 use borrow.Author.Tests.{le-leb, lt-leb, leb-true, leb-false}
 use Rattle.higman.specs.Words.{Word, begins}
-use Rattle.higman.specs.Bases.{overlap}
-use Rattle.higman.specs.Tables.{image}
+use Rattle.higman.specs.Tables.{firstMatch, image}
 use Rattle.higman.specs.Text.{digitByte, wordBytes, digitOf, wordOf}
 use Rattle.higman.specs.Limits.{maxDigits}
 use Rattle.higman.proofs.Tests.{passes, Ways, ways-of-test}
 use Rattle.higman.proofs.Prefixes.{tail-of-begins, ways-left, ways-right}
+use Rattle.higman.proofs.Matches.{match-found, match-nowhere, match-map}
 use Rattle.words.specs.Packed.{pack, unpack}
 use Rattle.higman.specs.Buffers.{written}
 use Rattle.words.proofs.Packing.{unpack-pack}
@@ -27,12 +27,12 @@ use Rattle.words.proofs.Packed.{packed-length}
 use Rattle.higman.proofs.Text.{digit-under, digit-over, digit-within}
 use Rattle.words.proofs.Codes.{digits-take, digits-drop, begins-take, after-drop}
 use Rattle.columns.specs.Packed.{wordsOf, table}
-use Rattle.columns.specs.Columns.{wordAt, BegunAt}
+use Rattle.columns.specs.Columns.{wordAt, placeIn}
 use Rattle.tables.specs.Spreading.{packedWords, Operand}
-use Rattle.tables.specs.Routing.{IsCode, MatchedAt, matchedDigits, further, routedIn, routedInto}
+use Rattle.tables.specs.Routing.{IsCode, matchedDigits, further, routedIn, routedInto}
 use Rattle.tables.specs.declared.routing.Routed.the-variants.{Image, TooShort, NoRoom}
-use Rattle.columns.proofs.Places.{place-of}
-use Rattle.tables.proofs.Lookup.{first-apart, overlap-rest, image-at, packed-at}
+use Rattle.columns.proofs.Search.{FirstIn, place-of-first, first-of-place}
+use Rattle.tables.proofs.Lookup.{image-at, packed-at}
 
 -- the whole code starts where it starts
 pub here : (place : ℕ × ℕ) → place ≡ further 0 place
@@ -49,26 +49,37 @@ front-of-code code k t =
     ap (λ u. unpack (pack u)) (digits-take k code) ∙ unpack-pack (take k w) (more-ways (take k w) (lit≤ tt) ways)
 
 -- the word that begins the front of w is the word that begins w
-pub matched-of-begun : (column : List ℕ) (x : ℕ) (w : Word) (r : ℕ) → packedWords column → unpack x ≡ take maxDigits w → BegunAt column x r → MatchedAt column w r
-matched-of-begun column x w r t e b =
+pub place-of-front : (column : List ℕ) (x : ℕ) (w : Word) (r : ℕ) → packedWords column → unpack x ≡ take maxDigits w
+    → r ≡ placeIn (wordsOf column) (unpack x) → r ≡ placeIn (wordsOf column) w
+place-of-front column x w r t e p =
+    let f = first-of-place column (unpack x) r p in
+    place-of-first column w r
     record {
-      within = b .within;
-      found = λ h. same (wordAt column r) (packed-length _ (packed-at column t r h)) ∙ b .found h;
-      none = λ h u m. let (k, l, p) = place-of column u m in same u (subst (λ v. length v ≤ maxDigits) (sym p) (packed-length _ (packed-at column t k l))) ∙ b .none h u m;
+      within = f .within;
+      earlier = λ j h. same j (omega (arith, f .within)) ∙ f .earlier j h;
+      found = λ h. same r h ∙ f .found h;
     }
   where
-    same : (u : Word) → length u ≤ maxDigits → begins u w ≡ begins u (unpack x)
-    same u h = sym (begins-take u w maxDigits h) ∙ ap (begins u) (sym e)
+    same : (k : ℕ) → k < length column → begins (wordAt column k) w ≡ begins (wordAt column k) (unpack x)
+    same k h =
+        let u = wordAt column k in
+        sym (begins-take u w maxDigits (packed-length _ (packed-at column t k h))) ∙ ap (begins u) (sym e)
 
-pub matched-digits : (column : List ℕ) → overlap (wordsOf column) ≡ false → (k : ℕ) → k < length column → (w : Word) → begins (wordAt column k) w ≡ true → matchedDigits (wordsOf column) w ≡ length (wordAt column k)
-matched-digits [] o k h w b = absurd (omega arith)
-matched-digits (x ∷ column) o zero h w b = rw (b, matchedDigits) refl
-matched-digits (x ∷ column) o (suc k) h w b =
-    rw (first-apart x column o k (omega arith) w b, matchedDigits) (matched-digits column (overlap-rest x column o) k (omega arith) w b)
+module _ (column : List ℕ) (w : Word) (k : ℕ) (f : FirstIn column w k) where
+  digits-found : firstMatch (λ u. u) (λ place u tail. length u) (wordsOf column) w
+      ≡ firstMatch unpack (λ place x tail. length (unpack x)) column w
+  digits-found = match-map (λ u. u) unpack (λ place u tail. length u) column w
 
-pub matched-none : (c : List Word) (w : Word) → ((u : Word) → List·Memᴰ u c → begins u w ≡ false) → matchedDigits c w ≡ 0
-matched-none [] w h = refl
-matched-none (u ∷ c) w h = rw (h u (List·Memᴰ·head refl), matchedDigits) (matched-none c w (λ v m. h v (List·Memᴰ·tail m)))
+  pub matched-digits : k < length column → matchedDigits (wordsOf column) w ≡ length (wordAt column k)
+  unfolding matchedDigits
+  matched-digits h =
+      let tail = after-drop (wordAt column k) w (f .found h) in
+      ap (λ o. Option·getD o 0) (digits-found ∙ match-found unpack 0 (λ place x tail. length (unpack x)) column w k f h _ tail)
+
+  pub matched-none : k ≡ length column → matchedDigits (wordsOf column) w ≡ 0
+  unfolding matchedDigits
+  matched-none e =
+      ap (λ o. Option·getD o 0) (digits-found ∙ match-nowhere unpack 0 (λ place x tail. length (unpack x)) column w k f e)
 
 -- a word that begins a code has no more digits than the code has bytes
 pub begins-within : (p : Word) (code : List ℕ) → begins p (wordOf code) ≡ true → length p ≤ length code
@@ -89,8 +100,15 @@ bytes-of-code : (code : List ℕ) → Ways 9 (wordOf code) → wordBytes (wordOf
 bytes-of-code [] h = refl
 bytes-of-code (b ∷ code) h = ap₂ _∷_ (byte-of-digit b (h .0 .0)) (bytes-of-code code (h .1))
 
--- what the from-word at a place that begins a code gives: the to-word, and behind it the tail
-module _ (from to : List ℕ) (o : Operand from to) (code : List ℕ) (t : IsCode code) (k : ℕ) (h : k < length from) (b : begins (wordAt from k) (wordOf code) ≡ true) where
+-- what the first from-word that begins a code gives: the to-word, and behind it the tail
+module _
+    (from to : List ℕ)
+    (o : Operand from to)
+    (code : List ℕ)
+    (t : IsCode code)
+    (k : ℕ)
+    (h : k < length from)
+    (f : FirstIn from (wordOf code) k) where
   tail : List ℕ
   tail = drop (length (wordAt from k)) code
 
@@ -100,7 +118,7 @@ module _ (from to : List ℕ) (o : Operand from to) (code : List ℕ) (t : IsCod
   pub image-of-code : image (table from to) (wordOf code) ≡ some routed-word
   unfolding tail routed-word
   image-of-code =
-      image-at from to (o .plain .long) (o .apart) k h (wordOf code) (drop (length (wordAt from k)) (wordOf code)) (after-drop (wordAt from k) (wordOf code) b)
+      image-at from to (o .plain .long) (wordOf code) k f h _ (after-drop (wordAt from k) (wordOf code) (f .found h))
       ∙ ap (λ x. some (wordAt to k ++ x)) (sym (digits-drop (length (wordAt from k)) code))
 
   pub routed-length : length routed-word ≡ length (wordAt to k) + length (drop (length (wordAt from k)) code)

@@ -1,18 +1,18 @@
 -- Codes under a plan's columns (document 01, "Forms"): the word of a column that begins a code, the tail behind it, and what routing
 -- a code answers and leaves in the buffer.
-use Prim.Native.Nat.{ℕ, _+_, _≤_, _<_}
+use Prim.Native.Nat.{ℕ, _+_}
 use mathlib.Core.Path.{_≡_, refl}
 use mathlib.Core.Bool.{true, false}
-use mathlib.Core.List.{List, [], _∷_, map, List·Memᴰ}
-use mathlib.Core.Option.{Option, none, some}
+use mathlib.Core.List.{List, [], _∷_, map}
+use mathlib.Core.Option.{Option, none, some, Option·getD}
 use lib.Dec.{T, leb}
 use lib.ListN.{length, drop}
-use Rattle.higman.specs.Words.{Word, isWays, begins, spell}
+use Rattle.higman.specs.Words.{Word, isWays, spell}
 use Rattle.higman.specs.Bases.{overlap}
+use Rattle.higman.specs.Tables.{firstMatch}
 use Rattle.higman.specs.Text.{wordBytes, digitOf, wordOf}
 use Rattle.higman.specs.Buffers.{written}
 use Rattle.columns.specs.Packed.{wordsOf, sorted}
-use Rattle.columns.specs.Columns.{wordAt}
 use Rattle.tables.specs.Spreading.{packedWords}
 use Rattle.tables.specs.declared.routing.Routed.{Routed}
 use Rattle.tables.specs.declared.routing.Routed.the-variants.{Image, TooShort, NoRoom}
@@ -27,16 +27,9 @@ pub record Searchable (column : List ℕ) : Type 0 where
   pub in-order : sorted (wordsOf column) ≡ true
   pub apart : overlap (wordsOf column) ≡ false
 
--- r is the place of the word that begins the word w, of any length, or the length of the column where no word of it does.
-pub record MatchedAt (column : List ℕ) (w : Word) (r : ℕ) : Type 0 where
-  pub within : r ≤ length column
-  pub found : r < length column → begins (wordAt column r) w ≡ true
-  pub none : r ≡ length column → (u : Word) → List·Memᴰ u (wordsOf column) → begins u w ≡ false
-
--- the number of digits of the word that begins w, 0 where none does
-abbrev pub matchedDigits : List Word → Word → ℕ
-matchedDigits [] w = 0
-matchedDigits (u ∷ c) w = elim (begins u w) [ true ↦ length u | false ↦ matchedDigits c w ]
+-- the number of digits of the first word of a column that begins w, 0 where none does
+unfoldable pub matchedDigits : List Word → Word → ℕ
+matchedDigits c w = Option·getD (firstMatch (λ u. u) (λ place u tail. length u) c w) 0
 
 -- "The library's match hands back the unmatched tail .. Where no from-word begins the code .. that part is the whole code."
 abbrev pub unmatched : List Word → List ℕ → List ℕ
@@ -58,7 +51,7 @@ routedInto (some v) out = elim (leb (length v) (length out)) [ true ↦ written 
 
 -- 1122 behind 112, and 21, which no word begins
 unmatched-example : map (unmatched (spell 111 ∷ spell 112 ∷ [])) ((49 ∷ 49 ∷ 50 ∷ 50 ∷ []) ∷ (50 ∷ 49 ∷ []) ∷ []) ≡ (50 ∷ []) ∷ (50 ∷ 49 ∷ []) ∷ []
-unfolding digitOf
+unfolding matchedDigits digitOf
 unmatched-example = refl
 
 -- room for all four bytes, for three of them, and a code that is too short

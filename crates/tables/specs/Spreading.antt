@@ -3,15 +3,16 @@
 use Prim.Native.Nat.{ℕ, _+_, _≤_}
 use mathlib.Core.Path.{_≡_}
 use mathlib.Core.Bool.{true, false}
-use mathlib.Core.List.{List, _++_, List·Memᴰ}
+use mathlib.Core.List.{List, _++_}
 use lib.Dec.{T}
 use lib.ListN.{length, take}
 use Rattle.higman.specs.Bases.{all, overlap}
-use Rattle.higman.specs.Words.{Word, begins}
+use Rattle.higman.specs.Words.{Word}
 use Rattle.higman.specs.Tables.{Pair, Table}
 use Rattle.higman.specs.Limits.{pairFits}
 use Rattle.words.specs.Packed.{unpack, isPacked}
 use Rattle.columns.specs.Packed.{wordsOf, table, sorted}
+use Rattle.columns.specs.Columns.{placeIn}
 use Rattle.tables.specs.declared.spreading.Spread.{Spread}
 use Rattle.tables.specs.declared.spreading.Spread.the-variants.{Rows, TooLong}
 
@@ -33,7 +34,7 @@ pub record Operand (from to : List ℕ) : Type 0 where
 
 -- no word of the column begins w
 abbrev pub Unbegun : List ℕ → ℕ → Type 0
-Unbegun column w = (u : Word) → List·Memᴰ u (wordsOf column) → begins u (unpack w) ≡ false
+Unbegun column w = placeIn (wordsOf column) (unpack w) ≡ length column
 
 -- two columns with room for the pairs of t behind n others
 abbrev pub Room : ℕ → Table → List ℕ → List ℕ → Type 0

@@ -9,8 +9,9 @@ ghost use Rattle.words.specs.Packed.{unpack};
 ghost use Rattle.higman.specs.Text.{wordOf};
 ghost use Rattle.higman.specs.Buffers.{written};
 ghost use Rattle.columns.specs.Packed.{wordsOf, table};
+ghost use Rattle.columns.specs.Columns.{placeIn};
 ghost use Rattle.tables.specs.Spreading.{Operand};
-ghost use Rattle.tables.specs.Routing.{IsCode, Searchable, MatchedAt, matchedDigits, unmatched, further, routedIn, routedInto};
+ghost use Rattle.tables.specs.Routing.{IsCode, Searchable, matchedDigits, unmatched, further, routedIn, routedInto};
 
 // The limit of digits in a plan word.
 const MAX_DIGITS: usize = 16;
@@ -41,7 +42,7 @@ pub fn front(code: &[u8]) -> u64
 pub fn place_of(from: &[u64], code: &[u8]) -> usize
     requires { ⌜ Searchable (now from) ⌝ }
     requires { ⌜ IsCode (now code) ⌝ }
-    ensures { λ r. ⌜ MatchedAt (now (from .entry)) (wordOf (now (code .entry))) r ⌝ }
+    ensures { λ r. ⌜ r ≡ placeIn (wordsOf (now (from .entry))) (wordOf (now (code .entry))) ⌝ }
 {
     columns::begun_by(from, front(code))
 }

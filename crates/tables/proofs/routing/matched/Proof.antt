@@ -1,15 +1,23 @@
 -- `tables::routing::matched` meets its contract: the place found gives the digits that are matched, and none are where there is none.
-use mathlib.Core.Path.{sym, _∙_, ap}
+use mathlib.Core.Path.{_≡_, sym, _∙_, ap}
 use borrow.Author.Needs.{needs}
 use native.Mathlib.Omega.{arith}
-use lib.ListN.{drop}
+use lib.ListN.{length, drop}
 use Rattle.higman.specs.Text.{wordOf}
-use Rattle.columns.specs.Packed.{wordsOf}
 use Rattle.columns.specs.Columns.{wordAt}
+use Rattle.columns.proofs.Search.{FirstIn, first-of-place}
 use Rattle.tables.specs.Routing.{further}
 use Rattle.tables.proofs.Routes.{here, matched-digits, matched-none, begins-within}
 use Rattle.tables.proofs.routing.matched.Statement.{statement}
 use Rattle.tables.proofs.routing.matched.Tie as tie
+
+-- the place found is that of the first from-word that begins the code
+first : (c : tie.After-place-of) →
+    let a = c .before .before .before .args in
+    FirstIn (a .from .now) (wordOf (a .code .now)) (c .place-of .result)
+first c =
+    let a = c .before .before .before .args in
+    first-of-place (a .from .now) (wordOf (a .code .now)) (c .place-of .result) (c .place-of .ensures)
 
 place-of-requires : tie.Need-place-of-requires
 place-of-requires c κs = search needs
@@ -24,22 +32,22 @@ behind-requires : tie.Need-behind-requires
 behind-requires c κs =
     let p = c .before .before in
     let a = p .before .before .before .args in
-    begins-within (wordAt (a .from .now) (p .place-of .result)) (a .code .now) (p .place-of .ensures .found (c .before .if1 .taken))
+    begins-within (wordAt (a .from .now) (p .place-of .result)) (a .code .now) (first p .found (c .before .if1 .taken))
 
 returns : tie.Need-returns
 returns c =
     let t = c .before .before in
     let p = t .before in
-    let s = p .before .before .before in
-    let a = s .args in
-    let found = sym (matched-digits (a .from .now) (s .pre .0 .apart) (p .place-of .result) (t .if1 .taken) (wordOf (a .code .now)) (p .place-of .ensures .found (t .if1 .taken))) in
+    let a = p .before .before .before .args in
+    let found = sym (matched-digits (a .from .now) (wordOf (a .code .now)) (p .place-of .result) (first p) (t .if1 .taken)) in
     (c .behind .ensures .0 ∙ ap (λ n. drop n (a .code .now)) found, c .behind .ensures .1 ∙ ap (λ n. further n (a .code .ptr)) found)
 
 returns-2 : tie.Need-returns-2
 returns-2 c =
     let p = c .before in
     let a = p .before .before .before .args in
-    let none = sym (matched-none (wordsOf (a .from .now)) (wordOf (a .code .now)) (p .place-of .ensures .none (omega (arith, p .place-of .ensures .within)))) in
+    let end : p .place-of .result ≡ length (a .from .now) = omega (arith, first p .within) in
+    let none = sym (matched-none (a .from .now) (wordOf (a .code .now)) (p .place-of .result) (first p) end) in
     (ap (λ n. drop n (a .code .now)) none, here (a .code .ptr) ∙ ap (λ n. further n (a .code .ptr)) none)
 
 pub matched-spec : {M : Type 1} → statement M

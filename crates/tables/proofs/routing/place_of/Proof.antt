@@ -1,7 +1,7 @@
 -- `tables::routing::place_of` meets its contract: the word that begins the code's front begins the code.
 use borrow.Author.Needs.{needs}
 use Rattle.higman.specs.Text.{wordOf}
-use Rattle.tables.proofs.Routes.{matched-of-begun}
+use Rattle.tables.proofs.Routes.{place-of-front}
 use Rattle.tables.proofs.routing.place_of.Statement.{statement}
 use Rattle.tables.proofs.routing.place_of.Tie as tie
 
@@ -15,7 +15,9 @@ returns : tie.Need-returns
 returns c =
     let f = c .before in
     let s = f .before .before .before in
-    matched-of-begun (s .args .from .now) (f .front .result) (wordOf (s .args .code .now)) (c .begun-by .result) (s .pre .0 .packed) (f .front .ensures) (c .begun-by .ensures)
+    let a = s .args in
+    place-of-front (a .from .now) (f .front .result) (wordOf (a .code .now)) (c .begun-by .result) (s .pre .0 .packed) (f .front .ensures)
+    (c .begun-by .ensures)
 
 pub place-of-spec : {M : Type 1} → statement M
 place-of-spec = tie.close (tie.spec front-requires begun-by-requires returns)

@@ -1,37 +1,39 @@
 -- `tables::routing::route_into` meets its contract: the image is the to-word at the place found, and behind it the tail.
 use Prim.Native.Nat.{_+_, _≤_}
 use mathlib.Core.Path.{_≡_, sym, _∙_, ap}
-use mathlib.Core.Bool.{true}
 use mathlib.Core.List.{_++_}
 use mathlib.Core.Option.{some}
 use borrow.Author.Needs.{needs}
 use native.Mathlib.Omega.{arith}
 use lib.ListN.{length, drop, length-map}
-use Rattle.higman.specs.Words.{Word, begins}
+use Rattle.higman.specs.Words.{Word}
 use Rattle.higman.specs.Tables.{image}
 use Rattle.higman.specs.Text.{digitByte, wordBytes, wordOf}
 use Rattle.higman.specs.Buffers.{written}
 use Rattle.columns.specs.Packed.{table}
 use Rattle.columns.specs.Columns.{wordAt}
+use Rattle.columns.proofs.Search.{FirstIn, first-of-place}
 use Rattle.tables.specs.declared.routing.Routed.the-variants.{Image}
 use Rattle.tables.proofs.Lookup.{image-nowhere}
 use Rattle.tables.proofs.Routes.{begins-within, routed-word, image-of-code, routed-length, routed-bytes, written-part, route-too-short, route-no-room, route-image}
 use Rattle.tables.proofs.routing.route_into.Statement.{statement}
 use Rattle.tables.proofs.routing.route_into.Tie as tie
 
--- where the place of a from-word was found: it begins the code, and these are the image and its length
-begun : (c : tie.Else1) →
-    let p = c .before in
-    let a = p .before .before .before .before .before .args in
-    begins (wordAt (a .from .now) (p .place-of .result)) (wordOf (a .code .now)) ≡ true
-begun c = c .before .place-of .ensures .found (c .if1 .left)
+-- the place found is that of the first from-word that begins the code
+first : (c : tie.After-place-of) →
+    let a = c .before .before .before .before .before .args in
+    FirstIn (a .from .now) (wordOf (a .code .now)) (c .place-of .result)
+first c =
+    let a = c .before .before .before .before .before .args in
+    first-of-place (a .from .now) (wordOf (a .code .now)) (c .place-of .result) (c .place-of .ensures)
 
+-- where there is one, these are the image and its length
 abbrev routed : tie.Else1 → Word
 routed c =
     let p = c .before in
     let s = p .before .before .before .before .before in
     let a = s .args in
-    routed-word (a .from .now) (a .to .now) (s .pre .0) (a .code .now) (s .pre .1) (p .place-of .result) (c .if1 .left) (begun c)
+    routed-word (a .from .now) (a .to .now) (s .pre .0) (a .code .now) (s .pre .1) (p .place-of .result) (c .if1 .left) (first p)
 
 image-is : (c : tie.Else1) →
     let a = c .before .before .before .before .before .before .args in
@@ -40,7 +42,7 @@ image-is c =
     let p = c .before in
     let s = p .before .before .before .before .before in
     let a = s .args in
-    image-of-code (a .from .now) (a .to .now) (s .pre .0) (a .code .now) (s .pre .1) (p .place-of .result) (c .if1 .left) (begun c)
+    image-of-code (a .from .now) (a .to .now) (s .pre .0) (a .code .now) (s .pre .1) (p .place-of .result) (c .if1 .left) (first p)
 
 long : (c : tie.Else1) →
     let p = c .before in
@@ -50,7 +52,7 @@ long c =
     let p = c .before in
     let s = p .before .before .before .before .before in
     let a = s .args in
-    routed-length (a .from .now) (a .to .now) (s .pre .0) (a .code .now) (s .pre .1) (p .place-of .result) (c .if1 .left) (begun c)
+    routed-length (a .from .now) (a .to .now) (s .pre .0) (a .code .now) (s .pre .1) (p .place-of .result) (c .if1 .left) (first p)
 
 -- where both tests of the room have passed
 room : (c : tie.Else3) →
@@ -67,8 +69,11 @@ place-of-requires c κs = search needs
 returns : tie.Need-returns
 returns c =
     let p = c .before in
-    let a = p .before .before .before .before .before .args in
-    route-too-short (a .out .now) (image-nowhere (a .from .now) (a .to .now) (wordOf (a .code .now)) (p .place-of .ensures .none (omega (arith, p .place-of .ensures .within))))
+    let s = p .before .before .before .before .before in
+    let a = s .args in
+    let end : p .place-of .result ≡ length (a .from .now) = omega (arith, first p .within) in
+    route-too-short (a .out .now)
+    (image-nowhere (a .from .now) (a .to .now) (s .pre .0 .plain .long) (wordOf (a .code .now)) (p .place-of .result) (first p) end)
 
 mul-behind : tie.Need-mul-behind
 mul-behind c = search needs
@@ -80,7 +85,7 @@ behind-requires : tie.Need-behind-requires
 behind-requires c κs =
     let e = c .before in
     let a = e .before .before .before .before .before .before .args in
-    begins-within (wordAt (a .from .now) (e .before .place-of .result)) (a .code .now) (begun e)
+    begins-within (wordAt (a .from .now) (e .before .place-of .result)) (a .code .now) (first (e .before) .found (e .if1 .left))
 
 mul-length : tie.Need-mul-length
 mul-length c = search needs
@@ -151,7 +156,7 @@ returns-4 c =
     let d = w .before .before .before in
     let size : w .write .result + length (b .behind .result .now) ≡ length (routed e) = omega (arith, long e, ap length (b .behind .ensures .0), w .write .ensures .0) in
     let answer = route-image (a .out .now) (routed e) (image-is e) (room d) in
-    let bytes = routed-bytes (a .from .now) (a .to .now) (s .pre .0) (a .code .now) (s .pre .1) k (e .if1 .left) (begun e) in (
+    let bytes = routed-bytes (a .from .now) (a .to .now) (s .pre .0) (a .code .now) (s .pre .1) k (e .if1 .left) (first (e .before)) in (
       ap Image size ∙ answer .0,
       written-part (a .out .now) (wordBytes head) (b .behind .result .now) (w .write .last .1 .0) (y .copy .last .1 .0) (w .write .result) (omega (arith, w .write .ensures .0, length-map head digitByte)) (omega (arith, long e, length-map head digitByte)) (w .write .ensures .1) (y .copy .ensures)
           ∙ ap (written (a .out .now) 0) (ap (λ l. wordBytes head ++ l) (b .behind .ensures .0) ∙ sym bytes)

@@ -4,16 +4,26 @@ use mathlib.Core.Path.{_≡_, sym, _∙_, ap, subst}
 use mathlib.Core.List.{[], _∷_, _++_, append-nil}
 use borrow.Author.Needs.{needs}
 use native.Mathlib.Omega.{arith}
+use lib.ListN.{length}
 use Rattle.words.specs.Packed.{unpack}
 use Rattle.words.proofs.Packing.{unpack-zero}
 use Rattle.columns.specs.Packed.{table}
 use Rattle.columns.specs.Columns.{wordAt}
+use Rattle.columns.proofs.Search.{FirstIn, first-of-place}
 use Rattle.tables.specs.Spread.{beneath, spreadPair}
-use Rattle.tables.specs.Spreading.{pair, Room, Spreads, Unbegun}
+use Rattle.tables.specs.Spreading.{pair, Room, Spreads}
 use Rattle.tables.proofs.Lookup.{image-at, image-nowhere, packed-at, packed-zero, packed-tail}
 use Rattle.tables.proofs.Beneath.{spread-whole, spread-parts}
 use Rattle.tables.proofs.spreading.spread_pair.Statement.{statement}
 use Rattle.tables.proofs.spreading.spread_pair.Tie as tie
+
+-- the place found is that of the first from-word that begins v
+first : (c : tie.After-begun-by) →
+    let a = c .before .before .before .before .before .args in
+    FirstIn (a .from .now) (unpack (a .v)) (c .begun-by .result)
+first c =
+    let a = c .before .before .before .before .before .args in
+    first-of-place (a .from .now) (unpack (a .v)) (c .begun-by .result) (c .begun-by .ensures)
 
 -- the one pair, where a from-word begins v
 single : (c : tie.After-tail) →
@@ -27,19 +37,24 @@ single c =
     let k = b .begun-by .result in
     let z = wordAt (a .to .now) k ++ unpack (c .tail .result) in
     let whole : unpack (a .u) ≡ unpack (a .u) ++ unpack 0 = sym (ap (λ w. unpack (a .u) ++ w) unpack-zero ∙ append-nil (unpack (a .u))) in
-    spread-whole (table (a .from .now) (a .to .now)) (unpack (a .u)) (unpack (a .v)) z (image-at (a .from .now) (a .to .now) (s .pre .1 .0 .plain .long) (s .pre .1 .0 .apart) k (omega arith) (unpack (a .v)) (unpack (c .tail .result)) (c .tail .ensures))
+    let long = s .pre .1 .0 .plain .long in
+    spread-whole (table (a .from .now) (a .to .now)) (unpack (a .u)) (unpack (a .v)) z
+    (image-at (a .from .now) (a .to .now) long (unpack (a .v)) k (first b) (omega arith) (unpack (c .tail .result)) (c .tail .ensures))
     ∙ ap (λ w. pair w z ∷ []) whole
 
 -- no from-word begins v
-unbegun : (c : tie.Else1) → let a = c .before .before .before .before .before .before .args in Unbegun (a .from .now) (a .v)
-unbegun c = c .before .begun-by .ensures .none (omega (arith, c .before .begun-by .ensures .within))
+behind : (c : tie.Else1) → let b = c .before in b .begun-by .result ≡ length (b .before .before .before .before .before .args .from .now)
+behind c = omega (arith, first (c .before) .within)
 
 parts : (c : tie.Else1) →
     let a = c .before .before .before .before .before .before .args in
     spreadPair (table (a .from .now) (a .to .now)) (pair (unpack (a .u)) (unpack (a .v))) ≡ beneath (unpack (a .u)) (unpack (a .v)) (table (a .from .now) (a .to .now))
 parts c =
-    let a = c .before .before .before .before .before .before .args in
-    spread-parts (table (a .from .now) (a .to .now)) (unpack (a .u)) (unpack (a .v)) (image-nowhere (a .from .now) (a .to .now) (unpack (a .v)) (unbegun c))
+    let s = c .before .before .before .before .before .before in
+    let a = s .args in
+    let b = c .before in
+    spread-parts (table (a .from .now) (a .to .now)) (unpack (a .u)) (unpack (a .v))
+    (image-nowhere (a .from .now) (a .to .now) (s .pre .1 .0 .plain .long) (unpack (a .v)) (b .begun-by .result) (first b) (behind c))
 
 begun-by-requires : tie.Need-begun-by-requires
 begun-by-requires c κs = search needs
@@ -60,7 +75,7 @@ tail-requires : tie.Need-tail-requires
 tail-requires c κs =
     let b = c .before .before .before in
     let s = b .before .before .before .before .before in
-    (s .pre .0 .1, b .begun-by .ensures .found (c .before .before .if1 .taken))
+    (s .pre .0 .1, first b .found (c .before .before .if1 .taken))
 
 put-requires : tie.Need-put-requires
 put-requires c κs =
@@ -88,7 +103,8 @@ spread-beneath-requires c κs =
     let e = c .before .before in
     let s = e .before .before .before .before .before .before in
     let a = s .args in
-    (s .pre .0, (s .pre .1 .0, (unbegun e, subst (λ t. Room (a .n) t (a .froms .now) (a .tos .now)) (parts e) (s .pre .1 .1))))
+    let room = subst (λ t. Room (a .n) t (a .froms .now) (a .tos .now)) (parts e) (s .pre .1 .1) in
+    (s .pre .0, (s .pre .1 .0, (sym (e .before .begun-by .ensures) ∙ behind e, room)))
 
 same-length : tie.Need-same-length
 same-length c = c .before .before .before .before .put .kept .1 .1 .1 .1 .0
