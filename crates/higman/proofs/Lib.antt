@@ -4,6 +4,7 @@
 pub mod Tests
 pub mod Text
 pub mod Decimals
+pub mod Buffers
 pub mod Prefixes
 pub mod Blocks
 pub mod Proper

@@ -1,7 +1,7 @@
 -- Codes under a plan: when a code is one that a plan routes, and what match and route answer, case by case: 15, 4, and then by the image
 -- of the code.
 use Prim.Native.Nat.{ℕ, _≤_, _<_}
-use mathlib.Core.Path.{_≡_, refl, sym, _∙_, ap, subst}
+use mathlib.Core.Path.{_≡_, refl, sym, _∙_, ap}
 use mathlib.Core.Bool.{Bool, true, false, _&&_, and-true, and-false}
 use mathlib.Core.List.{List}
 use mathlib.Core.Option.{Option, none, some}
@@ -10,14 +10,14 @@ use lib.Dec.{T, leb}
 use lib.ListN.{length, take, drop, length-map}
 use lib.Seq.{length-take-le}
 use Rattle.higman.specs.Words.{Shape, Word, isWord}
-use Rattle.higman.specs.Tables.{image, froms}
+use Rattle.higman.specs.Tables.{image}
 use Rattle.higman.specs.Limits.{shapeInRange, isCode, maxCode}
+use Rattle.higman.specs.Refusals.{badWord, bufferTooShort, invalidValue}
 use Rattle.higman.specs.Answers as Of
 use Rattle.higman.specs.Answers.{routed}
 use Rattle.higman.specs.Text.{wordBytes, digitOf, wordOf}
 use Rattle.higman.proofs.Tests.{T-of, and-left, word-of-test, test-of-ways}
 use Rattle.higman.proofs.KeptPlans.{in-range}
-use Rattle.higman.specs.Buffers.{written}
 use Rattle.higman.proofs.PlanWords.{ways-of-word}
 use Rattle.columns.specs.Packed.{wordsOf}
 use Rattle.tables.specs.Routing.{IsCode, Searchable, matchedDigits, further, routedIn, routedInto}
@@ -62,18 +62,19 @@ module _ (s : Shape) (code : List ℕ) where
 abbrev pub replied : Routed → Route
 replied (Table.Image n) = Image n
 replied Table.TooShort = TooShort
-replied Table.NoRoom = Refused 14
+replied Table.NoRoom = Refused bufferTooShort
 
 abbrev found : Option Word → Of.Route
 found o = elim o [ some v ↦ Of.Image v | none ↦ Of.TooShort ]
 
 replied-is : (o : Option Word) (room : ℕ) → replied (routedIn o room) ≡ routingIn (found o) room
 replied-is none room = refl
-replied-is (some v) room = go (leb (length v) room)
+replied-is (some v) room = by-room (leb (length (wordBytes v)) room)
   where
-    go : (b : Bool) → replied (elim b [ true ↦ Table.Image (length v) | false ↦ Table.NoRoom ]) ≡ elim b [ true ↦ Image (length v) | false ↦ Refused 14 ]
-    go true = refl
-    go false = refl
+    by-room : (b : Bool) → replied (elim b [ true ↦ Table.Image (length (wordBytes v)) | false ↦ Table.NoRoom ])
+        ≡ elim b [ true ↦ Image (length (wordBytes v)) | false ↦ Refused bufferTooShort ]
+    by-room true = refl
+    by-room false = refl
 
 buffer-is : (o : Option Word) (out : List ℕ) → routedInto o out ≡ imageInto (found o) out
 buffer-is none out = refl
@@ -88,7 +89,8 @@ module _ (p : Plan) (code : List ℕ) where
   pub whole-code : (place : ℕ × ℕ) → matched p code ≡ 0 → (code ≡ matching p code) × (place ≡ further (matched p code) place)
   whole-code place e = (ap (λ n. drop n code) (sym e), here place ∙ ap (λ n. further n place) (sym e))
 
-  pub routing-no-plan : (out : List ℕ) → isPlan p ≡ false → (Refused 15 ≡ routing p code (length out)) × (out ≡ routedBuffer p code out)
+  pub routing-no-plan : (out : List ℕ) → isPlan p ≡ false
+      → (Refused invalidValue ≡ routing p code (length out)) × (out ≡ routedBuffer p code out)
   unfolding routing routedBuffer
   routing-no-plan out h = (sym (rw (h, routing)), sym (rw (h, routedBuffer)))
 
@@ -97,7 +99,8 @@ module _ (p : Plan) (code : List ℕ) where
     unfolding matched
     matched-no-code k = rw (h, k, matched)
 
-    pub routing-no-code : (out : List ℕ) → isCode (shapeOf p) (wordOf code) ≡ false → (Refused 4 ≡ routing p code (length out)) × (out ≡ routedBuffer p code out)
+    pub routing-no-code : (out : List ℕ) → isCode (shapeOf p) (wordOf code) ≡ false
+        → (Refused badWord ≡ routing p code (length out)) × (out ≡ routedBuffer p code out)
     unfolding routing routedBuffer routed
     routing-no-code out k = (sym (rw (h, k, routing, routed)), sym (rw (h, k, routedBuffer, routed)))
 

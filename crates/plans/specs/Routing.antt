@@ -4,15 +4,15 @@ use Prim.Native.Nat.{ℕ}
 use mathlib.Core.Path.{_≡_, refl}
 use mathlib.Core.Bool.{true, false}
 use mathlib.Core.List.{List, [], _∷_, map}
-use lib.Dec.{leb}
 use lib.ListN.{length, drop}
 use Rattle.higman.specs.Tables.{froms, ψ}
 use Rattle.higman.specs.Normal.{joined, normal, normalForm, keep}
 use Rattle.higman.specs.Limits.{shapeInRange, granted, isCode, maxPairs, maxDigits, maxCode}
+use Rattle.higman.specs.Refusals.{codeTooShort, bufferTooShort, invalidValue}
 use Rattle.higman.specs.Answers as Of
 use Rattle.higman.specs.Text.{wordBytes, digitOf, wordOf}
 use Rattle.words.specs.Packed.{packOn, pack, unpackIn, unpack}
-use Rattle.higman.specs.Buffers.{written}
+use Rattle.higman.specs.Buffers.{ifRoom, lentInto}
 use Rattle.words.specs.Bytes.{shape}
 use Rattle.tables.specs.Routing.{matchedDigits}
 use Rattle.plans.specs.declared.Plan.{Plan}
@@ -35,19 +35,19 @@ matching p code = drop (matched p code) code
 
 -- "14 last: the lent buffer is shorter than the output"
 abbrev pub routingIn : Of.Route → ℕ → Route
-routingIn (Of.Image v) room = elim (leb (length v) room) [ true ↦ Image (length v) | false ↦ Refused 14 ]
+routingIn (Of.Image v) room = ifRoom (length (wordBytes v)) room (Image (length (wordBytes v))) (Refused bufferTooShort)
 routingIn Of.TooShort room = TooShort
 routingIn (Of.NotRouted r) room = Refused (Of.refusalNumber r)
 
--- "On success only the bytes of the output change"; on a refusal none do
+-- what the buffer then holds: the image is the output
 abbrev pub imageInto : Of.Route → List ℕ → List ℕ
-imageInto (Of.Image v) out = elim (leb (length v) (length out)) [ true ↦ written out 0 (wordBytes v) | false ↦ out ]
+imageInto (Of.Image v) out = lentInto (wordBytes v) out
 imageInto Of.TooShort out = out
 imageInto (Of.NotRouted r) out = out
 
 -- W: 15, 4, 13, 14
 unfoldable pub routing : Plan → List ℕ → ℕ → Route
-routing p code room = elim (isPlan p) [ true ↦ routingIn (Of.routed (planOf p) (wordOf code)) room | false ↦ Refused 15 ]
+routing p code room = elim (isPlan p) [ true ↦ routingIn (Of.routed (planOf p) (wordOf code)) room | false ↦ Refused invalidValue ]
 
 -- what the buffer then holds
 unfoldable pub routedBuffer : Plan → List ℕ → List ℕ → List ℕ
@@ -56,7 +56,7 @@ routedBuffer p code out = elim (isPlan p) [ true ↦ imageInto (Of.routed (planO
 -- the number of a route's refusal; 0 for an image
 abbrev pub routingNumber : Route → ℕ
 routingNumber (Image n) = 0
-routingNumber TooShort = 13
+routingNumber TooShort = codeTooShort
 routingNumber (Refused n) = n
 
 -- the number of bytes written, 0 where there is a refusal

@@ -1,7 +1,8 @@
 // Listing a plan (document 01, "Records": "L .. lists the plan as P, M and E records") for a slot's letter into a lent buffer.
 ghost use mathlib.Core.Path.{_≡_};
 ghost use lib.ListN.{length};
-ghost use Rattle.plans.specs.Listing.{isSlot, listing, listedBuffer};
+ghost use Rattle.higman.specs.Listing.{isSlot};
+ghost use Rattle.plans.specs.Listing.{listing, listedBuffer};
 use crate::Listed;
 use crate::Plan;
 use crate::kept;

@@ -11,7 +11,7 @@ use native.Mathlib.Omega.{arith}
 use lib.Dec.{leb, lit≤}
 use lib.ListN.{length, take, drop, length-append, length-drop, length-map, take-append-drop, drop-of-length-le}
 use lib.Seq.{take-all, take-at, drop-at, drop-drop}
-use borrow.Author.Tests.{le-leb, lt-leb, leb-true, leb-false}
+use borrow.Author.Tests.{leb-true, leb-false}
 use Rattle.higman.specs.Words.{Word, begins}
 use Rattle.higman.specs.Tables.{firstMatch, image}
 use Rattle.higman.specs.Text.{digitByte, wordBytes, digitOf, wordOf}
@@ -21,6 +21,7 @@ use Rattle.higman.proofs.Prefixes.{tail-of-begins, ways-left, ways-right}
 use Rattle.higman.proofs.Matches.{match-found, match-nowhere, match-map}
 use Rattle.words.specs.Packed.{pack, unpack}
 use Rattle.higman.specs.Buffers.{written}
+use Rattle.higman.proofs.Buffers.{with-room, without-room, lent-written, lent-as-it-was}
 use Rattle.words.proofs.Packing.{unpack-pack}
 use Rattle.higman.proofs.PlanWords.{more-ways}
 use Rattle.words.proofs.Packed.{packed-length}
@@ -121,10 +122,6 @@ module _
       image-at from to (o .plain .long) (wordOf code) k f h _ (after-drop (wordAt from k) (wordOf code) (f .found h))
       ∙ ap (λ x. some (wordAt to k ++ x)) (sym (digits-drop (length (wordAt from k)) code))
 
-  pub routed-length : length routed-word ≡ length (wordAt to k) + length (drop (length (wordAt from k)) code)
-  unfolding tail routed-word
-  routed-length = length-append (wordAt to k) (wordOf tail) ∙ ap (λ n. length (wordAt to k) + n) (length-map tail digitOf)
-
   pub routed-bytes : wordBytes routed-word ≡ wordBytes (wordAt to k) ++ drop (length (wordAt from k)) code
   unfolding tail routed-word
   routed-bytes =
@@ -133,6 +130,12 @@ module _
       let ways = ways-right 9 (take n w) (drop n w) (subst (Ways 9) (sym (take-append-drop n w)) (code-ways code t)) in
       map-append digitByte (wordAt to k) (wordOf tail)
       ∙ ap (λ l. wordBytes (wordAt to k) ++ l) (bytes-of-code tail (subst (Ways 9) (sym (digits-drop n code)) ways))
+
+  pub routed-length : length (wordBytes routed-word) ≡ length (wordAt to k) + length (drop (length (wordAt from k)) code)
+  routed-length =
+      ap length routed-bytes
+      ∙ length-append (wordBytes (wordAt to k)) (drop (length (wordAt from k)) code)
+      ∙ ap (λ n. n + length (drop (length (wordAt from k)) code)) (length-map (wordAt to k) digitByte)
 
 -- bytes written to the start, and more bytes to the part behind them
 written-behind : (out s t : List ℕ) → length s ≤ length out → take (length s) (written out 0 s) ++ written (drop (length s) (written out 0 s)) 0 t ≡ written out 0 (s ++ t)
@@ -160,12 +163,17 @@ module _ (out : List ℕ) {o : Option Word} where
   route-too-short e = (sym (ap (λ o. routedIn o (length out)) e), sym (ap (λ o. routedInto o out) e))
 
   module _ (v : Word) (e : o ≡ some v) where
-    pub route-no-room : length out < length v → (NoRoom ≡ routedIn o (length out)) × (out ≡ routedInto o out)
+    pub route-no-room : length out < length (wordBytes v) → (NoRoom ≡ routedIn o (length out)) × (out ≡ routedInto o out)
     route-no-room h =
-        let f = lt-leb (length v) (length out) h in
-        (sym (ap (λ o. routedIn o (length out)) e ∙ rw (f, routedIn) refl), sym (ap (λ o. routedInto o out) e ∙ rw (f, routedInto) refl))
+        let size = length (wordBytes v) in (
+          sym (ap (λ o. routedIn o (length out)) e ∙ without-room size (length out) (Image size) NoRoom h),
+          sym (ap (λ o. routedInto o out) e ∙ lent-as-it-was (wordBytes v) out h),
+        )
 
-    pub route-image : length v ≤ length out → (Image (length v) ≡ routedIn o (length out)) × (written out 0 (wordBytes v) ≡ routedInto o out)
+    pub route-image : length (wordBytes v) ≤ length out
+        → (Image (length (wordBytes v)) ≡ routedIn o (length out)) × (written out 0 (wordBytes v) ≡ routedInto o out)
     route-image h =
-        let f = le-leb (length v) (length out) h in
-        (sym (ap (λ o. routedIn o (length out)) e ∙ rw (f, routedIn) refl), sym (ap (λ o. routedInto o out) e ∙ rw (f, routedInto) refl))
+        let size = length (wordBytes v) in (
+          sym (ap (λ o. routedIn o (length out)) e ∙ with-room size (length out) (Image size) NoRoom h),
+          sym (ap (λ o. routedInto o out) e ∙ lent-written (wordBytes v) out h),
+        )

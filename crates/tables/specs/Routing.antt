@@ -5,13 +5,13 @@ use mathlib.Core.Path.{_≡_, refl}
 use mathlib.Core.Bool.{true, false}
 use mathlib.Core.List.{List, [], _∷_, map}
 use mathlib.Core.Option.{Option, none, some, Option·getD}
-use lib.Dec.{T, leb}
+use lib.Dec.{T}
 use lib.ListN.{length, drop}
 use Rattle.higman.specs.Words.{Word, isWays, spell}
 use Rattle.higman.specs.Bases.{overlap}
 use Rattle.higman.specs.Tables.{firstMatch}
 use Rattle.higman.specs.Text.{wordBytes, digitOf, wordOf}
-use Rattle.higman.specs.Buffers.{written}
+use Rattle.higman.specs.Buffers.{ifRoom, lentInto}
 use Rattle.columns.specs.Packed.{wordsOf, sorted}
 use Rattle.tables.specs.Spreading.{packedWords}
 use Rattle.tables.specs.declared.routing.Routed.{Routed}
@@ -42,12 +42,12 @@ further n place = (place .0, n + place .1)
 -- what routing a code with this image answers, with room for so many bytes
 abbrev pub routedIn : Option Word → ℕ → Routed
 routedIn none room = TooShort
-routedIn (some v) room = elim (leb (length v) room) [ true ↦ Image (length v) | false ↦ NoRoom ]
+routedIn (some v) room = ifRoom (length (wordBytes v)) room (Image (length (wordBytes v))) NoRoom
 
--- and what the buffer then holds: "On success only the bytes of the output change."
+-- and what the buffer then holds
 abbrev pub routedInto : Option Word → List ℕ → List ℕ
 routedInto none out = out
-routedInto (some v) out = elim (leb (length v) (length out)) [ true ↦ written out 0 (wordBytes v) | false ↦ out ]
+routedInto (some v) out = lentInto (wordBytes v) out
 
 -- 1122 behind 112, and 21, which no word begins
 unmatched-example : map (unmatched (spell 111 ∷ spell 112 ∷ [])) ((49 ∷ 49 ∷ 50 ∷ 50 ∷ []) ∷ (50 ∷ 49 ∷ []) ∷ []) ≡ (50 ∷ []) ∷ (50 ∷ 49 ∷ []) ∷ []

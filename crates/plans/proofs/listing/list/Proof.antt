@@ -7,10 +7,9 @@ use borrow.Author.Tests.{not-true, not-false}
 use native.Mathlib.Omega.{arith}
 use lib.ListN.{length}
 use lib.Seq.{length-take-le}
-use Rattle.higman.specs.Listing.{listing}
+use Rattle.higman.specs.Listing.{isSlot, listing}
 use Rattle.higman.proofs.KeptPlans.{in-range}
 use Rattle.plans.specs.Plans.{shapeOf, planOf, isPlan}
-use Rattle.plans.specs.Listing.{isSlot}
 use Rattle.plans.proofs.KeptValues as K
 use Rattle.plans.proofs.KeptValues.{pairs-few, kept, plain}
 use Rattle.plans.proofs.Lists.{listing-no-plan, listing-no-slot, listing-no-room, listing-written}

@@ -47,7 +47,8 @@ image-is c =
 long : (c : tie.Else1) →
     let p = c .before in
     let a = p .before .before .before .before .before .args in
-    length (routed c) ≡ length (wordAt (a .to .now) (p .place-of .result)) + length (drop (length (wordAt (a .from .now) (p .place-of .result))) (a .code .now))
+    let k = p .place-of .result in
+    length (wordBytes (routed c)) ≡ length (wordAt (a .to .now) k) + length (drop (length (wordAt (a .from .now) k)) (a .code .now))
 long c =
     let p = c .before in
     let s = p .before .before .before .before .before in
@@ -58,7 +59,7 @@ long c =
 room : (c : tie.Else3) →
     let e = c .before .before .before .before .before .before in
     let a = e .before .before .before .before .before .before .args in
-    length (routed e) ≤ length (a .out .now)
+    length (wordBytes (routed e)) ≤ length (a .out .now)
 room c =
     let b = c .before .before .before .before in
     omega (arith, long (b .before .before), ap length (b .behind .ensures .0))
@@ -154,7 +155,8 @@ returns-4 c =
     let k = e .before .place-of .result in
     let head = wordAt (a .to .now) k in
     let d = w .before .before .before in
-    let size : w .write .result + length (b .behind .result .now) ≡ length (routed e) = omega (arith, long e, ap length (b .behind .ensures .0), w .write .ensures .0) in
+    let size : w .write .result + length (b .behind .result .now) ≡ length (wordBytes (routed e)) =
+    omega (arith, long e, ap length (b .behind .ensures .0), w .write .ensures .0) in
     let answer = route-image (a .out .now) (routed e) (image-is e) (room d) in
     let bytes = routed-bytes (a .from .now) (a .to .now) (s .pre .0) (a .code .now) (s .pre .1) k (e .if1 .left) (first (e .before)) in (
       ap Image size ∙ answer .0,
