@@ -7,6 +7,7 @@ use borrow.Author.Tests.{ne-eqb}
 use Rattle.higman.specs.Words.{Shape}
 use lib.ListN.{length}
 use Rattle.higman.specs.Tables.{Table, sameTable}
+use Rattle.higman.specs.Refusals.{shapesDiffer, invalidValue}
 use Rattle.higman.specs.Answers.{sameShape, followed, same}
 use Rattle.higman.proofs.Tests.{passes, T-of, same-table}
 use Rattle.higman.proofs.Answers.{same-shape-refl}
@@ -35,15 +36,15 @@ module _ (a b : Plan) where
   both-plans h k = sym (rw (h, k, following))
 
   -- where both are plans
-  pub shapes-differ : sameShape (shapeOf a) (shapeOf b) ≡ false → refusing 10 ≡ composing a b
+  pub shapes-differ : sameShape (shapeOf a) (shapeOf b) ≡ false → refusing shapesDiffer ≡ composing a b
   unfolding followed
   shapes-differ h = sym (rw (h, followed))
 
-  pub first-not-alike : isPlan a ≡ false → Refused 15 ≡ alike a b
+  pub first-not-alike : isPlan a ≡ false → Refused invalidValue ≡ alike a b
   unfolding alike
   first-not-alike h = sym (rw (h, alike))
 
-  pub second-not-alike : isPlan a ≡ true → isPlan b ≡ false → Refused 15 ≡ alike a b
+  pub second-not-alike : isPlan a ≡ true → isPlan b ≡ false → Refused invalidValue ≡ alike a b
   unfolding alike
   second-not-alike h k = sym (rw (h, k, alike))
 
@@ -51,7 +52,7 @@ module _ (a b : Plan) where
   unfolding alike
   both-compared h k = sym (rw (h, k, alike))
 
-  pub not-compared : sameShape (shapeOf a) (shapeOf b) ≡ false → Refused 10 ≡ likeness (same (planOf a) (planOf b))
+  pub not-compared : sameShape (shapeOf a) (shapeOf b) ≡ false → Refused shapesDiffer ≡ likeness (same (planOf a) (planOf b))
   unfolding same
   not-compared h = sym (rw (h, same))
 

@@ -12,6 +12,7 @@ use Rattle.higman.specs.Words.{Shape}
 use Rattle.higman.specs.Tables.{Table}
 use Rattle.higman.specs.Normal.{inverse}
 use Rattle.higman.specs.Limits.{Kept, maxPower, Plan as PlanOf}
+use Rattle.higman.specs.Refusals.{powerOutside}
 use Rattle.higman.specs.Answers as Of
 use Rattle.higman.specs.Answers.{raised, powered, inverted, repeatable}
 use Rattle.higman.proofs.Group.{inverse-member}
@@ -53,7 +54,7 @@ module _ (a : Plan) where
     unfolding raising
     raising-plan k = rw (h, raising)
 
-    pub raising-outside : (k : ℤ) → maxPower < natAbs k → refusing 12 ≡ raising a k
+    pub raising-outside : (k : ℤ) → maxPower < natAbs k → refusing powerOutside ≡ raising a k
     raising-outside k l = sym (raising-plan k ∙ ap making (outside (planOf a) k (lt-leb (natAbs k) maxPower l)))
 
     pub raising-within : (k : ℤ) → natAbs k ≤ maxPower → raising a k ≡ repeated (raised (shapeOf a) (repeatable (planOf a) k) (natAbs k)) (shapeOf a)

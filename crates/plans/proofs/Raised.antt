@@ -13,6 +13,7 @@ use Rattle.higman.specs.Words.{Shape}
 use Rattle.higman.specs.Tables.{Table}
 use Rattle.higman.specs.Normal.{compose, identity}
 use Rattle.higman.specs.Limits.{Kept, granted, Plan as PlanOf}
+use Rattle.higman.specs.Refusals.{limitBroken}
 use Rattle.higman.specs.Answers as Of
 use Rattle.higman.specs.Answers.{Answer as HigmanAnswer, grant, followed, raised, identityPlan}
 use Rattle.higman.proofs.Tests.{passes, T-of}
@@ -112,7 +113,7 @@ module _ (a : Plan) (h : isPlan a ≡ true) where
                 held = ap (λ x. x .plan) (made true g);
                 keeps = kept-of-member (shaped next) (K .in-range) (T-of g) (compose-member s (arity-of-range s (K .in-range)) (r .pairs) (rowsOf a) (member-of-kept (shaped (r .pairs)) (r .keeps) .element) (member-of-kept (planOf a) K .element));
               }
-          go (inr g) = absurd (not-refused 11 (sym f ∙ ap (λ x. x .answer) (made false g)))
+          go (inr g) = absurd (not-refused limitBroken (sym f ∙ ap (λ x. x .answer) (made false g)))
 
       pub stopped : (number : ℕ) → m .answer ≡ Refused number → (n : ℕ) → i < n → m ≡ repeating (planOf a) n
       stopped number f n l = go (passes (granted next))

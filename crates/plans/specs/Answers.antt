@@ -10,6 +10,7 @@ use Rattle.higman.specs.Words.{Shape}
 use Rattle.higman.specs.Tables.{Table, row, φ, ψ}
 use Rattle.higman.specs.Normal.{joined, normal, normalForm, keep, compose, inverse, identity}
 use Rattle.higman.specs.Limits.{Plan as PlanOf, shapeInRange, granted, maxPairs, maxDigits, maxPower}
+use Rattle.higman.specs.Refusals.{invalidValue, F, T, letterByte}
 use Rattle.higman.specs.Answers as Of
 use Rattle.words.specs.Packed.{packOn, pack, unpackIn, unpack}
 use Rattle.words.specs.Bytes.{shape}
@@ -52,7 +53,7 @@ reasonNumber Overlap = Of.reasonNumber Of.Overlap
 reasonNumber Gap = Of.reasonNumber Of.Gap
 
 abbrev pub judgementNumber : Judgement → ℕ
-judgementNumber NotADraft = 15
+judgementNumber NotADraft = invalidValue
 judgementNumber Accepted = 0
 judgementNumber (InFrom r) = reasonNumber r
 judgementNumber (InTo r) = reasonNumber r
@@ -61,8 +62,8 @@ judgementNumber (InTo r) = reasonNumber r
 abbrev pub judgementColumn : Judgement → ℕ
 judgementColumn NotADraft = 0
 judgementColumn Accepted = 0
-judgementColumn (InFrom r) = 70
-judgementColumn (InTo r) = 84
+judgementColumn (InFrom r) = letterByte F
+judgementColumn (InTo r) = letterByte T
 
 -- the plan kept of a draft, "reduce and keep"
 abbrev pub keptOf : Plan → Judgement → Plan
@@ -91,7 +92,7 @@ answerNumber Granted = 0
 answerNumber (Refused n) = n
 
 abbrev pub noPlan : Making
-noPlan = refusing 15
+noPlan = refusing invalidValue
 
 -- two plans one after the other, where both are plans
 abbrev pub composing : Plan → Plan → Making
@@ -125,7 +126,8 @@ likeness (Of.NotCompared r) = Like.Refused (Of.refusalNumber r)
 
 -- S: 15, 10
 unfoldable pub alike : Plan → Plan → Likeness
-alike a b = elim (isPlan a && isPlan b) [ true ↦ likeness (Of.same (planOf a) (planOf b)) | false ↦ Like.Refused 15 ]
+alike a b =
+    elim (isPlan a && isPlan b) [ true ↦ likeness (Of.same (planOf a) (planOf b)) | false ↦ Like.Refused invalidValue ]
 
 -- the number of a refusal, 0 where plans were compared, and what the comparison found
 abbrev pub likenessNumber : Likeness → ℕ

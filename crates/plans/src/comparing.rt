@@ -8,6 +8,7 @@ ghost use Rattle.plans.specs.Answers.{alike};
 use crate::Likeness;
 use crate::Plan;
 use crate::kept;
+use crate::numbers;
 
 // Whether the pairs of two columns are those of two others, all of one length.
 fn same_pairs(a_from: &[u64], a_to: &[u64], b_from: &[u64], b_to: &[u64]) -> bool
@@ -32,16 +33,16 @@ pub fn same(a: Plan, b: Plan) -> Likeness
     ensures { λ r. ⌜ r ≡ alike a b ⌝ }
 {
     if !kept::is_plan(a) {
-        return Likeness::Refused(15);
+        return Likeness::Refused(numbers::INVALID_VALUE);
     }
     if !kept::is_plan(b) {
-        return Likeness::Refused(15);
+        return Likeness::Refused(numbers::INVALID_VALUE);
     }
     if a.arity != b.arity {
-        return Likeness::Refused(10);
+        return Likeness::Refused(numbers::SHAPES_DIFFER);
     }
     if a.roots != b.roots {
-        return Likeness::Refused(10);
+        return Likeness::Refused(numbers::SHAPES_DIFFER);
     }
     let n = a.pairs;
     if n != b.pairs {

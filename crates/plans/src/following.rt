@@ -18,6 +18,7 @@ use crate::MAX_PAIRS;
 use crate::Making;
 use crate::Plan;
 use crate::kept;
+use crate::numbers;
 use tables::spreading::Spread;
 
 // The limits of a power.
@@ -76,7 +77,7 @@ fn composed(a: Plan, b: Plan) -> Making
         &mut froms,
         &mut tos,
     ) else {
-        return kept::refused(11);
+        return kept::refused(numbers::LIMIT_BROKEN);
     };
     let mut out_from = [0u64; 256];
     let mut out_to = [0u64; 256];
@@ -89,7 +90,7 @@ fn composed(a: Plan, b: Plan) -> Making
         a.roots,
     );
     if MAX_PAIRS < pairs {
-        return kept::refused(11);
+        return kept::refused(numbers::LIMIT_BROKEN);
     }
     kept::granted(filled(&out_from, &out_to, pairs, a.arity, a.roots))
 }
@@ -109,16 +110,16 @@ pub fn follow(a: Plan, b: Plan) -> Making
     ensures { λ r. ⌜ r ≡ following a b ⌝ }
 {
     if !kept::is_plan(a) {
-        return kept::refused(15);
+        return kept::refused(numbers::INVALID_VALUE);
     }
     if !kept::is_plan(b) {
-        return kept::refused(15);
+        return kept::refused(numbers::INVALID_VALUE);
     }
     if a.arity != b.arity {
-        return kept::refused(10);
+        return kept::refused(numbers::SHAPES_DIFFER);
     }
     if a.roots != b.roots {
-        return kept::refused(10);
+        return kept::refused(numbers::SHAPES_DIFFER);
     }
     composed(a, b)
 }
@@ -149,13 +150,13 @@ pub fn power(a: Plan, k: i32) -> Making
     ensures { λ r. ⌜ r ≡ raising a k ⌝ }
 {
     if !kept::is_plan(a) {
-        return kept::refused(15);
+        return kept::refused(numbers::INVALID_VALUE);
     }
     if k < MIN_POWER {
-        return kept::refused(12);
+        return kept::refused(numbers::POWER_OUTSIDE);
     }
     if MAX_POWER < k {
-        return kept::refused(12);
+        return kept::refused(numbers::POWER_OUTSIDE);
     }
     if k < 0 {
         let back = kept::inverse(a);

@@ -18,6 +18,7 @@ use crate::Judgement;
 use crate::Keeping;
 use crate::Making;
 use crate::Plan;
+use crate::numbers;
 
 // Sets the numbers of a column to zero from a place on.
 fn clear(column: &mut [u64], place: usize)
@@ -159,7 +160,7 @@ pub fn inverse(a: Plan) -> Making
     ensures { λ r. ⌜ r ≡ inverting a ⌝ }
 {
     if !is_plan(a) {
-        return refused(15);
+        return refused(numbers::INVALID_VALUE);
     }
     let from = a.from;
     let to = a.to;

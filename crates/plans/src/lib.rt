@@ -6,6 +6,7 @@ pub mod drafts;
 pub mod following;
 pub mod kept;
 pub mod listing;
+pub mod numbers;
 pub mod routing;
 
 // The limit of pairs in a plan.

@@ -6,6 +6,7 @@ ghost use Rattle.plans.specs.Listing.{listing, listedBuffer};
 use crate::Listed;
 use crate::Plan;
 use crate::kept;
+use crate::numbers;
 
 // Whether a byte names a slot, A to H.
 pub fn is_slot(slot: u8) -> bool
@@ -23,17 +24,17 @@ pub fn list(p: Plan, slot: u8, out: &mut [u8]) -> Listed
     ensures { λ _. ⌜ now (out .exit) ≡ listedBuffer p slot (now (out .entry)) ⌝ }
 {
     if !kept::is_plan(p) {
-        return Listed::Refused(15);
+        return Listed::Refused(numbers::INVALID_VALUE);
     }
     if !is_slot(slot) {
-        return Listed::Refused(8);
+        return Listed::Refused(numbers::SLOT_OUTSIDE);
     }
     let n = p.pairs;
     let from = p.from;
     let to = p.to;
     let bytes = tables::list::listing_length(&from[..n], &to[..n]);
     if out.len() < bytes {
-        return Listed::Refused(14);
+        return Listed::Refused(numbers::BUFFER_TOO_SHORT);
     }
     let end = tables::list::list_into(slot, p.arity, p.roots, &from[..n], &to[..n], out);
     Listed::Bytes(end)

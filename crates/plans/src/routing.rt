@@ -10,6 +10,7 @@ ghost use Rattle.plans.specs.Routing.{matched, matching, routing, routed
 use crate::Plan;
 use crate::Route;
 use crate::kept;
+use crate::numbers;
 use tables::routing::Routed;
 
 // The limit of digits in a routed code.
@@ -47,10 +48,10 @@ pub fn route(p: Plan, code: &[u8], out: &mut [u8]) -> Route
     ensures { λ _. ⌜ now (out .exit) ≡ routedBuffer p (now (code .entry)) (now (out .entry)) ⌝ }
 {
     if !kept::is_plan(p) {
-        return Route::Refused(15);
+        return Route::Refused(numbers::INVALID_VALUE);
     }
     if !is_code(code, p.arity, p.roots) {
-        return Route::Refused(4);
+        return Route::Refused(numbers::BAD_WORD);
     }
     let n = p.pairs;
     let from = p.from;
@@ -58,6 +59,6 @@ pub fn route(p: Plan, code: &[u8], out: &mut [u8]) -> Route
     match tables::routing::route_into(&from[..n], &to[..n], code, out) {
         Routed::Image(digits) => Route::Image(digits),
         Routed::TooShort => Route::TooShort,
-        Routed::NoRoom => Route::Refused(14),
+        Routed::NoRoom => Route::Refused(numbers::BUFFER_TOO_SHORT),
     }
 }

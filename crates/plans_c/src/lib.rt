@@ -9,6 +9,7 @@ use plans::Making;
 use plans::Plan;
 use plans::Reason;
 use plans::Route;
+use plans::numbers;
 ghost use mathlib.Core.Path.{_≡_};
 ghost use lib.ListN.{length};
 ghost use Rattle.plans.specs.Plans.{isPlan};
@@ -57,8 +58,8 @@ fn reason_number(reason: Reason) -> u8
     ensures { λ r. ⌜ r ≡ reasonNumber reason ⌝ }
 {
     match reason {
-        Reason::Overlap => 6,
-        Reason::Gap => 7,
+        Reason::Overlap => numbers::WORDS_OVERLAP,
+        Reason::Gap => numbers::ROOT_UNCOVERED,
     }
 }
 
@@ -67,7 +68,7 @@ fn verdict_of(judgement: Judgement) -> Verdict
 {
     match judgement {
         Judgement::NotADraft => Verdict {
-            number: 15,
+            number: numbers::INVALID_VALUE,
             column: 0,
         },
         Judgement::Accepted => Verdict {
@@ -149,7 +150,7 @@ fn routed_of(route: Route) -> Written
             length: length,
         },
         Route::TooShort => Written {
-            number: 13,
+            number: numbers::CODE_TOO_SHORT,
             length: 0,
         },
         Route::Refused(number) => Written {

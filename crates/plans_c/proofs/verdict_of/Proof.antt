@@ -2,6 +2,7 @@
 use Prim.Native.Nat.{ℕ}
 use mathlib.Core.Path.{sym, _∙_, ap}
 use borrow.Author.Needs.{needs}
+use Rattle.higman.specs.Refusals.{F, T, letterByte}
 use Rattle.plans_c.specs.declared.Verdict.{Verdict}
 use Rattle.plans_c.specs.Numbers.{verdictOf}
 use Rattle.plans_c.proofs.verdict_of.Statement.{statement}
@@ -36,10 +37,10 @@ returns-2 : tie.Need-returns-2
 returns-2 c = sym (ap verdictOf (c .enum-told2 .given .1))
 
 returns-3 : tie.Need-returns-3
-returns-3 c = ap (inColumn 70) (c .reason-number .ensures) ∙ sym (ap verdictOf (c .before .before .judgement .given .1))
+returns-3 c = ap (inColumn (letterByte F)) (c .reason-number .ensures) ∙ sym (ap verdictOf (c .before .before .judgement .given .1))
 
 returns-4 : tie.Need-returns-4
-returns-4 c = ap (inColumn 84) (c .reason-number2 .ensures) ∙ sym (ap verdictOf (c .before .before .judgement2 .given .1))
+returns-4 c = ap (inColumn (letterByte T)) (c .reason-number2 .ensures) ∙ sym (ap verdictOf (c .before .before .judgement2 .given .1))
 
 pub verdict-of-spec : {M : Type 1} → statement M
 verdict-of-spec =

@@ -1,0 +1,23 @@
+// The numbers of the refusals that the calls give, under the names that higman's Refusals.antt has for them beside document 01's words.
+// The promises of the calls speak of those names, so that each of these is the right number is proved with them.
+
+// `badWord`
+pub const BAD_WORD: u8 = 4;
+// `wordsOverlap`
+pub const WORDS_OVERLAP: u8 = 6;
+// `rootUncovered`
+pub const ROOT_UNCOVERED: u8 = 7;
+// `slotOutside`
+pub const SLOT_OUTSIDE: u8 = 8;
+// `shapesDiffer`
+pub const SHAPES_DIFFER: u8 = 10;
+// `limitBroken`
+pub const LIMIT_BROKEN: u8 = 11;
+// `powerOutside`
+pub const POWER_OUTSIDE: u8 = 12;
+// `codeTooShort`
+pub const CODE_TOO_SHORT: u8 = 13;
+// `bufferTooShort`
+pub const BUFFER_TOO_SHORT: u8 = 14;
+// `invalidValue`
+pub const INVALID_VALUE: u8 = 15;
