@@ -15,8 +15,7 @@ ghost use Rattle.columns.specs.Columns.{PartedAt, placeIn, AtBlock, Reac
 
 pub mod sorting;
 
-// The ways that a word has below its belt, at most.
-const MAX_WAYS: u8 = 15;
+use words::MAX_WAYS;
 
 // How far the words of a covered block reach.
 pub enum Cover {

@@ -21,7 +21,7 @@ pub filling-start : (l : List ℕ) → replicate 128 0 ≡ filling 0 l
 unfolding maxPairs
 filling-start l = refl
 
-pub filling-suc : (l : List ℕ) (i : ℕ) → i < 128 → i < length l → set (filling i l) i (getD l i 0) ≡ filling (i + 1) l
+pub filling-suc : (l : List ℕ) (i : ℕ) → i < maxPairs → i < length l → set (filling i l) i (getD l i 0) ≡ filling (i + 1) l
 unfolding maxPairs
 filling-suc l i h k =
     let one : 128 - i ≡ suc (127 - i) = omega arith in

@@ -18,20 +18,29 @@ ghost use Rattle.columns.specs.Packed.{wordsOf};
 ghost use Rattle.plans.specs.Plans.{zeros, isColumn, isDraft};
 ghost use Rattle.plans.specs.Answers.{faultOf, judged};
 
+// The ways at a switch and the belts of a shape: `shapeInRange` of higman's Limits.antt.
+const MIN_ARITY: u8 = 2;
+
+const MAX_ARITY: u8 = 9;
+
+const MIN_ROOTS: u8 = 1;
+
+const MAX_ROOTS: u8 = 9;
+
 // Whether a shape has 2 to 9 ways at a switch and 1 to 9 belts.
 fn shape_in_range(arity: u8, roots: u8) -> bool
     ensures { λ r. ⌜ r ≡ shapeInRange (shape arity roots) ⌝ }
 {
-    if arity < 2 {
+    if arity < MIN_ARITY {
         return false;
     }
-    if 9 < arity {
+    if MAX_ARITY < arity {
         return false;
     }
-    if roots < 1 {
+    if roots < MIN_ROOTS {
         return false;
     }
-    roots <= 9
+    roots <= MAX_ROOTS
 }
 
 // Whether each number of a column holds a word that a plan of the shape may hold.
@@ -108,7 +117,7 @@ fn fault_in(keys: &mut [u64], values: &mut [u64], arity: u8, roots: u8) -> Fault
 }
 
 // What is wrong with the first n words of a column. Two copies are sorted, so that the column stays as it came.
-fn fault_of(column: [u64; 128], n: usize, arity: u8, roots: u8) -> Fault
+fn fault_of(column: [u64; MAX_PAIRS], n: usize, arity: u8, roots: u8) -> Fault
     requires { ⌜ (n ≤ maxPairs) × T (shapeInRange (shape arity roots)) ⌝ }
     ensures { λ r. ⌜ r ≡ faultOf (fault (shape arity roots) (wordsOf (take n column))) ⌝ }
 {

@@ -7,7 +7,7 @@ ghost use mathlib.Core.Bool.{true};
 ghost use Prim.Native.Nat.{_≤_};
 ghost use lib.Dec.{T};
 ghost use lib.ListN.{length};
-ghost use Rattle.higman.specs.Limits.{shapeInRange};
+ghost use Rattle.higman.specs.Limits.{shapeInRange, maxPairs};
 ghost use Rattle.higman.specs.Answers.{identityPlan};
 ghost use Rattle.words.specs.Bytes.{shape};
 ghost use Rattle.plans.specs.Plans.{planOf, shapeOf, isPlan, packed};
@@ -21,17 +21,20 @@ use crate::kept;
 use crate::numbers;
 use tables::spreading::Spread;
 
-// The limits of a power.
-const MIN_POWER: i32 = -1000;
-
+// The size that a power has at most: `maxPower` of higman's Limits.antt.
 const MAX_POWER: i32 = 1000;
 
+const MIN_POWER: i32 = -MAX_POWER;
+
+// The pairs that two plans give at most, before they are reduced.
+const MAX_SPREAD: usize = 2 * MAX_PAIRS;
+
 // The first n numbers of a column, and zeros behind them.
-fn padded(column: &[u64], n: usize) -> [u64; 128]
-    requires { ⌜ (n ≤ 128) × (n ≤ length (now column)) ⌝ }
+fn padded(column: &[u64], n: usize) -> [u64; MAX_PAIRS]
+    requires { ⌜ (n ≤ maxPairs) × (n ≤ length (now column)) ⌝ }
     ensures { λ r. ⌜ r ≡ filling n (now (column .entry)) ⌝ }
 {
-    let mut places = [0u64; 128];
+    let mut places = [0u64; MAX_PAIRS];
     let mut i = 0;
     while i < n {
         places[i] = column[i];
@@ -42,7 +45,7 @@ fn padded(column: &[u64], n: usize) -> [u64; 128]
 
 // The plan of the first n pairs of two columns.
 fn filled(from: &[u64], to: &[u64], n: usize, arity: u8, roots: u8) -> Plan
-    requires { ⌜ (n ≤ 128) × (n ≤ length (now from)) × (n ≤ length (now to)) ⌝ }
+    requires { ⌜ (n ≤ maxPairs) × (n ≤ length (now from)) × (n ≤ length (now to)) ⌝ }
     ensures { λ r. ⌜ r ≡ filledPlan arity roots n (now (from .entry)) (now (to .entry)) ⌝ }
 {
     let from_places = padded(from, n);
@@ -67,8 +70,8 @@ fn composed(a: Plan, b: Plan) -> Making
     let second = b.pairs;
     let b_from = b.from;
     let b_to = b.to;
-    let mut froms = [0u64; 256];
-    let mut tos = [0u64; 256];
+    let mut froms = [0u64; MAX_SPREAD];
+    let mut tos = [0u64; MAX_SPREAD];
     let Spread::Rows(n) = tables::spreading::spread_plans(
         &a_from[..first],
         &a_to[..first],
@@ -79,8 +82,8 @@ fn composed(a: Plan, b: Plan) -> Making
     ) else {
         return kept::refused(numbers::LIMIT_BROKEN);
     };
-    let mut out_from = [0u64; 256];
-    let mut out_to = [0u64; 256];
+    let mut out_from = [0u64; MAX_SPREAD];
+    let mut out_to = [0u64; MAX_SPREAD];
     let pairs = tables::reduce::reduce(
         &froms[..n],
         &tos[..n],

@@ -16,6 +16,7 @@ ghost use Rattle.plans.specs.Keeping.{KeptColumns};
 use crate::Answer;
 use crate::Judgement;
 use crate::Keeping;
+use crate::MAX_PAIRS;
 use crate::Making;
 use crate::Plan;
 use crate::numbers;
@@ -55,14 +56,14 @@ fn keep_into(
 }
 
 // The plan kept of the first n pairs of two columns, both bases.
-fn kept(from: [u64; 128], to: [u64; 128], n: usize, arity: u8, roots: u8) -> Plan
-    requires { ⌜ (n ≤ 128) × T (shapeInRange (shape arity roots)) × Bases (shape arity roots) (rows n from to) ⌝ }
+fn kept(from: [u64; MAX_PAIRS], to: [u64; MAX_PAIRS], n: usize, arity: u8, roots: u8) -> Plan
+    requires { ⌜ (n ≤ maxPairs) × T (shapeInRange (shape arity roots)) × Bases (shape arity roots) (rows n from to) ⌝ }
     ensures { λ r. ⌜ r ≡ packed (record { shape = shape arity roots; rows = keep (shape arity roots) (rows n from to) }) ⌝ }
 {
     let mut keys = from;
     let mut values = to;
-    let mut out_from = [0u64; 128];
-    let mut out_to = [0u64; 128];
+    let mut out_from = [0u64; MAX_PAIRS];
+    let mut out_to = [0u64; MAX_PAIRS];
     let pairs = keep_into(
         &mut keys[..n],
         &mut values[..n],
@@ -88,8 +89,8 @@ fn blank() -> Plan
         arity: 0,
         roots: 0,
         pairs: 0,
-        from: [0u64; 128],
-        to: [0u64; 128],
+        from: [0u64; MAX_PAIRS],
+        to: [0u64; MAX_PAIRS],
     }
 }
 

@@ -9,7 +9,7 @@ pub mod listing;
 pub mod numbers;
 pub mod routing;
 
-// The limit of pairs in a plan.
+// The pairs that a plan has at most: `maxPairs` of higman's Limits.antt.
 pub const MAX_PAIRS: usize = 128;
 
 // A shape and the pairs of a plan, or of a draft of one, at the first places of two columns; the other places are zero. Programs in C
@@ -19,8 +19,8 @@ pub struct Plan {
     pub arity: u8,
     pub roots: u8,
     pub pairs: usize,
-    pub from: [u64; 128],
-    pub to: [u64; 128],
+    pub from: [u64; MAX_PAIRS],
+    pub to: [u64; MAX_PAIRS],
 }
 
 // What is wrong with a column.

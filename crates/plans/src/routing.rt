@@ -13,7 +13,7 @@ use crate::kept;
 use crate::numbers;
 use tables::routing::Routed;
 
-// The limit of digits in a routed code.
+// The digits that a routed code has at most: `maxCode` of higman's Limits.antt.
 const MAX_CODE: usize = 1024;
 
 // Whether a code is one that a plan of the shape routes.

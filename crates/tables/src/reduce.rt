@@ -16,9 +16,6 @@ ghost use Rattle.words.specs.Bytes.{shape};
 ghost use Rattle.columns.specs.Packed.{table, rows, rowsAt};
 ghost use Rattle.tables.specs.Reduction.{prefixed, Block, Parts, state, Places, ReducesBlock, ReducesParts, Reducible};
 
-// The ways below a root that a word has room for.
-const MAX_WAYS: u8 = 15;
-
 // The places of the next pair to read and of the next pair to write.
 pub struct Cursor {
     pub read: usize,
@@ -172,7 +169,7 @@ pub fn reduce(
         0,
         1,
         roots,
-        MAX_WAYS,
+        words::MAX_WAYS,
         arity,
         start,
     );

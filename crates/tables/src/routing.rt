@@ -13,9 +13,6 @@ ghost use Rattle.columns.specs.Columns.{placeIn};
 ghost use Rattle.tables.specs.Spreading.{Operand};
 ghost use Rattle.tables.specs.Routing.{IsCode, Searchable, matchedDigits, unmatched, further, routedIn, routedInto};
 
-// The limit of digits in a plan word.
-const MAX_DIGITS: usize = 16;
-
 // What routing a code into a buffer answers.
 pub enum Routed {
     // the number of bytes of the image, which stand in the buffer
@@ -31,10 +28,10 @@ pub fn front(code: &[u8]) -> u64
     requires { ⌜ IsCode (now code) ⌝ }
     ensures { λ r. ⌜ unpack r ≡ take maxDigits (wordOf (now (code .entry))) ⌝ }
 {
-    if code.len() <= MAX_DIGITS {
+    if code.len() <= words::MAX_DIGITS {
         words::pack(code)
     } else {
-        words::pack(&code[..MAX_DIGITS])
+        words::pack(&code[..words::MAX_DIGITS])
     }
 }
 

@@ -9,8 +9,8 @@ ghost use Rattle.columns.specs.Packed.{table};
 ghost use Rattle.tables.specs.Spread.{beneath, spreadPair, spread};
 ghost use Rattle.tables.specs.Spreading.{pair, Plain, Operand, Unbegun, Room, Spreads};
 
-// The limit of digits in a plan word.
-const MAX_DIGITS: u32 = 16;
+// The digits that a plan word has at most, as a number of the type of lengths.
+const MAX_DIGITS: u32 = words::MAX_DIGITS as u32;
 
 // How pairs were written behind others.
 pub enum Spread {

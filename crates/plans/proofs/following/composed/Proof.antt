@@ -226,7 +226,7 @@ slice-aggregate-filled-2 c = search needs
 filled-requires : tie.Need-filled-requires
 filled-requires c κs =
     let r = c .before .before .before .before .before in
-    (c .before .before .if1 .left, out-room r .0, out-room r .1)
+    (omega (arith, pair-limit, c .before .before .if1 .left), out-room r .0, out-room r .1)
 
 granted-requires : tie.Need-granted-requires
 granted-requires c κs = search needs

@@ -9,6 +9,7 @@ use Rattle.higman.proofs.KeptPlans.{in-range}
 use Rattle.words.specs.Bytes.{shape}
 use Rattle.plans.specs.Plans.{packed}
 use Rattle.plans.proofs.Filled.{filled-packed}
+use Rattle.plans.proofs.KeptValues.{pair-limit}
 use Rattle.plans.proofs.Identity.{identity-rows}
 use Rattle.plans.proofs.following.identity.Statement.{statement}
 use Rattle.plans.proofs.following.identity.Tie as tie
@@ -25,7 +26,7 @@ slice-aggregate-filled-2 c = search needs
 filled-requires : tie.Need-filled-requires
 filled-requires c κs =
     let h = few (c .before .before) in
-    (omega arith, h, h)
+    (omega (arith, pair-limit), h, h)
 
 returns : tie.Need-returns
 unfolding identityPlan

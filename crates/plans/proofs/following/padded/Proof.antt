@@ -6,6 +6,7 @@ use native.Mathlib.Omega.{arith}
 use lib.ListN.{getD, set}
 use Rattle.plans.specs.Filled.{filling}
 use Rattle.plans.proofs.Filled.{filling-start, filling-suc}
+use Rattle.plans.proofs.KeptValues.{pair-limit}
 use Rattle.plans.proofs.following.padded.Statement.{statement}
 use Rattle.plans.proofs.following.padded.Tie as tie
 
@@ -28,7 +29,7 @@ mul-places-2 : tie.Need-mul-places-2 Inv-loop μ-loop
 mul-places-2 c = omega arith
 
 array-write-places : tie.Need-array-write-places Inv-loop μ-loop
-array-write-places c = omega arith
+array-write-places c = omega (arith, pair-limit)
 
 add-i : tie.Need-add-i Inv-loop μ-loop
 add-i c = omega arith

@@ -2,7 +2,6 @@
 use mathlib.Core.Path.{sym, _∙_}
 use borrow.Author.Needs.{needs}
 use borrow.Author.Tests.{not-true, not-false}
-use Rattle.higman.specs.Limits.{maxPairs}
 use Rattle.plans.proofs.Accepted.{plan-few, plan-in-range, exchanged-bases, inverting-plan, inverting-none}
 use Rattle.plans.proofs.kept.inverse.Statement.{statement}
 use Rattle.plans.proofs.kept.inverse.Tie as tie
@@ -19,7 +18,6 @@ returns c =
     c .refused .ensures ∙ inverting-none (i .before .args .a) (sym (i .is-plan .ensures) ∙ not-true (i .is-plan .result) (c .before .if1 .taken))
 
 kept-requires : tie.Need-kept-requires
-unfolding maxPairs
 kept-requires c κs =
     let i = c .before .before .before in
     let a = i .before .args .a in

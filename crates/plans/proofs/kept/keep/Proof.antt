@@ -1,7 +1,6 @@
 -- `plans::kept::keep` meets its contract: an accepted draft has bases for columns, and of any other judgement nothing is kept.
 use mathlib.Core.Path.{sym, _∙_, ap}
 use borrow.Author.Needs.{needs}
-use Rattle.higman.specs.Limits.{maxPairs}
 use Rattle.plans.specs.Answers.{keptOf}
 use Rattle.plans.proofs.Accepted.{not-accepted, approved, keeping-of, none-kept}
 use Rattle.plans.proofs.kept.keep.Statement.{statement}
@@ -14,7 +13,6 @@ enum-told : tie.Need-enum-told
 enum-told c = search needs
 
 kept-requires : tie.Need-kept-requires
-unfolding maxPairs
 kept-requires c κs =
     let v = c .before .before .before .before in
     let p = v .before .args .draft in

@@ -10,24 +10,25 @@ use Rattle.higman.specs.Limits.{maxPairs}
 use Rattle.words.specs.Bytes.{shape}
 use Rattle.columns.specs.Packed.{rows}
 use Rattle.plans.proofs.Values.{kept-value}
+use Rattle.plans.proofs.KeptValues.{pair-limit}
 use Rattle.plans.proofs.kept.kept.Statement.{statement}
 use Rattle.plans.proofs.kept.kept.Tie as tie
 
 -- the columns are as long as a plan's
 from-inside : (c : tie.Start) → c .args .n ≤ length (c .args .from)
-from-inside c = let long : length (c .args .from) ≡ 128 = c .good .0 .1 .0 .1 in omega (arith, c .pre .0)
+from-inside c = let long : length (c .args .from) ≡ 128 = c .good .0 .1 .0 .1 in omega (arith, pair-limit, c .pre .0)
 
 to-inside : (c : tie.Start) → c .args .n ≤ length (c .args .to)
-to-inside c = let long : length (c .args .to) ≡ 128 = c .good .1 .0 .1 .0 .1 in omega (arith, c .pre .0)
+to-inside c = let long : length (c .args .to) ≡ 128 = c .good .1 .0 .1 .0 .1 in omega (arith, pair-limit, c .pre .0)
 
 array-borrow-prefix-keys : tie.Need-array-borrow-prefix-keys
-array-borrow-prefix-keys c = search needs
+array-borrow-prefix-keys c = omega (arith, pair-limit)
 
 slice-aggregate-keep-into : tie.Need-slice-aggregate-keep-into
 slice-aggregate-keep-into c = let z = c .before in sym (length-take-le (z .args .n) (z .args .from) (from-inside z))
 
 array-borrow-prefix-values : tie.Need-array-borrow-prefix-values
-array-borrow-prefix-values c = search needs
+array-borrow-prefix-values c = omega (arith, pair-limit)
 
 slice-aggregate-keep-into-2 : tie.Need-slice-aggregate-keep-into-2
 slice-aggregate-keep-into-2 c = let z = c .before .before in sym (length-take-le (z .args .n) (z .args .to) (to-inside z))
