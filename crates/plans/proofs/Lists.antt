@@ -3,6 +3,7 @@ use Prim.Native.Nat.{ℕ, suc, _≤_, _<_}
 use mathlib.Core.Path.{_≡_, sym, _∙_, ap}
 use mathlib.Core.Bool.{true, false, _&&_}
 use mathlib.Core.List.{List}
+use native.Mathlib.Nat.{zero-add}
 use borrow.Author.Tests.{le-leb, lt-leb}
 use lib.Dec.{leb, leb·suc-suc}
 use lib.ListN.{length}
@@ -10,8 +11,9 @@ use Rattle.higman.specs.Text.{byte}
 use Rattle.higman.specs.Limits.{slotCount}
 use Rattle.higman.specs.Refusals.{slotOutside, bufferTooShort, invalidValue}
 use Rattle.higman.specs.Listing.{slotByte, isSlot, listing as linesOf}
-use Rattle.higman.specs.Buffers.{written, lentInto}
+use Rattle.higman.specs.Buffers.{lentInto}
 use Rattle.higman.proofs.Buffers.{with-room, without-room, lent-written, lent-as-it-was}
+use Rattle.words.specs.Writing.{Wrote}
 use Rattle.plans.specs.declared.Plan.{Plan}
 use Rattle.plans.specs.declared.Listed.the-variants.{Bytes, Refused}
 use Rattle.plans.specs.Plans.{planOf, isPlan}
@@ -54,9 +56,10 @@ module _ (p : Plan) (slot : ℕ) (out : List ℕ) where
         sym (buffer-is ∙ lent-as-it-was lines out l),
       )
 
-      pub listing-written : length lines ≤ length out → (r : ℕ) (out′ : List ℕ) → r ≡ length lines → out′ ≡ written out 0 lines
+      pub listing-written : length lines ≤ length out → (r : ℕ) (out′ : List ℕ) → Wrote lines out 0 out′ r
           → (Bytes r ≡ listing p slot (length out)) × (out′ ≡ listedBuffer p slot out)
-      listing-written l r out′ e w = (
-        ap Bytes e ∙ sym (listing-is ∙ with-room (length lines) (length out) (Bytes (length lines)) (Refused bufferTooShort) l),
-        w ∙ sym (buffer-is ∙ lent-written lines out l),
+      listing-written l r out′ w = (
+        ap Bytes (w .place ∙ zero-add (length lines))
+            ∙ sym (listing-is ∙ with-room (length lines) (length out) (Bytes (length lines)) (Refused bufferTooShort) l),
+        w .contents ∙ sym (buffer-is ∙ lent-written lines out l),
       )

@@ -1,5 +1,4 @@
 -- The laws of tables, each file after those it leans on; the proofs of the functions cite them, and so may other crates.
-pub mod Writing
 pub mod Records
 pub mod Cuts
 pub mod Joins

@@ -1,5 +1,5 @@
--- The records of a listing: the bytes of a word, the lengths of records and of whole listings, and the M records that are left from a
--- place of the two columns on, which are those of the pair there and then those from the next place on.
+-- The records of a listing: the lengths of records and of whole listings, and the M records that are left from a place of the two
+-- columns on, which are those of the pair there and then those from the next place on.
 use Prim.Native.Nat.{ℕ, _+_, _^_, _≤_, _<_}
 use mathlib.Core.Path.{_≡_, sym, _∙_, ap, ap₂}
 use mathlib.Core.List.{List, [], _++_}
@@ -7,21 +7,12 @@ use native.Mathlib.Numerals.{add-one}
 use native.Mathlib.Omega.{arith}
 use lib.ListN.{length, getD, drop, length-append, length-map, drop-of-length-le}
 use lib.Seq.{drop-cons}
-use Rattle.higman.specs.Words.{Shape, Word}
+use Rattle.higman.specs.Words.{Shape}
 use Rattle.higman.specs.Tables.{Pair, Table}
 use Rattle.higman.specs.Limits.{maxDigits}
-use Rattle.higman.specs.Text.{digitByte, wordBytes}
 use Rattle.higman.specs.Listing.{pairRecord, pairRecords, joinLines, closeRecord, listing}
-use Rattle.higman.specs.Buffers.{written}
 use Rattle.words.proofs.Limit.{word-fits}
-use Rattle.tables.specs.Lines.{Wrote, pairOf, pairLines}
-
-pub word-size : (w : Word) → length (wordBytes w) ≡ length w
-word-size w = length-map w digitByte
-
--- what `words::write` says of a word's bytes
-pub wrote-word : (w : Word) {l l′ : List ℕ} {at e : ℕ} → e ≡ at + length w → l′ ≡ written l at (wordBytes w) → Wrote (wordBytes w) l at l′ e
-wrote-word w {at = at} p q = record { place = p ∙ ap (λ n. at + n) (sym (word-size w)); contents = q }
+use Rattle.tables.specs.Lines.{pairOf, pairLines}
 
 pub pair-size : (p : Pair) → length (pairRecord p) ≡ 4 + length (p .from) + length (p .to)
 pair-size p = simp (length-append, length-map) (omega arith)

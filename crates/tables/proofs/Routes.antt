@@ -22,6 +22,7 @@ use Rattle.higman.proofs.Matches.{match-found, match-nowhere, match-map}
 use Rattle.words.specs.Packed.{pack, unpack}
 use Rattle.higman.specs.Buffers.{written}
 use Rattle.higman.proofs.Buffers.{with-room, without-room, lent-written, lent-as-it-was}
+use Rattle.words.specs.Writing.{Wrote}
 use Rattle.words.proofs.Packing.{unpack-pack}
 use Rattle.higman.proofs.PlanWords.{more-ways}
 use Rattle.words.proofs.Packed.{packed-length}
@@ -148,13 +149,15 @@ written-behind out s t h =
     ∙ sym (append-assoc s t (drop (0 + length (s ++ t)) out))
 
 -- the same where the part from e on was lent to the second writer and has come back as back
-pub written-part : (out s t whole back : List ℕ) (e : ℕ) → e ≡ length s → length s ≤ length out → whole ≡ written out 0 s → back ≡ written (take (length whole - e) (drop e whole)) 0 t → take e whole ++ (back ++ drop (length whole - e) (drop e whole)) ≡ written out 0 (s ++ t)
-written-part out s t whole back e n h w b =
+pub written-part : (out s t whole back : List ℕ) (e : ℕ) → Wrote s out 0 whole e → length s ≤ length out
+    → back ≡ written (take (length whole - e) (drop e whole)) 0 t
+    → take e whole ++ (back ++ drop (length whole - e) (drop e whole)) ≡ written out 0 (s ++ t)
+written-part out s t whole back e w h b =
     let part = drop e whole in
     let rest = length-drop e whole in
     ap (λ l. take e whole ++ (back ++ l)) (drop-of-length-le part {i = length whole - e} (omega arith))
     ∙ ap (λ l. take e whole ++ l) (append-nil back ∙ b ∙ ap (λ l. written l 0 t) (take-all (length whole - e) part (omega arith)))
-    ∙ ap₂ (λ k l. take k l ++ written (drop k l) 0 t) n w
+    ∙ ap₂ (λ k l. take k l ++ written (drop k l) 0 t) (w .place ∙ zero-add (length s)) (w .contents)
     ∙ written-behind out s t h
 
 -- the three answers, by the image of the code

@@ -1,5 +1,5 @@
 -- The definitions that the contracts of this crate cite: reduction; tables that are reduced and in order; the pairs of a composition
--- before reduction; matching and routing; and what writing a listing does to a buffer. Columns and the tables that two of them hold are
+-- before reduction; matching and routing; and the records of a listing. Columns and the tables that two of them hold are
 -- defined in the crate `columns`.
 pub mod Reduction
 pub mod Joining

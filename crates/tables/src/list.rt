@@ -1,50 +1,21 @@
 // The listing of a plan as P, M and E records, written into a lent buffer (document 01, "Records"). Each function writes its bytes from
 // a place on and returns the place behind them; the rest of the buffer stays as it was.
 ghost use mathlib.Core.Path.{_≡_};
-ghost use mathlib.Core.List.{[], _∷_};
-ghost use Prim.Native.Nat.{ℕ, _+_, _≤_, _<_};
+ghost use Prim.Native.Nat.{ℕ, _+_, _≤_};
 ghost use lib.ListN.{length};
 ghost use Rattle.higman.specs.Words.{Shape};
 ghost use Rattle.higman.specs.Limits.{maxPairs};
-ghost use Rattle.higman.specs.Text.{tab, wordBytes};
 ghost use Rattle.higman.specs.Listing.{openRecord, pairRecord, closeRecord, listing};
-ghost use Rattle.words.specs.Packed.{unpack};
-ghost use Rattle.higman.specs.Buffers.{written};
 ghost use Rattle.words.specs.Bytes.{shape};
+ghost use Rattle.words.specs.Writing.{Wrote};
 ghost use Rattle.columns.specs.Packed.{table};
-ghost use Rattle.tables.specs.Lines.{Wrote, pairOf, pairLines, planOf};
+ghost use Rattle.tables.specs.Lines.{pairOf, pairLines, planOf};
+use words::writing;
 
 // The bytes of the P record and the E record.
 const ENDS: usize = 10;
 // The bytes of an M record beside its digits.
 const MARKS: usize = 4;
-
-// One byte.
-fn put(b: u8, out: &mut [u8], at: usize) -> usize
-    requires { ⌜ at < length (now out) ⌝ }
-    ensures { λ r. ⌜ Wrote (b ∷ []) (now (out .entry)) at (now (out .exit)) r ⌝ }
-{
-    out[at] = b;
-    at + 1
-}
-
-// A tab and a field of one byte.
-fn put_field(b: u8, out: &mut [u8], at: usize) -> usize
-    requires { ⌜ at + 2 ≤ length (now out) ⌝ }
-    ensures { λ r. ⌜ Wrote (tab ∷ b ∷ []) (now (out .entry)) at (now (out .exit)) r ⌝ }
-{
-    let field_at = put(b'\t', out, at);
-    put(b, out, field_at)
-}
-
-// A tab and a word.
-fn put_word(w: u64, out: &mut [u8], at: usize) -> usize
-    requires { ⌜ at + length (unpack w) < length (now out) ⌝ }
-    ensures { λ r. ⌜ Wrote (tab ∷ wordBytes (unpack w)) (now (out .entry)) at (now (out .exit)) r ⌝ }
-{
-    let word_at = put(b'\t', out, at);
-    words::write(w, out, word_at)
-}
 
 // The P record.
 fn open_line(slot: u8, arity: u8, roots: u8, out: &mut [u8], at: usize) -> usize
@@ -53,11 +24,11 @@ fn open_line(slot: u8, arity: u8, roots: u8, out: &mut [u8], at: usize) -> usize
 {
     let n = words::byte(arity);
     let r = words::byte(roots);
-    let slot_at = put(b'P', out, at);
-    let arity_at = put_field(slot, out, slot_at);
-    let roots_at = put_field(n, out, arity_at);
-    let end_at = put_field(r, out, roots_at);
-    put(b'\n', out, end_at)
+    let slot_at = writing::put(b'P', out, at);
+    let arity_at = writing::put_field(slot, out, slot_at);
+    let roots_at = writing::put_field(n, out, arity_at);
+    let end_at = writing::put_field(r, out, roots_at);
+    writing::put(b'\n', out, end_at)
 }
 
 // The M record of a pair.
@@ -65,10 +36,10 @@ fn pair_line(from: u64, to: u64, out: &mut [u8], at: usize) -> usize
     requires { ⌜ at + length (pairRecord (pairOf from to)) ≤ length (now out) ⌝ }
     ensures { λ r. ⌜ Wrote (pairRecord (pairOf from to)) (now (out .entry)) at (now (out .exit)) r ⌝ }
 {
-    let from_at = put(b'M', out, at);
-    let to_at = put_word(from, out, from_at);
-    let end_at = put_word(to, out, to_at);
-    put(b'\n', out, end_at)
+    let from_at = writing::put(b'M', out, at);
+    let to_at = writing::put_word(from, out, from_at);
+    let end_at = writing::put_word(to, out, to_at);
+    writing::put(b'\n', out, end_at)
 }
 
 // The E record.
@@ -76,8 +47,8 @@ fn close_line(out: &mut [u8], at: usize) -> usize
     requires { ⌜ at + 2 ≤ length (now out) ⌝ }
     ensures { λ r. ⌜ Wrote closeRecord (now (out .entry)) at (now (out .exit)) r ⌝ }
 {
-    let end_at = put(b'E', out, at);
-    put(b'\n', out, end_at)
+    let end_at = writing::put(b'E', out, at);
+    writing::put(b'\n', out, end_at)
 }
 
 // The M records of all pairs.
@@ -96,8 +67,10 @@ fn pair_lines(from: &[u64], to: &[u64], out: &mut [u8], at: usize) -> usize
 
 // Writes the listing of a plan at the front of the buffer, and returns its length.
 pub fn list_into(slot: u8, arity: u8, roots: u8, from: &[u64], to: &[u64], out: &mut [u8]) -> usize
-    requires { ⌜ (arity ≤ 9) × (roots ≤ 9) × (length (now from) ≡ length (now to)) × (length (listing slot (planOf arity roots (now from) (now to))) ≤ length (now out)) ⌝ }
-    ensures { λ r. ⌜ (r ≡ length (listing slot (planOf arity roots (now (from .entry)) (now (to .entry))))) × (now (out .exit) ≡ written (now (out .entry)) 0 (listing slot (planOf arity roots (now (from .entry)) (now (to .entry))))) ⌝ }
+    requires { ⌜ (arity ≤ 9) × (roots ≤ 9) × (length (now from) ≡ length (now to))
+        × (length (listing slot (planOf arity roots (now from) (now to))) ≤ length (now out)) ⌝ }
+    ensures { λ r. ⌜ Wrote (listing slot (planOf arity roots (now (from .entry)) (now (to .entry))))
+        (now (out .entry)) 0 (now (out .exit)) r ⌝ }
 {
     let pairs_at = open_line(slot, arity, roots, out, 0);
     let close_at = pair_lines(from, to, out, pairs_at);

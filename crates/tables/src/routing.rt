@@ -100,7 +100,7 @@ pub fn route_into(from: &[u64], to: &[u64], code: &[u8], out: &mut [u8]) -> Rout
     if out.len() - head < tail.len() {
         return Routed::NoRoom;
     }
-    let end = words::write(to[k], out, 0);
+    let end = words::writing::write(to[k], out, 0);
     copy(tail, &mut out[end..]);
     Routed::Image(end + tail.len())
 }

@@ -11,5 +11,6 @@ pub mod Order
 pub mod Aligned
 pub mod PlanWords
 pub mod Bytes
+pub mod Runs
 pub mod Codes
 pub mod Lookup

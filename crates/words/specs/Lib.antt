@@ -1,3 +1,4 @@
--- The definitions that the contracts of this crate cite: packed words; then what reading and writing bytes gives.
+-- The definitions that the contracts of this crate cite: packed words; what reading bytes gives; what writing does to a buffer.
 pub mod Packed
 pub mod Bytes
+pub mod Writing

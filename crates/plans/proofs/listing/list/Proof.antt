@@ -127,7 +127,8 @@ returns-4 c =
     let n = l .before .before .before .before .before in
     let e = asked n in
     let a = called e .args in
-    listing-written (a .p) (a .slot) (a .out .now) (plan (e .before .before)) (slot e) (omega (arith, counted n)) (l .list-into .result) (l .list-into .last .1 .1 .1 .1 .1 .0) (l .list-into .ensures .0) (l .list-into .ensures .1)
+    listing-written (a .p) (a .slot) (a .out .now) (plan (e .before .before)) (slot e) (omega (arith, counted n)) (l .list-into .result)
+    (l .list-into .last .1 .1 .1 .1 .1 .0) (l .list-into .ensures)
 
 pub list-spec : {M : Type 1} → statement M
 list-spec =

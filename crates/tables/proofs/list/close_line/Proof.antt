@@ -2,7 +2,7 @@
 -- say, each four records behind the next.
 use borrow.Author.Needs.{needs}
 use native.Mathlib.Omega.{arith}
-use Rattle.tables.proofs.Writing.{wrote-then}
+use Rattle.words.proofs.Runs.{wrote-then}
 use Rattle.tables.proofs.list.close_line.Statement.{statement}
 use Rattle.tables.proofs.list.close_line.Tie as tie
 

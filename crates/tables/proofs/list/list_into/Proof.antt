@@ -1,12 +1,10 @@
 -- `tables::list::list_into` meets its contract: the P record, the M records and the E record are one run, the listing. That each has
 -- room follows from the length of the whole listing, `listing-size`.
-use mathlib.Core.Path.{_∙_}
 use borrow.Author.Needs.{needs}
-use native.Mathlib.Nat.{zero-add}
 use native.Mathlib.Omega.{arith}
 use Rattle.words.specs.Bytes.{shape}
 use Rattle.columns.specs.Packed.{table}
-use Rattle.tables.proofs.Writing.{wrote-then}
+use Rattle.words.proofs.Runs.{wrote-then}
 use Rattle.tables.proofs.Records.{listing-size}
 use Rattle.tables.proofs.list.list_into.Statement.{statement}
 use Rattle.tables.proofs.list.list_into.Tie as tie
@@ -39,12 +37,10 @@ returns c =
     let first = pairs .before .before .before .before in
     let a = first .before .before .before .before .before .args in
     let size = listing-size (a .slot) (shape (a .arity) (a .roots)) (table (a .from .now) (a .to .now)) in
-    let all =
     wrote-then
     (omega arith)
     (first .open-line .ensures)
-    (wrote-then (omega arith) (pairs .pair-lines .ensures) (close .close-line .ensures)) in
-    (all .place ∙ zero-add _, all .contents)
+    (wrote-then (omega arith) (pairs .pair-lines .ensures) (close .close-line .ensures))
 
 pub list-into-spec : {M : Type 1} → statement M
 list-into-spec = tie.close (tie.spec open-line-requires pair-lines-requires close-line-requires same-length returns)

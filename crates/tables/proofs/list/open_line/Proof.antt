@@ -6,8 +6,8 @@ use mathlib.Core.List.{List, [], _∷_}
 use borrow.Author.Needs.{needs}
 use native.Mathlib.Omega.{arith}
 use Rattle.higman.specs.Text.{tab}
-use Rattle.tables.specs.Lines.{Wrote}
-use Rattle.tables.proofs.Writing.{wrote-then}
+use Rattle.words.specs.Writing.{Wrote}
+use Rattle.words.proofs.Runs.{wrote-then}
 use Rattle.tables.proofs.list.open_line.Statement.{statement}
 use Rattle.tables.proofs.list.open_line.Tie as tie
 

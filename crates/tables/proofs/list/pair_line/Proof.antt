@@ -4,8 +4,8 @@ use borrow.Author.Needs.{needs}
 use native.Mathlib.Omega.{arith}
 use Rattle.words.specs.Packed.{unpack}
 use Rattle.tables.specs.Lines.{pairOf}
-use Rattle.tables.proofs.Writing.{wrote-then}
-use Rattle.tables.proofs.Records.{word-size, pair-size}
+use Rattle.words.proofs.Runs.{word-size, wrote-then}
+use Rattle.tables.proofs.Records.{pair-size}
 use Rattle.tables.proofs.list.pair_line.Statement.{statement}
 use Rattle.tables.proofs.list.pair_line.Tie as tie
 

@@ -6,8 +6,9 @@ use mathlib.Core.List.{List, [], _++_, append-nil, append-assoc}
 use native.Mathlib.Omega.{arith}
 use lib.ListN.{length, getD, drop, length-append}
 use Rattle.higman.specs.Listing.{pairRecord}
-use Rattle.tables.specs.Lines.{Wrote, pairOf, pairLines}
-use Rattle.tables.proofs.Writing.{wrote-nothing, wrote-then}
+use Rattle.words.specs.Writing.{Wrote}
+use Rattle.tables.specs.Lines.{pairOf, pairLines}
+use Rattle.words.proofs.Runs.{wrote-nothing, wrote-then}
 use Rattle.tables.proofs.Records.{lines-step, lines-size, lines-none}
 use Rattle.tables.proofs.list.pair_lines.Statement.{statement}
 use Rattle.tables.proofs.list.pair_lines.Tie as tie

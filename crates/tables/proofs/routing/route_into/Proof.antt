@@ -5,11 +5,12 @@ use mathlib.Core.List.{_++_}
 use mathlib.Core.Option.{some}
 use borrow.Author.Needs.{needs}
 use native.Mathlib.Omega.{arith}
-use lib.ListN.{length, drop, length-map}
+use lib.ListN.{length, drop}
 use Rattle.higman.specs.Words.{Word}
 use Rattle.higman.specs.Tables.{image}
-use Rattle.higman.specs.Text.{digitByte, wordBytes, wordOf}
+use Rattle.higman.specs.Text.{wordBytes, wordOf}
 use Rattle.higman.specs.Buffers.{written}
+use Rattle.words.proofs.Runs.{word-size}
 use Rattle.columns.specs.Packed.{table}
 use Rattle.columns.specs.Columns.{wordAt}
 use Rattle.columns.proofs.Search.{FirstIn, first-of-place}
@@ -63,6 +64,18 @@ room : (c : tie.Else3) →
 room c =
     let b = c .before .before .before .before in
     omega (arith, long (b .before .before), ap length (b .behind .ensures .0))
+
+-- the place behind the to-word, once it is written
+abbrev found : tie.After-write → tie.Else1
+found c = c .before .before .before .before .before .before .before .before .before
+
+behind-head : (c : tie.After-write) →
+    let p = found c .before in
+    c .write .result ≡ length (wordAt (p .before .before .before .before .before .args .to .now) (p .place-of .result))
+behind-head c =
+    let p = found c .before in
+    let head = wordAt (p .before .before .before .before .before .args .to .now) (p .place-of .result) in
+    omega (arith, c .write .ensures .place, word-size head)
 
 place-of-requires : tie.Need-place-of-requires
 place-of-requires c κs = search needs
@@ -127,19 +140,19 @@ write-requires : tie.Need-write-requires
 write-requires c κs = search needs
 
 sub-copy : tie.Need-sub-copy
-sub-copy c = search needs
+sub-copy c = omega (arith, behind-head (c .before .before))
 
 part-copy-start : tie.Need-part-copy-start
-part-copy-start c = search needs
+part-copy-start c = omega (arith, behind-head (c .before .before))
 
 part-copy-end : tie.Need-part-copy-end
 part-copy-end c = search needs
 
 copy-requires : tie.Need-copy-requires
-copy-requires c κs = search needs
+copy-requires c κs = omega (arith, behind-head (c .before .before .before))
 
 add-t16 : tie.Need-add-t16
-add-t16 c = search needs
+add-t16 c = omega (arith, behind-head (c .before .before .before .before .before .before))
 
 same-length : tie.Need-same-length
 same-length c = search needs
@@ -149,18 +162,19 @@ returns-4 c =
     let y = c .before .before in
     let w = y .before .before .before .before in
     let b = w .before .before .before .before .before .before .before in
-    let e = b .before .before in
+    let e = found w in
     let s = e .before .before .before .before .before .before in
     let a = s .args in
     let k = e .before .place-of .result in
     let head = wordAt (a .to .now) k in
     let d = w .before .before .before in
     let size : w .write .result + length (b .behind .result .now) ≡ length (wordBytes (routed e)) =
-    omega (arith, long e, ap length (b .behind .ensures .0), w .write .ensures .0) in
+    omega (arith, long e, ap length (b .behind .ensures .0), behind-head w) in
     let answer = route-image (a .out .now) (routed e) (image-is e) (room d) in
     let bytes = routed-bytes (a .from .now) (a .to .now) (s .pre .0) (a .code .now) (s .pre .1) k (e .if1 .left) (first (e .before)) in (
       ap Image size ∙ answer .0,
-      written-part (a .out .now) (wordBytes head) (b .behind .result .now) (w .write .last .1 .0) (y .copy .last .1 .0) (w .write .result) (omega (arith, w .write .ensures .0, length-map head digitByte)) (omega (arith, long e, length-map head digitByte)) (w .write .ensures .1) (y .copy .ensures)
+      written-part (a .out .now) (wordBytes head) (b .behind .result .now) (w .write .last .1 .0) (y .copy .last .1 .0) (w .write .result)
+          (w .write .ensures) (omega (arith, long e, word-size head)) (y .copy .ensures)
           ∙ ap (written (a .out .now) 0) (ap (λ l. wordBytes head ++ l) (b .behind .ensures .0) ∙ sym bytes)
           ∙ answer .1,
     )

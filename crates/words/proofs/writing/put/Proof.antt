@@ -1,9 +1,9 @@
--- `tables::list::put` meets its contract: a store is a run of one byte. The place is within the buffer, as the function requires, so
+-- `words::writing::put` meets its contract: a store is a run of one byte. The place is within the buffer, as the function requires, so
 -- the place behind it is a number that fits.
 use borrow.Author.Needs.{needs}
-use Rattle.tables.proofs.Writing.{wrote-byte}
-use Rattle.tables.proofs.list.put.Statement.{statement}
-use Rattle.tables.proofs.list.put.Tie as tie
+use Rattle.words.proofs.Runs.{wrote-byte}
+use Rattle.words.proofs.writing.put.Statement.{statement}
+use Rattle.words.proofs.writing.put.Tie as tie
 
 slice-write-out : tie.Need-slice-write-out
 slice-write-out c = search needs

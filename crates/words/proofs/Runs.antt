@@ -5,11 +5,17 @@ use mathlib.Core.Path.{_≡_, sym, _∙_, ap, ap₂}
 use mathlib.Core.List.{List, [], _∷_, _++_, append-assoc}
 use native.Mathlib.Numerals.{add-one}
 use native.Mathlib.Omega.{arith}
-use lib.ListN.{length, take, drop, set, length-append}
+use lib.ListN.{length, take, drop, set, length-append, length-map}
 use lib.Seq.{length-take-le, take-at, drop-append-add, drop-drop, set-split}
+use Rattle.higman.specs.Words.{Word}
+use Rattle.higman.specs.Text.{digitByte, wordBytes}
 use Rattle.higman.specs.Buffers.{written}
+use Rattle.words.specs.Writing.{Wrote}
 use Rattle.words.proofs.Bytes.{written-none}
-use Rattle.tables.specs.Lines.{Wrote}
+
+-- a word has as many bytes as digits
+pub word-size : (w : Word) → length (wordBytes w) ≡ length w
+word-size w = length-map w digitByte
 
 pub wrote-nothing : (l : List ℕ) (at : ℕ) → Wrote [] l at l at
 wrote-nothing l at = record { place = omega arith; contents = written-none l at }

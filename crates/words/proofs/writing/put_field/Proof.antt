@@ -1,10 +1,10 @@
--- `tables::list::put_field` meets its contract: the tab and the byte are one run. `.put` and `.put2` are what the two calls say, each
+-- `words::writing::put_field` meets its contract: the tab and the byte are one run. `.put` and `.put2` are what the two calls say, each
 -- four records behind the next.
 use borrow.Author.Needs.{needs}
 use native.Mathlib.Omega.{arith}
-use Rattle.tables.proofs.Writing.{wrote-then}
-use Rattle.tables.proofs.list.put_field.Statement.{statement}
-use Rattle.tables.proofs.list.put_field.Tie as tie
+use Rattle.words.proofs.Runs.{wrote-then}
+use Rattle.words.proofs.writing.put_field.Statement.{statement}
+use Rattle.words.proofs.writing.put_field.Tie as tie
 
 put-requires : tie.Need-put-requires
 put-requires c κs = search needs
