@@ -16,10 +16,11 @@ use Rattle.higman.specs.Words.{Word, count}
 use Rattle.higman.specs.Bases.{all}
 use Rattle.higman.specs.Tables.{froms, tos}
 use Rattle.higman.specs.Limits.{Plan as PlanOf, Kept, granted, pairFits, maxPairs, maxDigits}
-use Rattle.higman.proofs.Tests.{passes, T-of, and-left, and-right, all-head, all-tail}
+use Rattle.higman.proofs.Tests.{passes, T-of, and-left, and-right, all-head, all-tail, ways-of-test}
 use Rattle.words.specs.Packed.{pack, isPacked}
 use Rattle.words.proofs.Packing.{pack-empty, pack-child, pack-unpack, unpack-pack}
-use Rattle.words.proofs.Packed.{more-ways, ways-of-test, packed-length, packed-pack}
+use Rattle.higman.proofs.PlanWords.{more-ways}
+use Rattle.words.proofs.Packed.{packed-length, packed-pack}
 use Rattle.words.proofs.Sizes.{below-of-length}
 use Rattle.tables.specs.Spreading.{packedWords}
 use Rattle.tables.proofs.Lookup.{packed-at}

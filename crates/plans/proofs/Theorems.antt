@@ -10,15 +10,15 @@ use borrow.Author.Tests.{leb-true, leb-false}
 use lib.Dec.{leb}
 use lib.ListN.{length, take, drop}
 use lib.Seq.{take-append-seam, drop-append-seam}
-use Rattle.higman.specs.Listing.{listing as linesOf}
+use Rattle.higman.specs.Listing.{listing as linesOf, isSlot}
 use Rattle.higman.proofs.Tests.{passes}
 use Rattle.higman.proofs.Listing.{listing-faithful}
-use Rattle.words.specs.Bytes.{written}
+use Rattle.higman.specs.Buffers.{written}
 use Rattle.plans.specs.declared.Plan.{Plan}
 use Rattle.plans.specs.declared.Listed.{Listed}
 use Rattle.plans.specs.declared.Listed.the-variants.{Bytes, Refused}
 use Rattle.plans.specs.Plans.{planOf, packed}
-use Rattle.plans.specs.Listing.{isSlot, listing, listedBuffer}
+use Rattle.plans.specs.Listing.{listing, listedBuffer}
 use Rattle.plans.specs.Theorems.{Handed, Lists, ListingsExact, LibraryExact}
 use Rattle.plans.proofs.Lists.{listing-no-slot, listing-no-room, listing-written}
 use Rattle.plans.proofs.Handed.{held-packed, words-pack, values-hold}
@@ -42,7 +42,9 @@ module _ (v : Plan) (slot : ℕ) (out : List ℕ) (h : Handed v) where
     written-in-front = let start : length lines ≡ 0 + length lines = omega arith in ap (λ n. lines ++ drop n out) start
 
     answers : (Bytes (length lines) ≡ listing v slot (length out)) × (lines ++ drop (length lines) out ≡ listedBuffer v slot out)
-    answers = listing-written v slot out (h .taken) k room (length lines) (lines ++ drop (length lines) out) refl written-in-front
+    answers =
+        listing-written v slot out (h .taken) k room (length lines) (lines ++ drop (length lines) out)
+        (record { place = omega arith; contents = written-in-front })
 
     listed : Lists v slot out lines
     listed =

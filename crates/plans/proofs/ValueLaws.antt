@@ -42,7 +42,7 @@ module _ (v : Plan) (h : Handed v) where
   identity-kept : Kept (Of.identityPlan (shapeOf v))
   identity-kept =
       let kept = plan-kept v h in
-      demand3 .powered-kept (planOf v) (Of.identityPlan (shapeOf v)) (pos 0) kept (demand3 .power-zero (planOf v) kept)
+      demand3 .powered-kept (planOf v) (Of.identityPlan (shapeOf v)) (pos 0) kept (demand3 .power-zero (planOf v))
 
   identity-handed : Handed (identityOf v)
   identity-handed = packed-handed (Of.identityPlan (shapeOf v)) identity-kept
@@ -51,7 +51,7 @@ module _ (v : Plan) (h : Handed v) where
   identity-held = holds (Of.identityPlan (shapeOf v)) identity-kept
 
   power-zero : raising v (pos 0) ≡ granting (identityOf v)
-  power-zero = raising-plan v (h .taken) (pos 0) ∙ ap making (demand3 .power-zero (planOf v) (plan-kept v h))
+  power-zero = raising-plan v (h .taken) (pos 0) ∙ ap making (demand3 .power-zero (planOf v))
 
   identity-left : following (identityOf v) v ≡ granting v
   identity-left =

@@ -14,9 +14,9 @@ use lib.IntN.{ℤ, pos, negsuc, natAbs, _+ℤ_, _*ℤ_}
 use Rattle.higman.specs.Words.{Word, count, isWays, isWord, child, spell}
 use Rattle.higman.specs.Tables.{Pair, BlockMap, image, row, φ, ψ}
 use Rattle.higman.specs.Normal.{andThen, times, compose, repeated, identity, joined, normal, normalForm, keep}
-use Rattle.higman.specs.Limits.{Plan as PlanOf, Kept, fits, shapeInRange, granted, maxPairs, maxDigits, maxPower}
+use Rattle.higman.specs.Limits.{Plan as PlanOf, Kept, fits, shapeInRange, granted, maxPairs, maxDigits, maxPower, slotCount}
 use Rattle.higman.specs.Answers.{verdict, isKept, repeatable, identityPlan}
-use Rattle.higman.specs.Listing.{pairRecords, listing as linesOf}
+use Rattle.higman.specs.Listing.{pairRecords, listing as linesOf, isSlot}
 use Rattle.higman.specs.Theorems.{ActAlike}
 use Rattle.words.specs.Packed.{packOn, pack, unpackIn, unpack}
 use Rattle.words.specs.Bytes.{shape}
@@ -26,7 +26,7 @@ use Rattle.plans.specs.declared.Likeness.the-variants.{Alike}
 use Rattle.plans.specs.declared.Listed.the-variants.{Bytes}
 use Rattle.plans.specs.Plans.{shapeOf, planOf, inTable, isPlan, packed}
 use Rattle.plans.specs.Answers.{granting, following, inverting, raising, alike, value21}
-use Rattle.plans.specs.Listing.{isSlot, listing, listedBuffer}
+use Rattle.plans.specs.Listing.{listing, listedBuffer}
 
 -- "A plan word packs into 64 bits, four bits a digit, its last digit lowest and zeros above."
 pub record WordsPack : Type 0 where
@@ -176,6 +176,6 @@ identityOf-example = refl
 
 -- 1→1 in slot B, the 16 bytes of its listing in a buffer of 17
 lists-example : Lists (value21 (row 1 1 ∷ [])) 66 (replicate 17 7) (linesOf 66 (record { shape = shape 2 1; rows = row 1 1 ∷ [] }))
-unfolding listing listedBuffer packed isPlan inTable isKept shapeInRange granted maxPairs maxDigits
+unfolding listing listedBuffer slotCount packed isPlan inTable isKept shapeInRange granted maxPairs maxDigits
     verdict keep normalForm normal joined pack packOn unpack unpackIn
 lists-example = record { answer = refl; front = refl; rest = refl }
