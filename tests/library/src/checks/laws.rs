@@ -1,6 +1,7 @@
 //! The laws of a group, asked of the calls alone: nothing is compared with the
-//! second implementation but the plans to start from. Where a product or power
-//! is refused the law says nothing; how often each was tried is counted.
+//! second implementation but the plans to start from. Where a plan that a law
+//! starts from is refused the law says nothing. The two sides of a law about
+//! products are refused together; how often each was tried is counted.
 
 use reference::Shape;
 
@@ -19,7 +20,9 @@ fn granted(made: Made) -> Option<Plan> {
     (made.number == 0).then_some(made.plan)
 }
 
-/// Every law on triples of plans: small ones, and permutations of one basis.
+/// Every law on triples of plans: small ones, permutations of one basis, and
+/// powers of ψ with such a power or a small plan between them, whose product
+/// often breaks a limit where those of two neighbours do not.
 pub fn of_triples(calls: &dyn Calls) {
     let mut rng = Rng::new(601);
     let mut tally = Tally::default();
@@ -29,13 +32,17 @@ pub fn of_triples(calls: &dyn Calls) {
             hold(calls, &triple, &mut tally);
             let [a, b] = permutations(&mut rng, shape).each_ref().map(plan_value);
             hold(calls, &[a, b, a], &mut tally);
+            let [first, between, last] = shifted(calls, &mut rng, shape);
+            hold(calls, &[first, between, last], &mut tally);
+            hold(calls, &[first, triple[0], last], &mut tally);
         }
     }
     tally.demand(
         500,
         &["neutral", "inverse", "associative", "inverse of a product"],
     );
-    tally.demand(100, &["alike", "not alike"]);
+    tally.demand(100, &["associative in refusals", "alike", "not alike"]);
+    tally.demand(50, &["inverse of a refused product"]);
 }
 
 /// The power of a sum is the product of the powers.
@@ -92,6 +99,16 @@ fn small(rng: &mut Rng, shape: Shape) -> [Plan; 3] {
     })
 }
 
+/// Three powers of ψ, all upwards or all downwards.
+fn shifted(calls: &dyn Calls, rng: &mut Rng, shape: Shape) -> [Plan; 3] {
+    let shift = plan_value(&plans::kept(shape, &shift(shape)));
+    let sign = if rng.chance(50) { 1 } else { -1 };
+    [(); 3].map(|()| {
+        let power = rng.between(3, 8) as i32 * sign;
+        granted(calls.power(&shift, power)).expect("a power of few ways")
+    })
+}
+
 fn hold(calls: &dyn Calls, plans: &[Plan; 3], tally: &mut Tally) {
     let [a, b, c] = plans;
     let follow = |first: &Plan, second: &Plan| granted(calls.follow(first, second));
@@ -108,17 +125,21 @@ fn hold(calls: &dyn Calls, plans: &[Plan; 3], tally: &mut Tally) {
     tally.count("inverse");
 
     let (ab, bc) = (follow(a, b), follow(b, c));
-    let left = ab.and_then(|ab| follow(&ab, c));
-    let right = bc.and_then(|bc| follow(a, &bc));
-    if let (Some(left), Some(right)) = (left, right) {
+    if let (Some(ab), Some(bc)) = (&ab, &bc) {
+        let [left, right] = [calls.follow(ab, c), calls.follow(a, bc)];
         assert_eq!(left, right, "{a:?} then {b:?} then {c:?}");
-        tally.count("associative");
+        tally.count(match left.number {
+            0 => "associative",
+            _ => "associative in refusals",
+        });
     }
-    if let Some(ab) = ab {
-        let turned = follow(&inverse(b), &back);
-        assert_eq!(turned, Some(inverse(&ab)), "{a:?} then {b:?}, inverse");
-        tally.count("inverse of a product");
-    }
+    let turned = follow(&inverse(b), &back);
+    let inverted = ab.as_ref().map(inverse);
+    assert_eq!(turned, inverted, "{a:?} then {b:?}, inverse");
+    tally.count(match inverted {
+        Some(_) => "inverse of a product",
+        None => "inverse of a refused product",
+    });
     for other in [a, b, c] {
         let same = calls.same(a, other);
         assert_eq!((same.number, same.alike), (0, a == other));
