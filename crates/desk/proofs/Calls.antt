@@ -34,11 +34,13 @@ desk-false d h = go (isDesk d) refl
 onDesk : Order → Desk → Outcome Effect → Bytes → Desk × Lent
 onDesk order d o buffer = let l = lent buffer (outputOf order o) in (deskLeft d o (l .answer), l)
 
-call-on-desk : (order : Order) (d : Desk) (work : Work) (buffer : Bytes) → IsDesk d → lentCall order d work buffer ≡ onDesk order d (work d) buffer
+call-on-desk : (order : Order) (d : Desk) (work : Work) (buffer : Bytes) → IsDesk d
+    → lentCall order d work buffer ≡ onDesk order d (work d) buffer
 unfolding lentCall onDesk
 call-on-desk order d work buffer h = rw (desk-true d h, lentCall)
 
-call-no-desk : (order : Order) (d : Desk) (work : Work) (buffer : Bytes) → isDesk d ≡ false → lentCall order d work buffer ≡ (d, record { buffer = buffer; answer = refuse invalidValue none })
+call-no-desk : (order : Order) (d : Desk) (work : Work) (buffer : Bytes) → isDesk d ≡ false
+    → lentCall order d work buffer ≡ (d, record { buffer = buffer; answer = refuse invalidValue none })
 unfolding lentCall lent
 call-no-desk order d work buffer h = rw (h, lentCall)
 
@@ -52,7 +54,8 @@ lent-long : (buffer output : Bytes) → leb (length output) (length buffer) ≡ 
 unfolding lent
 lent-long buffer output e = rw (e, ifRoom)
 
-no-room : (order : Order) (d : Desk) (e : Effect) (buffer : Bytes) → length buffer < length (replyBytes order (e .1)) → onDesk order d (pass e) buffer ≡ (dropped d, record { buffer = buffer; answer = refuse bufferTooShort none })
+no-room : (order : Order) (d : Desk) (e : Effect) (buffer : Bytes) → length buffer < length (replyBytes order (e .1))
+    → onDesk order d (pass e) buffer ≡ (dropped d, record { buffer = buffer; answer = refuse bufferTooShort none })
 unfolding onDesk _>>=_
 no-room order d e buffer h =
     ap (λ l. (deskLeft d (pass e) (l .answer), l)) (lent-short buffer (replyBytes order (e .1)) (lt-leb (length (replyBytes order (e .1))) (length buffer) h))
@@ -64,7 +67,8 @@ done order d e buffer h =
     let output = replyBytes order (e .1) in
     ap (λ l. (deskLeft d (pass e) (l .answer), l)) (lent-long buffer output (so (leb (length output) (length buffer)) (le→leb (length output) (length buffer) h)))
 
-stopped : (order : Order) (d : Desk) (n : ℕ) (c : Option Letter) (buffer : Bytes) → onDesk order d (refuse n c) buffer ≡ (dropped d, record { buffer = buffer; answer = refuse n c })
+stopped : (order : Order) (d : Desk) (n : ℕ) (c : Option Letter) (buffer : Bytes)
+    → onDesk order d (refuse n c) buffer ≡ (dropped d, record { buffer = buffer; answer = refuse n c })
 unfolding onDesk lent _>>=_
 stopped order d n c buffer = refl
 
@@ -99,7 +103,8 @@ call-sound : (order : Order) (d : Desk) (work : Work) (buffer : Bytes) → Sound
 unfolding lentCall
 call-sound order d work buffer = go (isDesk d)
   where
-    go : (b : Bool) → Sound buffer ((elim b as (λ _. Desk × Lent) [ true ↦ (let l = lent buffer (outputOf order (work d)) in (deskLeft d (work d) (l .answer), l)) | false ↦ (d, lent buffer (refuse invalidValue none)) ]) .1)
+    go : (b : Bool)
+        → Sound buffer ((elim b as (λ _. Desk × Lent) [ true ↦ (let l = lent buffer (outputOf order (work d)) in (deskLeft d (work d) (l .answer), l)) | false ↦ (d, lent buffer (refuse invalidValue none)) ]) .1)
     go true = lent-sound buffer (outputOf order (work d))
     go false = lent-sound buffer (refuse invalidValue none)
 

@@ -13,7 +13,10 @@ use Rattle.desk.specs.Session.{session}
 use Rattle.desk.specs.Cases.{starSessions, otherSessions, surveySessions, DeskCases}
 
 pub desk-cases : DeskCases
-unfolding starSessions otherSessions surveySessions session run replyBytes _>>=_ respondLine lineOperation operation job needsOpen slotsNamed isChange parse grammar freshDesk changed withDraft dropped slotCount maxChanges maxLine maxNumeral isPlanWord digitOf maxPairs maxDigits maxCode maxPower shapeInRange granted isCode verdict followed inverted raised powered same routed keep compose inverse identity normalForm normal joined
+unfolding starSessions otherSessions surveySessions session run replyBytes _>>=_ respondLine lineOperation operation job needsOpen
+    slotsNamed isChange parse grammar freshDesk changed withDraft dropped slotCount maxChanges maxLine maxNumeral isPlanWord digitOf
+    maxPairs maxDigits maxCode maxPower shapeInRange granted isCode verdict followed inverted raised powered same routed keep compose
+    inverse identity normalForm normal joined
 desk-cases =
     record {
       star = λ order. (refl, (refl, (refl, (refl, (refl, (refl, (refl, (refl, (refl, (refl, tt))))))))));

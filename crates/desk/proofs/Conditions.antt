@@ -6,7 +6,8 @@ use native.Mathlib.Omega.{arith}
 use mathlib.Core.Logic.{_⊎_, inl, inr}
 use mathlib.Core.Path.{_≡_, refl, sym, _∙_, ap, subst}
 use mathlib.Core.Bool.{Bool, true, false, _&&_, _||_, not}
-use mathlib.Core.List.{List, [], _∷_, _++_, List·Memᴰ, List·Memᴰ·head, List·Memᴰ·tail, List·Memᴰ·cases-cons, List·Memᴰ·not-nil, Memᴰ·map, Memᴰ·of-map}
+use mathlib.Core.List.{List, [], _∷_, _++_, List·Memᴰ, List·Memᴰ·head, List·Memᴰ·tail, List·Memᴰ·cases-cons, List·Memᴰ·not-nil, Memᴰ·map}
+use mathlib.Core.List.{Memᴰ·of-map}
 use mathlib.Core.Option.{Option, none, some}
 use lib.Dec.{leb}
 use borrow.Author.Tests.{not-false, not-true}
@@ -17,8 +18,11 @@ use Rattle.higman.specs.Bases.{anyOf, overlap, gap}
 use Rattle.higman.specs.Tables.{Table, froms, tos, image, sameTable}
 use Rattle.higman.specs.Normal.{compose, repeated, power}
 use Rattle.higman.specs.Limits.{Plan, Kept, shapeInRange, granted, isCode, maxPairs, maxPower, isPlanWord}
-use Rattle.higman.specs.Answers.{Reason, Overlap, Gap, Verdict, Accepted, InFrom, InTo, verdict, Answer, Granted, Refused, ShapesDiffer, LimitBroken, BadCode, Comparison, Alike, NotCompared, Route, Image, TooShort, NotRouted, sameShape, raised, repeatable, followed, inverted, powered, same, routed}
-use Rattle.higman.specs.Refusals.{wrongState, badWord, wordsOverlap, rootUncovered, slotEmpty, shapesDiffer, limitBroken, codeTooShort, Letter}
+use Rattle.higman.specs.Answers.{Reason, Overlap, Gap, Verdict, Accepted, InFrom, InTo, verdict, Answer, Granted, Refused, ShapesDiffer}
+use Rattle.higman.specs.Answers.{LimitBroken, BadCode, Comparison, Alike, NotCompared, Route, Image, TooShort, NotRouted, sameShape}
+use Rattle.higman.specs.Answers.{raised, repeatable, followed, inverted, powered, same, routed}
+use Rattle.higman.specs.Refusals.{wrongState, badWord, wordsOverlap, rootUncovered, slotEmpty, shapesDiffer, limitBroken, codeTooShort}
+use Rattle.higman.specs.Refusals.{Letter}
 use Rattle.higman.proofs.Tests.{T-of, clash, or-cases, or-true-left, or-true-right, count-bounds, count-mem}
 use Rattle.higman.proofs.Prefixes.{after-append, after-some}
 use Rattle.higman.proofs.Statements.{answers-exact}
@@ -26,7 +30,8 @@ use Rattle.desk.specs.Desk.{Draft, Desk, held, IsDesk}
 use Rattle.desk.specs.Records.{Record, P, M, E, F, I, K, S, W, L, C, T as Tᴿ, U, needsOpen, slotsNamed, isChange}
 use Rattle.higman.specs.Listing.{slotNumber}
 use Rattle.higman.specs.Text.{wordOf}
-use Rattle.desk.specs.Replies.{Outcome, refuse, pass, _>>=_, isOpen, openAmiss, outside, atLimit, openPlan, planIn, ofVerdict, ofAnswer, ofComparison, ofRoute, job, operation, _when_}
+use Rattle.desk.specs.Replies.{Outcome, refuse, pass, _>>=_, isOpen, openAmiss, outside, atLimit, openPlan, planIn, ofVerdict}
+use Rattle.desk.specs.Replies.{ofAnswer, ofComparison, ofRoute, job, operation, _when_}
 use Rattle.desk.specs.Conditions.{Condition, inColumn, isEmpty, ofPlan, ofBoth, ownConditions, conditions, firstOf, refusalOf, _if_}
 
 -- an outcome is refused as the first condition that holds says
@@ -54,7 +59,8 @@ first-append (c ∷ cs) ds = by-test (c .holds) (first-append cs ds)
     by-test true e = refl
     by-test false e = e
 
-says-then : {A B : Type 0} (o : Outcome A) {f : A → Outcome B} {cs ds : List Condition} → Says o cs → ((a : A) → Says (f a) ds) → Says (o >>= f) (cs ++ ds)
+says-then : {A B : Type 0} (o : Outcome A) {f : A → Outcome B} {cs ds : List Condition} → Says o cs → ((a : A) → Says (f a) ds)
+    → Says (o >>= f) (cs ++ ds)
 unfolding _>>=_
 says-then (refuse n c) {cs = cs} {ds} h k = record { says = sym (first-append cs ds ∙ ap (λ x. elim x [ none ↦ firstOf ds | some y ↦ some y ]) (sym (h .says))) }
 says-then (pass a) {cs = cs} {ds} h k = record { says = k a .says ∙ sym (first-append cs ds ∙ ap (λ x. elim x [ none ↦ firstOf ds | some y ↦ some y ]) (sym (h .says))) }
@@ -71,16 +77,19 @@ open-then d {f} {cs} e h = by-draft (d .draft) e h
     by-draft (some o) e h = record { says = h o refl .says }
 
 -- the plan in a slot
-plan-then : {A : Type 0} (d : Desk) (a : ℕ) {f : Plan → Outcome A} {cs : List Condition} → ((p : Plan) → held d (slotNumber a) ≡ some p → Says (f p) cs) → Says (planIn d a >>= f) ((slotEmpty if isEmpty d a) ∷ cs)
+plan-then : {A : Type 0} (d : Desk) (a : ℕ) {f : Plan → Outcome A} {cs : List Condition}
+    → ((p : Plan) → held d (slotNumber a) ≡ some p → Says (f p) cs) → Says (planIn d a >>= f) ((slotEmpty if isEmpty d a) ∷ cs)
 unfolding _>>=_
 plan-then d a {f} {cs} h = go (held d (slotNumber a)) h
   where
-    go : (x : Option Plan) → ((p : Plan) → x ≡ some p → Says (f p) cs) → Says ((elim x as (λ _. Outcome Plan) [ none ↦ refuse slotEmpty none | some p ↦ pass p ]) >>= f) ((slotEmpty if not (given x)) ∷ cs)
+    go : (x : Option Plan) → ((p : Plan) → x ≡ some p → Says (f p) cs)
+        → Says ((elim x as (λ _. Outcome Plan) [ none ↦ refuse slotEmpty none | some p ↦ pass p ]) >>= f) ((slotEmpty if not (given x)) ∷ cs)
     go none h = record { says = refl }
     go (some p) h = record { says = h p refl .says }
 
 -- the plans in two slots
-plans-then : {A : Type 0} (d : Desk) (a b : ℕ) {f : Plan → Plan → Outcome A} {cs : List Condition} → ((p q : Plan) → held d (slotNumber a) ≡ some p → held d (slotNumber b) ≡ some q → Says (f p q) cs)
+plans-then : {A : Type 0} (d : Desk) (a b : ℕ) {f : Plan → Plan → Outcome A} {cs : List Condition}
+    → ((p q : Plan) → held d (slotNumber a) ≡ some p → held d (slotNumber b) ≡ some q → Says (f p q) cs)
     → Says (planIn d a >>= λ p. planIn d b >>= λ q. f p q) ((slotEmpty if isEmpty d a || isEmpty d b) ∷ cs)
 unfolding _>>=_
 plans-then d a b {f} {cs} h = go (held d (slotNumber a)) (held d (slotNumber b)) h
@@ -123,7 +132,8 @@ followed-then p q {f} {cs} h = go (sameShape (p .shape) (q .shape)) (granted (co
     go true true = record { says = h _ .says }
 
 -- I: nothing more
-inverted-then : {A : Type 0} (p : Plan) {f : Plan → Outcome A} {cs : List Condition} → ((r : Plan) → Says (f r) cs) → Says (ofAnswer (inverted p) >>= f) cs
+inverted-then : {A : Type 0} (p : Plan) {f : Plan → Outcome A} {cs : List Condition} → ((r : Plan) → Says (f r) cs)
+    → Says (ofAnswer (inverted p) >>= f) cs
 unfolding _>>=_ inverted
 inverted-then p h = record { says = h _ .says }
 
@@ -132,7 +142,8 @@ any-found : {A : Type 0} (f : A → Bool) (l : List A) → anyOf f l ≡ true �
 any-found f [] e = absurd (clash e refl)
 any-found {A = A} f (x ∷ l) e = by-place (or-cases (f x) (anyOf f l) e) (λ k. any-found f l k)
   where
-    by-place : (f x ≡ true) ⊎ (anyOf f l ≡ true) → (anyOf f l ≡ true → (y : A) × List·Memᴰ y l × (f y ≡ true)) → (y : A) × List·Memᴰ y (x ∷ l) × (f y ≡ true)
+    by-place : (f x ≡ true) ⊎ (anyOf f l ≡ true) → (anyOf f l ≡ true → (y : A) × List·Memᴰ y l × (f y ≡ true))
+        → (y : A) × List·Memᴰ y (x ∷ l) × (f y ≡ true)
     by-place (inl h) later = (x, List·Memᴰ·head refl, h)
     by-place (inr h) later = let (y, m, k) = later h in (y, List·Memᴰ·tail m, k)
 
@@ -194,11 +205,13 @@ module _ (p : Plan) (kept : Kept p) (k : ℤ) (e : leb (natAbs k) maxPower ≡ t
           subst (λ x. Says (ofAnswer x >>= f) ((limitBroken if false) ∷ cs)) (sym g) (record { says = h q .says })
 
 -- S: the shapes
-same-then : {A : Type 0} (p q : Plan) {f : Bool → Outcome A} → ((b : Bool) → Says (f b) []) → Says (ofComparison (same p q) >>= f) ((shapesDiffer if not (sameShape (p .shape) (q .shape))) ∷ [])
+same-then : {A : Type 0} (p q : Plan) {f : Bool → Outcome A} → ((b : Bool) → Says (f b) [])
+    → Says (ofComparison (same p q) >>= f) ((shapesDiffer if not (sameShape (p .shape) (q .shape))) ∷ [])
 unfolding _>>=_ same
 same-then p q {f} h = go (sameShape (p .shape) (q .shape))
   where
-    go : (a : Bool) → Says (ofComparison (elim a as (λ _. Comparison) [ true ↦ Alike (sameTable (p .rows) (q .rows)) | false ↦ NotCompared ShapesDiffer ]) >>= f) ((shapesDiffer if not a) ∷ [])
+    go : (a : Bool)
+        → Says (ofComparison (elim a as (λ _. Comparison) [ true ↦ Alike (sameTable (p .rows) (q .rows)) | false ↦ NotCompared ShapesDiffer ]) >>= f) ((shapesDiffer if not a) ∷ [])
     go false = record { says = refl }
     go true = record { says = h _ .says }
 
@@ -258,7 +271,8 @@ module _ (p : Plan) (kept : Kept p) (c : Word) where
           by-front false s = record { says = h v .says }
 
 -- what is asked of the plans that two slots hold
-of-both : (d : Desk) (a b : ℕ) (p q : Plan) → held d (slotNumber a) ≡ some p → held d (slotNumber b) ≡ some q → (test : Plan → Plan → Bool) → ofBoth d a b test ≡ test p q
+of-both : (d : Desk) (a b : ℕ) (p q : Plan) → held d (slotNumber a) ≡ some p → held d (slotNumber b) ≡ some q
+    → (test : Plan → Plan → Bool) → ofBoth d a b test ≡ test p q
 of-both d a b p q e f test =
     ap (λ x. elim x as (λ _. Bool) [ none ↦ false | some p ↦ ofPlan d b (λ q. test p q) ]) e
     ∙ ap (λ y. elim y as (λ _. Bool) [ none ↦ false | some q ↦ test p q ]) f
@@ -269,14 +283,16 @@ differ p q = not (sameShape (p .shape) (q .shape))
 breaks : Plan → Plan → Bool
 breaks p q = not (granted (compose (p .shape) (p .rows) (q .rows)))
 
-followed-says : {A : Type 0} (d : Desk) (a b : ℕ) (p q : Plan) → held d (slotNumber a) ≡ some p → held d (slotNumber b) ≡ some q → {f : Plan → Outcome A} {cs : List Condition} → ((r : Plan) → Says (f r) cs)
+followed-says : {A : Type 0} (d : Desk) (a b : ℕ) (p q : Plan) → held d (slotNumber a) ≡ some p → held d (slotNumber b) ≡ some q
+    → {f : Plan → Outcome A} {cs : List Condition} → ((r : Plan) → Says (f r) cs)
     → Says (ofAnswer (followed p q) >>= f) ((shapesDiffer if ofBoth d a b (λ p q. not (sameShape (p .shape) (q .shape)))) ∷ (limitBroken if ofBoth d a b (λ p q. not (granted (compose (p .shape) (p .rows) (q .rows))))) ∷ cs)
 unfolding differ breaks
 followed-says d a b p q e e′ {f = g} {cs} h =
     subst (λ x. Says (ofAnswer (followed p q) >>= g) ((shapesDiffer if x) ∷ (limitBroken if ofBoth d a b breaks) ∷ cs)) (sym (of-both d a b p q e e′ differ))
     (subst (λ y. Says (ofAnswer (followed p q) >>= g) ((shapesDiffer if differ p q) ∷ (limitBroken if y) ∷ cs)) (sym (of-both d a b p q e e′ breaks)) (followed-then p q h))
 
-same-says : {A : Type 0} (d : Desk) (a b : ℕ) (p q : Plan) → held d (slotNumber a) ≡ some p → held d (slotNumber b) ≡ some q → {f : Bool → Outcome A} → ((x : Bool) → Says (f x) [])
+same-says : {A : Type 0} (d : Desk) (a b : ℕ) (p q : Plan) → held d (slotNumber a) ≡ some p → held d (slotNumber b) ≡ some q
+    → {f : Bool → Outcome A} → ((x : Bool) → Says (f x) [])
     → Says (ofComparison (same p q) >>= f) ((shapesDiffer if ofBoth d a b (λ p q. not (sameShape (p .shape) (q .shape)))) ∷ [])
 unfolding differ
 same-says d a b p q e e′ {f = g} h = subst (λ x. Says (ofComparison (same p q) >>= g) ((shapesDiffer if x) ∷ [])) (sym (of-both d a b p q e e′ differ)) (same-then p q h)

@@ -4,7 +4,8 @@ use Prim.Native.Nat.{ℕ, suc}
 use mathlib.Core.Path.{_≡_, refl, sym, _∙_, ap, subst}
 use mathlib.Core.Logic.{_⊎_, inl, inr, _↔_}
 use mathlib.Core.Bool.{Bool, true, false, _&&_, _||_, not}
-use mathlib.Core.List.{List, [], _∷_, List·Memᴰ, List·Memᴰ·head, List·Memᴰ·tail, List·Memᴰ·cases-cons, List·Memᴰ·not-nil, List·Memᴰ·eq-of-singleton, List·Memᴰ·append-cases, Memᴰ·of-map}
+use mathlib.Core.List.{List, [], _∷_, List·Memᴰ, List·Memᴰ·head, List·Memᴰ·tail, List·Memᴰ·cases-cons, List·Memᴰ·not-nil}
+use mathlib.Core.List.{List·Memᴰ·eq-of-singleton, List·Memᴰ·append-cases, Memᴰ·of-map}
 use mathlib.Core.Option.{Option, none, some, Option·none-ne-some, Option·some-injective}
 use native.Mathlib.Omega.{arith}
 use lib.Dec.{T, leb, eqb, eqb→eq}
@@ -14,15 +15,20 @@ use borrow.Author.Tests.{eq-eqb}
 use Rattle.higman.specs.Words.{Word, spelled}
 use Rattle.higman.specs.Text.{tab, lineEnd, digitByte, wordBytes, Bytes, bytes, decimal, wordOf}
 use Rattle.higman.specs.Limits.{Plan, shapeInRange, isPlanWord, maxPairs, maxPower}
-use Rattle.higman.specs.Refusals.{noRecord, wrongState, shapeOutside, badWord, pairsFull, slotOutside, slotEmpty, powerOutside, countFull, Letter}
+use Rattle.higman.specs.Refusals.{noRecord, wrongState, shapeOutside, badWord, pairsFull, slotOutside, slotEmpty, powerOutside, countFull}
+use Rattle.higman.specs.Refusals.{Letter}
 use Rattle.higman.specs.Answers as Answers
-use Rattle.higman.specs.Answers.{Overlap, Gap, Verdict, Accepted, InFrom, InTo, verdict, Refusal, BadCode, ShapesDiffer, LimitBroken, PowerOutside, refusalNumber, Answer, Granted, followed, inverted, powered, Comparison, Alike, NotCompared, same, Route, Image, TooShort, NotRouted, routed}
+use Rattle.higman.specs.Answers.{Overlap, Gap, Verdict, Accepted, InFrom, InTo, verdict, Refusal, BadCode, ShapesDiffer, LimitBroken}
+use Rattle.higman.specs.Answers.{PowerOutside, refusalNumber, Answer, Granted, followed, inverted, powered, Comparison, Alike}
+use Rattle.higman.specs.Answers.{NotCompared, same, Route, Image, TooShort, NotRouted, routed}
 use Rattle.higman.specs.Listing.{slotNumber}
 use Rattle.higman.proofs.Tests.{so, T-of, clash, or-cases, or-true-left, or-true-right}
 use Rattle.desk.specs.Limits.{maxLine}
 use Rattle.desk.specs.Desk.{Draft, Desk, held}
 use Rattle.desk.specs.Records.{Record, P, M, E, F, I, K, S, W, L, C, T as Tᴿ, U, parted, parse, slotsNamed, isChange}
-use Rattle.desk.specs.Replies.{Outcome, refuse, pass, _>>=_, Effect, openAmiss, outside, atLimit, openPlan, planIn, ofVerdict, ofAnswer, ofComparison, ofRoute, settle, job, operation, recordOf, lineOperation, respondLine, _when_}
+use Rattle.desk.specs.Replies.{Outcome, refuse, pass, _>>=_, Effect, openAmiss, outside, atLimit, openPlan, planIn, ofVerdict}
+use Rattle.desk.specs.Replies.{ofAnswer, ofComparison, ofRoute, settle, job, operation, recordOf, lineOperation, respondLine}
+use Rattle.desk.specs.Replies.{_when_}
 use Rattle.desk.specs.Bytes.{Order, columnField, replyBytes}
 use Rattle.desk.specs.Conditions.{refusalOf}
 use Rattle.desk.specs.Demands.{operationNumbers, refusalNumbers, Done, Refused, Demand1}
@@ -64,7 +70,8 @@ numbered-open : (d : Desk) → Numbered (openPlan d)
 unfolding among operationNumbers
 numbered-open d = by-draft (d .draft)
   where
-    by-draft : (x : Option Draft) → Numbered {A = Draft} (elim x as (λ _. Outcome Draft) [ none ↦ refuse wrongState none | some o ↦ pass o ])
+    by-draft : (x : Option Draft)
+        → Numbered {A = Draft} (elim x as (λ _. Outcome Draft) [ none ↦ refuse wrongState none | some o ↦ pass o ])
     by-draft none = numbered-refusal tt
     by-draft (some o) = no-refusal
 
@@ -198,7 +205,8 @@ clean-refusal n c f m = go (List·Memᴰ·cases-cons m)
 record-cases : (line : Bytes) → (recordOf line ≡ refuse noRecord none) ⊎ ((r : Record) × (recordOf line ≡ pass r))
 record-cases line = go (leb (length line) maxLine) (parse line)
   where
-    go : (b : Bool) (o : Option Record) → let x : Outcome Record = elim b [ false ↦ refuse noRecord none | true ↦ elim o [ none ↦ refuse noRecord none | some r ↦ pass r ] ] in (x ≡ refuse noRecord none) ⊎ ((r : Record) × (x ≡ pass r))
+    go : (b : Bool) (o : Option Record)
+        → let x : Outcome Record = elim b [ false ↦ refuse noRecord none | true ↦ elim o [ none ↦ refuse noRecord none | some r ↦ pass r ] ] in (x ≡ refuse noRecord none) ⊎ ((r : Record) × (x ≡ pass r))
     go false o = inl refl
     go true none = inl refl
     go true (some r) = inr (r, refl)
@@ -212,13 +220,16 @@ unfolding lineOperation _>>=_
 record-line d line r e = ap (λ o. o >>= operation d) e
 
 -- 1 where the line is no record, another number where the record's operation is refused
-line-cases : (d : Desk) (line : Bytes) (n : ℕ) (c : Option Letter) → lineOperation d line ≡ refuse n c → ((n ≡ noRecord) × (recordOf line ≡ refuse n c)) ⊎ List·Memᴰ n operationNumbers
+line-cases : (d : Desk) (line : Bytes) (n : ℕ) (c : Option Letter) → lineOperation d line ≡ refuse n c
+    → ((n ≡ noRecord) × (recordOf line ≡ refuse n c)) ⊎ List·Memᴰ n operationNumbers
 line-cases d line n c e = go (record-cases line)
   where
-    first : _≡_ {A = Outcome Effect} (refuse noRecord none) (refuse n c) → (n ≡ noRecord) × (_≡_ {A = Outcome Record} (refuse noRecord none) (refuse n c))
+    first : _≡_ {A = Outcome Effect} (refuse noRecord none) (refuse n c)
+        → (n ≡ noRecord) × (_≡_ {A = Outcome Record} (refuse noRecord none) (refuse n c))
     first h = let p = Option·some-injective _ _ (ap refusalOf h) in (sym (ap (λ x. x .0) p), ap (λ x. refuse (x .0) (x .1)) p)
 
-    go : (recordOf line ≡ refuse noRecord none) ⊎ ((r : Record) × (recordOf line ≡ pass r)) → ((n ≡ noRecord) × (recordOf line ≡ refuse n c)) ⊎ List·Memᴰ n operationNumbers
+    go : (recordOf line ≡ refuse noRecord none) ⊎ ((r : Record) × (recordOf line ≡ pass r))
+        → ((n ≡ noRecord) × (recordOf line ≡ refuse n c)) ⊎ List·Memᴰ n operationNumbers
     go (inl h) = let (p, q) = first (sym (no-record-line d line noRecord none h) ∙ e) in inl (p, h ∙ q)
     go (inr (r, h)) = inr (operation-numbered d r n c (sym (record-line d line r h) ∙ e))
 
@@ -229,7 +240,8 @@ not-later n e m = clash (among-of-mem n operationNumbers m) (ap (λ k. among k o
 no-record : (d : Desk) (line : Bytes) (c : Option Letter) → (lineOperation d line ≡ refuse noRecord c) ↔ (recordOf line ≡ refuse noRecord c)
 no-record d line c = (λ e. go (line-cases d line noRecord c e), no-record-line d line noRecord c)
   where
-    go : (_≡_ {A = ℕ} noRecord noRecord × (recordOf line ≡ refuse noRecord c)) ⊎ List·Memᴰ noRecord operationNumbers → recordOf line ≡ refuse noRecord c
+    go : (_≡_ {A = ℕ} noRecord noRecord × (recordOf line ≡ refuse noRecord c)) ⊎ List·Memᴰ noRecord operationNumbers
+        → recordOf line ≡ refuse noRecord c
     go (inl (p, q)) = q
     go (inr m) = absurd (not-later noRecord refl m)
 

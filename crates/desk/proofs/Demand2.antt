@@ -14,7 +14,8 @@ use Rattle.higman.specs.Words.{Word, isWord}
 use Rattle.higman.specs.Tables.{image, sameTable}
 use Rattle.higman.specs.Normal.{andThen, power}
 use Rattle.higman.specs.Limits.{Plan, Bases, Kept, isCode, slotCount}
-use Rattle.higman.specs.Answers.{Accepted, verdict, Answer, Granted, Refused, followed, inverted, powered, Comparison, Alike, NotCompared, same, sameShape, Route, Image, TooShort, NotRouted, BadCode, ShapesDiffer, routed}
+use Rattle.higman.specs.Answers.{Accepted, verdict, Answer, Granted, Refused, followed, inverted, powered, Comparison, Alike, NotCompared}
+use Rattle.higman.specs.Answers.{same, sameShape, Route, Image, TooShort, NotRouted, BadCode, ShapesDiffer, routed}
 use Rattle.higman.specs.Theorems.{ActAlike}
 use Rattle.higman.proofs.Tests.{T-of}
 use Rattle.higman.proofs.KeptPlans.{arity-of-range}
@@ -26,7 +27,8 @@ use Rattle.desk.specs.Limits.{maxChanges}
 use Rattle.desk.specs.Desk.{Draft, Desk, countOf, held, IsDesk}
 use Rattle.desk.specs.Records.{E, F, I, K, S, W, writing, slotsNamed}
 use Rattle.higman.specs.Listing.{slotNumber}
-use Rattle.desk.specs.Replies.{pass, Effect, Reply, silent, ok, okNumber, okWord, lists, surveys, refuses, bit, ofAnswer, ofComparison, ofRoute, keepIn, closed, job, operation}
+use Rattle.desk.specs.Replies.{pass, Effect, Reply, silent, ok, okNumber, okWord, lists, surveys, refuses, bit, ofAnswer}
+use Rattle.desk.specs.Replies.{ofComparison, ofRoute, keepIn, closed, job, operation}
 use Rattle.desk.specs.Demands.{KeptAsTyped, KeptIn, Demand2}
 use Rattle.desk.proofs.ReadBack.{typed-in, listing-read-back}
 use Rattle.desk.proofs.TypedLines.{accepted-from-lines}
@@ -54,7 +56,8 @@ route-made (NotRouted r) = stops
 one-draft : (d : Desk) (o o′ : Draft) → d .draft ≡ some o → d .draft ≡ some o′ → o′ ≡ o
 one-draft d o o′ x y = Option·some-injective o′ o (sym y ∙ x)
 
-accepted : (d : Desk) (o : Draft) → IsDesk d → d .draft ≡ some o → ((e : Effect) × (operation d E ≡ pass e)) ↔ (Bases (o .shape) (o .rows) × (countOf d < maxChanges))
+accepted : (d : Desk) (o : Draft) → IsDesk d → d .draft ≡ some o
+    → ((e : Effect) × (operation d E ≡ pass e)) ↔ (Bases (o .shape) (o .rows) × (countOf d < maxChanges))
 accepted d o h x = (to, from)
   where
     to : (e : Effect) × (operation d E ≡ pass e) → Bases (o .shape) (o .rows) × (countOf d < maxChanges)
@@ -179,7 +182,9 @@ image-of-route : (p : Plan) (c v : Word) → routed p c ≡ Image v → image (p
 unfolding routed
 image-of-route p c v e = go (isCode (p .shape) c) (image (p .rows) c) (ap isImage e)
   where
-    go : (b : Bool) (o : Option Word) → isImage (elim b as (λ _. Route) [ true ↦ elim o [ some v ↦ Image v | none ↦ TooShort ] | false ↦ NotRouted BadCode ]) ≡ some v → o ≡ some v
+    go : (b : Bool) (o : Option Word)
+        → isImage (elim b as (λ _. Route) [ true ↦ elim o [ some v ↦ Image v | none ↦ TooShort ] | false ↦ NotRouted BadCode ]) ≡ some v
+        → o ≡ some v
     go false o h = absurd (Option·none-ne-some v h)
     go true none h = absurd (Option·none-ne-some v h)
     go true (some u) h = h
@@ -213,7 +218,9 @@ shapes-of-alike : (p q : Plan) (x : Bool) → same p q ≡ Alike x → p .shape 
 unfolding same
 shapes-of-alike p q x e = go (sameShape (p .shape) (q .shape)) refl e
   where
-    go : (b : Bool) → sameShape (p .shape) (q .shape) ≡ b → elim b as (λ _. Comparison) [ true ↦ Alike (sameTable (p .rows) (q .rows)) | false ↦ NotCompared ShapesDiffer ] ≡ Alike x → p .shape ≡ q .shape
+    go : (b : Bool) → sameShape (p .shape) (q .shape) ≡ b
+        → elim b as (λ _. Comparison) [ true ↦ Alike (sameTable (p .rows) (q .rows)) | false ↦ NotCompared ShapesDiffer ] ≡ Alike x
+        → p .shape ≡ q .shape
     go true h k = shape-path (p .shape) (q .shape) (T-of h)
     go false h k = absurd (subst isAlike (sym k) tt)
 
@@ -234,7 +241,8 @@ bit-one : (x : Bool) → bit x ≡ 1 → x ≡ true
 bit-one true e = refl
 bit-one false e = absurd (omega arith)
 
-compared : (d : Desk) (p q : Plan) (x : Bool) (e : Effect) → Kept p → Kept q → same p q ≡ Alike x → e ≡ (d, okNumber (bit x)) → (e ≡ (d, okNumber 1)) ↔ ActAlike p q
+compared : (d : Desk) (p q : Plan) (x : Bool) (e : Effect) → Kept p → Kept q → same p q ≡ Alike x → e ≡ (d, okNumber (bit x))
+    → (e ≡ (d, okNumber 1)) ↔ ActAlike p q
 compared d p q x e P Q c f =
     let i = answers-exact .alike p q P Q (shapes-of-alike p q x c) in (
       λ g. i .0 (c ∙ ap Alike (bit-one x (ap (λ y. numberOf (y .1)) (sym f ∙ g)))),

@@ -16,7 +16,9 @@ use Rattle.higman.specs.Text.{Bytes, tab, decimal}
 use Rattle.higman.specs.Listing.{slotByte}
 use Rattle.higman.proofs.Tests.{passes, and-left, and-right, and-intro, all-cons}
 use Rattle.desk.specs.Limits.{maxNumeral}
-use Rattle.desk.specs.Records.{Record, P, M, E, F, I, K, S, W, L, C, U, Form, slotField, anyField, numberField, field, noMore, Rule, grammar, readBy, readFields, parse, fields, parted, recordFields, recordText, noTab, hasDigits, numbersFit, wellFormed}
+use Rattle.desk.specs.Records.{Record, P, M, E, F, I, K, S, W, L, C, U, Form, slotField, anyField, numberField, field, noMore, Rule}
+use Rattle.desk.specs.Records.{grammar, readBy, readFields, parse, fields, parted, recordFields, recordText, noTab, hasDigits}
+use Rattle.desk.specs.Records.{numbersFit, wellFormed}
 use Rattle.desk.specs.Grammar.{GrammarExact, HeldLinesRead, TextExact}
 use Rattle.desk.proofs.Fields.{no-tab-cons, word-no-tab, fields-of-parted, parted-of-fields, fields-no-tab}
 use Rattle.higman.proofs.Decimals.{decimal-read-back, decimals-exact}

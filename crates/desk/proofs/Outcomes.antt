@@ -12,7 +12,9 @@ use Rattle.higman.specs.Text.{Bytes}
 use Rattle.desk.specs.Desk.{Draft, Desk, held, dropped}
 use Rattle.desk.specs.Records.{Record, P, M, E, F, I, K, S, W, L, C, T as Tᴿ, U, slotsNamed, isChange}
 use Rattle.higman.specs.Listing.{slotNumber, isSlot}
-use Rattle.desk.specs.Replies.{Reply, silent, ok, okNumber, okWord, lists, surveys, refuses, Outcome, refuse, pass, _>>=_, openAmiss, openPlan, planIn, atLimit, job, Effect, settle, operation, lineOperation, respondLine, _when_}
+use Rattle.desk.specs.Replies.{Reply, silent, ok, okNumber, okWord, lists, surveys, refuses, Outcome, refuse, pass, _>>=_}
+use Rattle.desk.specs.Replies.{openAmiss, openPlan, planIn, atLimit, job, Effect, settle, operation, lineOperation, respondLine}
+use Rattle.desk.specs.Replies.{_when_}
 use Rattle.desk.specs.Theorems.{RefusalDrops}
 
 pub data Passes {A : Type 0} (Q : A → Type 0) : Outcome A → Type 0 where
@@ -20,7 +22,8 @@ pub data Passes {A : Type 0} (Q : A → Type 0) : Outcome A → Type 0 where
   passes : {a : A} → Q a → Passes Q (pass a)
 
 -- what is known of a step's value serves the next
-pub passes-then : {A B : Type 0} {H : A → Type 0} {Q : B → Type 0} {o : Outcome A} {f : A → Outcome B} → Passes H o → ((a : A) → H a → Passes Q (f a)) → Passes Q (o >>= f)
+pub passes-then : {A B : Type 0} {H : A → Type 0} {Q : B → Type 0} {o : Outcome A} {f : A → Outcome B} → Passes H o
+    → ((a : A) → H a → Passes Q (f a)) → Passes Q (o >>= f)
 unfolding _>>=_
 passes-then stops k = stops
 passes-then (passes {a} h) k = k a h
@@ -128,7 +131,8 @@ line-answers : (d : Desk) (line : Bytes) → Passes Answered (lineOperation d li
 unfolding lineOperation
 line-answers d line = any-then _ (λ r. passes-operation d r (λ _. job-answers d r))
 
-settled-refusal : (d : Desk) (o : Outcome Effect) → Passes Answered o → (n : ℕ) (c : Option Letter) → settle d o .1 ≡ refuses n c → settle d o .0 ≡ dropped d
+settled-refusal : (d : Desk) (o : Outcome Effect) → Passes Answered o → (n : ℕ) (c : Option Letter) → settle d o .1 ≡ refuses n c
+    → settle d o .0 ≡ dropped d
 settled-refusal d (refuse m b) h n c e = refl
 settled-refusal d (pass x) (passes h) n c e = absurd (subst NoRefusal e h)
 

@@ -85,7 +85,8 @@ parse-pair p = parse-text (M (wordBytes (p .from)) (wordBytes (p .to))) well-for
         and-intro (all noTab (wordBytes (p .from) ∷ wordBytes (p .to) ∷ [])) true
         (all-cons noTab (wordBytes (p .from)) (wordBytes (p .to) ∷ []) (word-no-tab (p .from)) (all-cons noTab (wordBytes (p .to)) [] (word-no-tab (p .to)) tt)) tt
 
-operation-pair : (d : Desk) (o : Draft) (p : Pair) → T (shapeInRange (o .shape)) → T (isPlanWord (o .shape) (p .from) && isPlanWord (o .shape) (p .to))
+operation-pair : (d : Desk) (o : Draft) (p : Pair) → T (shapeInRange (o .shape))
+    → T (isPlanWord (o .shape) (p .from) && isPlanWord (o .shape) (p .to))
     → length (o .rows) < maxPairs
     → operation (withDraft d o) (M (wordBytes (p .from)) (wordBytes (p .to))) ≡ pass (withDraft d (withPair o p), silent)
 operation-pair d o p r h k =
@@ -101,7 +102,8 @@ operation-pair d o p r h k =
         (word-back (p .from) (and-left (isPlanWord (o .shape) (p .from)) (isPlanWord (o .shape) (p .to)) h))
         (word-back (p .to) (and-right (isPlanWord (o .shape) (p .from)) (isPlanWord (o .shape) (p .to)) h))
 
-operation-close : (d : Desk) (o : Draft) → verdict (o .shape) (o .rows) ≡ Accepted → keep (o .shape) (o .rows) ≡ o .rows → countOf d < maxChanges
+operation-close : (d : Desk) (o : Draft) → verdict (o .shape) (o .rows) ≡ Accepted → keep (o .shape) (o .rows) ≡ o .rows
+    → countOf d < maxChanges
     → operation (withDraft d o) E ≡ pass (changed d (o .slot) (some (record { shape = o .shape; rows = o .rows })), okNumber (length (o .rows)))
 unfolding withDraft changed
 operation-close d o v k h =
@@ -141,15 +143,19 @@ module _ (order : Order) where
   abbrev after : Effect → Bytes → State × Bytes
   after e rest = let q = feed order (idle (e .0)) rest in (q .0, replyBytes order (e .1) ++ q .1)
 
-  line-ends : (d : Desk) (l rest : Bytes) → feed order (record { desk = d; line = l; overlong = false }) (lineEnd ∷ rest) ≡ after (respondLine d l) rest
+  line-ends : (d : Desk) (l rest : Bytes)
+      → feed order (record { desk = d; line = l; overlong = false }) (lineEnd ∷ rest) ≡ after (respondLine d l) rest
   unfolding feed feedByte
   line-ends d l rest = refl
 
-  byte-kept : (d : Desk) (l : Bytes) (b : ℕ) → eqb b lineEnd ≡ false → length l < maxLine → feedByte order (record { desk = d; line = l; overlong = false }) b ≡ (record { desk = d; line = l ++ (b ∷ []); overlong = false }, [])
+  byte-kept : (d : Desk) (l : Bytes) (b : ℕ) → eqb b lineEnd ≡ false → length l < maxLine
+      → feedByte order (record { desk = d; line = l; overlong = false }) b
+      ≡ (record { desk = d; line = l ++ (b ∷ []); overlong = false }, [])
   unfolding feedByte
   byte-kept d l b e h = rw (e, feedByte, so (ltb (length l) maxLine) (lt→ltb (length l) maxLine h), grown)
 
-  feed-line : (d : Desk) (l x rest : Bytes) → Without lineEnd x → length (l ++ x) ≤ maxLine → feed order (record { desk = d; line = l; overlong = false }) (x ++ lineEnd ∷ rest) ≡ after (respondLine d (l ++ x)) rest
+  feed-line : (d : Desk) (l x rest : Bytes) → Without lineEnd x → length (l ++ x) ≤ maxLine
+      → feed order (record { desk = d; line = l; overlong = false }) (x ++ lineEnd ∷ rest) ≡ after (respondLine d (l ++ x)) rest
   unfolding feed
   feed-line d l [] rest w h = line-ends d l rest ∙ rw append-nil
   feed-line d l (b ∷ x) rest w h =
@@ -157,10 +163,14 @@ module _ (order : Order) where
       rw (byte-kept d l b (w .0)) (feed-line d (l ++ (b ∷ [])) x rest (w .1) (rw append-assoc h) ∙ rw append-assoc)
 
   -- a line of a record that passes
-  feed-record : (d : Desk) (line : Bytes) (r : Record) (e : Effect) (rest : Bytes) → Without lineEnd line → length line ≤ maxLine → parse line ≡ some r → operation d r ≡ pass e → feed order (idle d) (line ++ lineEnd ∷ rest) ≡ after e rest
+  feed-record : (d : Desk) (line : Bytes) (r : Record) (e : Effect) (rest : Bytes) → Without lineEnd line → length line ≤ maxLine
+      → parse line ≡ some r → operation d r ≡ pass e → feed order (idle d) (line ++ lineEnd ∷ rest) ≡ after e rest
   feed-record d line r e rest w h q o = feed-line d [] line rest w h ∙ ap (λ x. after x rest) (respond-record d line r h q ∙ ap (settle d) o)
 
-  feed-pairs : (d : Desk) (i : ℕ) (s : Shape) (todo past : Table) (rest : Bytes) → T (shapeInRange s) → Spelt s todo → length (past ++ todo) ≤ maxPairs → feed order (idle (withDraft d (draftOf i s past))) (joinLines (pairRecords todo) ++ rest) ≡ feed order (idle (withDraft d (draftOf i s (past ++ todo)))) rest
+  feed-pairs : (d : Desk) (i : ℕ) (s : Shape) (todo past : Table) (rest : Bytes) → T (shapeInRange s) → Spelt s todo
+      → length (past ++ todo) ≤ maxPairs
+      → feed order (idle (withDraft d (draftOf i s past))) (joinLines (pairRecords todo) ++ rest)
+      ≡ feed order (idle (withDraft d (draftOf i s (past ++ todo)))) rest
   unfolding replyBytes
   feed-pairs d i s [] past rest r w h = rw append-nil
   feed-pairs d i s (p ∷ todo) past rest r w h =

@@ -16,7 +16,8 @@ use Rattle.desk.specs.Limits.{maxLine}
 use Rattle.desk.specs.Desk.{Desk}
 use Rattle.desk.specs.Replies.{_>>=_, refuse, settle, recordOf, lineOperation, respondLine, run}
 use Rattle.desk.specs.Bytes.{Order, replyBytes}
-use Rattle.desk.specs.Session.{State, idle, grown, effectOf, lineEnded, feedByte, feed, finish, linesFrom, repliesTo, fedWhole, session}
+use Rattle.desk.specs.Session.{State, idle, grown, effectOf, lineEnded, feedByte, feed, finish, linesFrom, repliesTo, fedWhole}
+use Rattle.desk.specs.Session.{session}
 use Rattle.desk.specs.Theorems.{feedBoth, feedPieces, FedInPieces, SessionFed}
 
 module _ (order : Order) where
@@ -55,7 +56,8 @@ begun-grown {d} b (kept l h) = by-room (ltb (length l) maxLine) refl
 begun-grown b (lost l h) = lost (l ++ (b ∷ [])) (simp length-append (omega arith))
 
 module _ (order : Order) where
-  fed-cons : (s : State) (b : ℕ) (input : Bytes) → fedWhole order s (b ∷ input) ≡ feedByte order s b .1 ++ fedWhole order (feedByte order s b .0) input
+  fed-cons : (s : State) (b : ℕ) (input : Bytes)
+      → fedWhole order s (b ∷ input) ≡ feedByte order s b .1 ++ fedWhole order (feedByte order s b .0) input
   unfolding feed
   fed-cons s b input = append-assoc (feedByte order s b .1) _ _
 
@@ -75,12 +77,15 @@ module _ (order : Order) where
   last-lines (lost [] h) = absurd (omega arith)
   last-lines {d} (lost (b ∷ l) h) = ap (λ e. replyBytes order (e .1)) (begun-effect {d = d} (lost (b ∷ l) h)) ∙ sym (append-nil _)
 
-  fed-lines : (input : Bytes) {d : Desk} {s : State} {l : Bytes} → Begun d s l → fedWhole order s input ≡ repliesTo order d (linesFrom l input)
+  fed-lines : (input : Bytes) {d : Desk} {s : State} {l : Bytes} → Begun d s l
+      → fedWhole order s input ≡ repliesTo order d (linesFrom l input)
   unfolding run
   fed-lines [] g = last-lines g
   fed-lines (b ∷ input) {d} {s} {l} g = fed-cons s b input ∙ by-byte (eqb b lineEnd) refl (λ e. fed-lines input (kept [] zero-le)) (fed-lines input (begun-grown b g))
     where
-      by-byte : (t : Bool) → eqb b lineEnd ≡ t → ((e : Desk) → fedWhole order (idle e) input ≡ repliesTo order e (linesFrom [] input)) → fedWhole order (grown s b) input ≡ repliesTo order d (linesFrom (l ++ (b ∷ [])) input) → feedByte order s b .1 ++ fedWhole order (feedByte order s b .0) input ≡ repliesTo order d (linesFrom l (b ∷ input))
+      by-byte : (t : Bool) → eqb b lineEnd ≡ t → ((e : Desk) → fedWhole order (idle e) input ≡ repliesTo order e (linesFrom [] input))
+          → fedWhole order (grown s b) input ≡ repliesTo order d (linesFrom (l ++ (b ∷ [])) input)
+          → feedByte order s b .1 ++ fedWhole order (feedByte order s b .0) input ≡ repliesTo order d (linesFrom l (b ∷ input))
       by-byte true e next more = rw (byte-ends s b e, e, linesFrom, begun-effect g, next (respondLine d l .0))
       by-byte false e next more = rw (byte-inside s b e, e, linesFrom) more
 

@@ -27,12 +27,14 @@ use Rattle.desk.specs.Limits.{maxChanges}
 use Rattle.desk.specs.Desk.{Draft, Desk, freshDesk, countOf, held, IsDraft, IsDesk, changed, withDraft, dropped, withPair}
 use Rattle.desk.specs.Records.{Record, P, M, E, F, I, K, S, W, L, C, T as Tᴿ, U, SlotUse, writing, slotsNamed, isChange}
 use Rattle.higman.specs.Listing.{slotNumber, isSlot}
-use Rattle.desk.specs.Replies.{Outcome, refuse, pass, openPlan, planIn, atLimit, ofVerdict, ofAnswer, Effect, newDraft, closed, job, operation, recordOf, lineOperation, settle, respondLine}
+use Rattle.desk.specs.Replies.{Outcome, refuse, pass, openPlan, planIn, atLimit, ofVerdict, ofAnswer, Effect, newDraft, closed, job}
+use Rattle.desk.specs.Replies.{operation, recordOf, lineOperation, settle, respondLine}
 use Rattle.desk.specs.Theorems.{DeskStays}
 use Rattle.desk.proofs.Outcomes.{Passes, stops, passes, passes-then, any-then, test-failed, test-held, Tested, passes-operation}
 
 -- what a slot holds after one was written: what was written, or what it held
-held-set : (l : List (Option Plan)) (i j : ℕ) (x : Option Plan) (p : Plan) → getD (set l i x) j none ≡ some p → (x ≡ some p) ⊎ (getD l j none ≡ some p)
+held-set : (l : List (Option Plan)) (i j : ℕ) (x : Option Plan) (p : Plan) → getD (set l i x) j none ≡ some p
+    → (x ≡ some p) ⊎ (getD l j none ≡ some p)
 held-set [] i j x p e = inr e
 held-set (y ∷ l) zero zero x p e = inl e
 held-set (y ∷ l) zero (suc j) x p e = inr e
@@ -45,7 +47,8 @@ below-limit d e = leb-false maxChanges (countOf d) e
 no-draft : {A : Type 0} {o : Draft} → none ≡ some o → A
 no-draft q = absurd (Option·none-ne-some _ q)
 
-changed-desk : (d : Desk) → IsDesk d → atLimit d ≡ false → (i : ℕ) (x : Option Plan) → ((p : Plan) → x ≡ some p → Kept p) → IsDesk (changed d i x)
+changed-desk : (d : Desk) → IsDesk d → atLimit d ≡ false → (i : ℕ) (x : Option Plan) → ((p : Plan) → x ≡ some p → Kept p)
+    → IsDesk (changed d i x)
 unfolding changed
 changed-desk d h e i x k = record { eight = length-set (d .slots) i x ∙ h .eight; kept = λ j p q. by j p (held-set (d .slots) i j x p q); drafted = λ o q. no-draft q; counted = let b : countOf d < maxChanges = below-limit d e in omega arith }
   where
@@ -109,7 +112,8 @@ granted-snoc t p h k e =
     (le→leb (length (t ++ (p ∷ []))) maxPairs (simp length-append (omega arith)))
     (all-snoc pairFits t p (and-right (leb (length t) maxPairs) (all pairFits t) h) k)
 
-pub longer-draft : (o : Draft) → IsDraft o → (p : Pair) → T (isPlanWord (o .shape) (p .from) && isPlanWord (o .shape) (p .to)) → leb maxPairs (length (o .rows)) ≡ false → IsDraft (withPair o p)
+pub longer-draft : (o : Draft) → IsDraft o → (p : Pair) → T (isPlanWord (o .shape) (p .from) && isPlanWord (o .shape) (p .to))
+    → leb maxPairs (length (o .rows)) ≡ false → IsDraft (withPair o p)
 longer-draft o h p k e =
     record {
       slot-named = h .slot-named;

@@ -25,11 +25,13 @@ use Rattle.desk.specs.Limits.{maxChanges, maxLine}
 use Rattle.desk.specs.Desk.{Draft, Desk, countOf, IsDraft, changed, withDraft, withPair, dropped}
 use Rattle.desk.specs.Records.{Record, P, M, E, recordFields, recordText, noTab, hasDigits, wellFormed, needsOpen}
 use Rattle.desk.specs.Conditions.{refusalOf}
-use Rattle.desk.specs.Replies.{Outcome, refuse, pass, Effect, silent, isOpen, openAmiss, keepIn, newDraft, closed, settle, job, operation, respondLine, run, deskAfter}
+use Rattle.desk.specs.Replies.{Outcome, refuse, pass, Effect, silent, isOpen, openAmiss, keepIn, newDraft, closed, settle, job}
+use Rattle.desk.specs.Replies.{operation, respondLine, run, deskAfter}
 use Rattle.desk.specs.Theorems.{TypedPair, typedTable, typedRecords, Acceptable, AcceptedFromLines}
 use Rattle.desk.proofs.Outcomes.{Passes, stops, passes as passes-on, passed, passes-operation}
 use Rattle.desk.proofs.Stays.{below-limit, slot-below, new-draft, longer-draft}
-use Rattle.desk.proofs.OpenPlans.{typedPair, areWords, open-pass, open-steps, pair-pass, pair-steps, close-pass, Closed, close-steps, draft-verdict}
+use Rattle.desk.proofs.OpenPlans.{typedPair, areWords, open-pass, open-steps, pair-pass, pair-steps, close-pass, Closed}
+use Rattle.desk.proofs.OpenPlans.{close-steps, draft-verdict}
 use Rattle.desk.proofs.Lines.{respond-text, respond-overlong}
 
 pub without-draft : (d : Desk) → d .draft ≡ none → dropped d ≡ d
@@ -117,7 +119,8 @@ pair-line-fits s from to h =
     let t = plan-word-length s (wordOf to) (and-right (isPlanWord s (wordOf from)) (isPlanWord s (wordOf to)) h) in
     simp length-append (omega (arith, length-map from digitOf, length-map to digitOf))
 
-open-line-fits : (b : ℕ) (s : Shape) → T (wellFormed (P b (s .arity) (s .roots))) → length (recordText (P b (s .arity) (s .roots))) ≤ maxLine
+open-line-fits : (b : ℕ) (s : Shape) → T (wellFormed (P b (s .arity) (s .roots)))
+    → length (recordText (P b (s .arity) (s .roots))) ≤ maxLine
 unfolding recordText wellFormed maxLine
 open-line-fits b s w =
     let fit = and-right (all noTab (recordFields (P b (s .arity) (s .roots)))) (hasDigits 1 (s .arity) && hasDigits 1 (s .roots)) w in
@@ -130,7 +133,8 @@ unfolding recordText maxLine
 close-line-fits = lit≤ tt
 
 -- a record that is done
-done-left : (d : Desk) (r : Record) (rs : List Record) (e : Effect) → T (wellFormed r) → length (recordText r) ≤ maxLine → operation d r ≡ pass e
+done-left : (d : Desk) (r : Record) (rs : List Record) (e : Effect) → T (wellFormed r) → length (recordText r) ≤ maxLine
+    → operation d r ≡ pass e
     → left d (r ∷ rs) ≡ left (e .0) rs
 done-left d r rs e w h o = left-cons d r rs (e .0) (ap (λ x. x .0) (respond-text d r w h ∙ ap (settle d) o))
 

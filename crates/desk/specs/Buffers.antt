@@ -63,11 +63,13 @@ plainCall d work = elim (isDesk d) [ true ↦ (settle d (work d) .0, replyOf (wo
 abbrev counting : Work
 counting d = operation d T
 
-lentCall-example : (order : Order) → lentCall order freshDesk counting (bytes ".......") ≡ (freshDesk, record { buffer = bytes "ok\t0\n.."; answer = pass 5 })
+lentCall-example : (order : Order)
+    → lentCall order freshDesk counting (bytes ".......") ≡ (freshDesk, record { buffer = bytes "ok\t0\n.."; answer = pass 5 })
 unfolding _>>=_ lentCall lent isDesk operation job needsOpen slotsNamed isChange replyBytes freshDesk slotCount maxChanges
 lentCall-example order = refl
 
-too-short-example : (order : Order) → lentCall order freshDesk counting (bytes "....") ≡ (freshDesk, record { buffer = bytes "...."; answer = refuse 14 none })
+too-short-example : (order : Order)
+    → lentCall order freshDesk counting (bytes "....") ≡ (freshDesk, record { buffer = bytes "...."; answer = refuse 14 none })
 unfolding _>>=_ lentCall lent isDesk operation job needsOpen slotsNamed isChange replyBytes freshDesk dropped slotCount maxChanges
 too-short-example order = refl
 
@@ -80,6 +82,7 @@ plainCall-example = refl
 abbrev noDesk : Desk
 noDesk = atCount freshDesk (maxChanges + 1)
 
-no-desk-example : (order : Order) → lentCall order noDesk counting (bytes ".") ≡ (noDesk, record { buffer = bytes "."; answer = refuse 15 none })
+no-desk-example : (order : Order)
+    → lentCall order noDesk counting (bytes ".") ≡ (noDesk, record { buffer = bytes "."; answer = refuse 15 none })
 unfolding lentCall lent isDesk freshDesk slotCount maxChanges
 no-desk-example order = refl

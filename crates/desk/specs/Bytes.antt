@@ -55,7 +55,9 @@ replyBytes order (lists slot p) = listing slot p
 replyBytes order (surveys hs) = counted (map heldFields (order .arranged hs))
 replyBytes order (refuses n c) = noLine (decimal n ∷ columnField c)
 
-replyBytes-example : (order : Order) → map (replyBytes order) (silent ∷ ok ∷ okNumber 3 ∷ okWord (spell 1212) ∷ refuses 13 none ∷ refuses 7 (some Letter.T) ∷ []) ≡ bytes "" ∷ bytes "ok\n" ∷ bytes "ok\t3\n" ∷ bytes "ok\t1212\n" ∷ bytes "no\t13\n" ∷ bytes "no\t7\tT\n" ∷ []
+replyBytes-example : (order : Order)
+    → map (replyBytes order) (silent ∷ ok ∷ okNumber 3 ∷ okWord (spell 1212) ∷ refuses 13 none ∷ refuses 7 (some Letter.T) ∷ [])
+    ≡ bytes "" ∷ bytes "ok\n" ∷ bytes "ok\t3\n" ∷ bytes "ok\t1212\n" ∷ bytes "no\t13\n" ∷ bytes "no\t7\tT\n" ∷ []
 unfolding replyBytes
 replyBytes-example order = refl
 

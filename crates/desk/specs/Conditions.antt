@@ -17,7 +17,8 @@ use Rattle.higman.specs.Tables.{froms, tos}
 use Rattle.higman.specs.Normal.{compose, power}
 use Rattle.higman.specs.Limits.{Plan, shapeInRange, granted, isCode, maxPairs, maxPower, slotCount, isPlanWord}
 use Rattle.higman.specs.Answers.{sameShape}
-use Rattle.higman.specs.Refusals.{wrongState, shapeOutside, badWord, pairsFull, wordsOverlap, rootUncovered, slotOutside, slotEmpty, shapesDiffer, limitBroken, powerOutside, codeTooShort, countFull, Letter}
+use Rattle.higman.specs.Refusals.{wrongState, shapeOutside, badWord, pairsFull, wordsOverlap, rootUncovered, slotOutside, slotEmpty}
+use Rattle.higman.specs.Refusals.{shapesDiffer, limitBroken, powerOutside, codeTooShort, countFull, Letter}
 use Rattle.higman.specs.Text.{byte, wordOf}
 use Rattle.desk.specs.Desk.{Draft, Desk, freshDesk, held}
 use Rattle.desk.specs.Records.{Record, P, M, E, F, I, K, S, W, L, C, T, U, needsOpen, slotsNamed, isChange}

@@ -16,15 +16,18 @@ use Rattle.higman.specs.Limits.{Plan, Bases, Kept, slotCount}
 use Rattle.higman.specs.Text.{lineEnd, Bytes, wordOf}
 use Rattle.higman.specs.Theorems.{ActAlike, ResultsReduced, MinimalExpansion, Demand3}
 use Rattle.higman.specs.Automorphisms.{PlansAreAutomorphisms}
-use Rattle.higman.specs.Refusals.{noRecord, wrongState, shapeOutside, badWord, pairsFull, wordsOverlap, rootUncovered, slotOutside, slotEmpty, shapesDiffer, limitBroken, powerOutside, codeTooShort, countFull, Letter}
+use Rattle.higman.specs.Refusals.{noRecord, wrongState, shapeOutside, badWord, pairsFull, wordsOverlap, rootUncovered, slotOutside}
+use Rattle.higman.specs.Refusals.{slotEmpty, shapesDiffer, limitBroken, powerOutside, codeTooShort, countFull, Letter}
 use Rattle.desk.specs.Limits.{maxChanges}
 use Rattle.desk.specs.Desk.{Draft, Desk, countOf, held, IsDesk, changed, withDraft, withPair, dropped}
 use Rattle.desk.specs.Records.{Record, P, M, E, F, I, K, S, W, L, C, T as Tᴿ, U, isChange}
 use Rattle.higman.specs.Listing.{slotNumber}
-use Rattle.desk.specs.Replies.{refuse, pass, Effect, silent, ok, okNumber, okWord, lists, surveys, refuses, heldFrom, operation, lineOperation, respondLine, recordOf, newDraft, closed}
+use Rattle.desk.specs.Replies.{refuse, pass, Effect, silent, ok, okNumber, okWord, lists, surveys, refuses, heldFrom, operation}
+use Rattle.desk.specs.Replies.{lineOperation, respondLine, recordOf, newDraft, closed}
 use Rattle.desk.specs.Bytes.{Order, replyBytes}
 use Rattle.desk.specs.Conditions.{conditions, firstOf, refusalOf}
-use Rattle.desk.specs.Theorems.{RefusalDrops, DeskStays, DeskTest, SurveyExact, FedInPieces, SessionFed, TypedIn, AcceptedFromLines, ListingReadBack, CallsExact}
+use Rattle.desk.specs.Theorems.{RefusalDrops, DeskStays, DeskTest, SurveyExact, FedInPieces, SessionFed, TypedIn, AcceptedFromLines}
+use Rattle.desk.specs.Theorems.{ListingReadBack, CallsExact}
 use Rattle.desk.specs.Grammar.{TextExact}
 
 -- the numbers that the operation of a record may be refused with; 14 and 15 are of library calls
@@ -81,25 +84,31 @@ pub record Demand1 : Type 0 where
 -- What becomes of a desk that is changed, gets an open plan or loses it.
 pub record DeskParts : Type 0 where
   -- a change: one slot holds something else, the others hold what they held, and the count is one higher
-  pub changed-here : (d : Desk) (i : ℕ) (content : Option Plan) → length (d .slots) ≡ slotCount → i < slotCount → held (changed d i content) i ≡ content
+  pub changed-here : (d : Desk) (i : ℕ) (content : Option Plan) → length (d .slots) ≡ slotCount → i < slotCount
+      → held (changed d i content) i ≡ content
   pub changed-elsewhere : (d : Desk) (i j : ℕ) (content : Option Plan) → (i ≡ j → ⊥) → held (changed d i content) j ≡ held d j
   pub changed-count : (d : Desk) (i : ℕ) (content : Option Plan) → countOf (changed d i content) ≡ countOf d + 1
   pub changed-open : (d : Desk) (i : ℕ) (content : Option Plan) → changed d i content .draft ≡ none
   -- an open plan: nothing else changes
-  pub drafted : (d : Desk) (o : Draft) → (withDraft d o .slots ≡ d .slots) × (withDraft d o .draft ≡ some o) × (countOf (withDraft d o) ≡ countOf d)
+  pub drafted : (d : Desk) (o : Draft)
+      → (withDraft d o .slots ≡ d .slots) × (withDraft d o .draft ≡ some o) × (countOf (withDraft d o) ≡ countOf d)
   -- it is dropped: nothing else changes
   pub dropped-parts : (d : Desk) → (dropped d .slots ≡ d .slots) × (dropped d .draft ≡ none) × (countOf (dropped d) ≡ countOf d)
 
 -- What P, M, C, L, T and U do when they are not refused, and which records change slots and count at all.
 pub record RepliesExact : Type 0 where
-  pub opens : (d : Desk) (a n r : ℕ) (e : Effect) → operation d (P a n r) ≡ pass e → (d .draft ≡ none) × (e ≡ (withDraft d (newDraft a (record { arity = n; roots = r })), silent))
+  pub opens : (d : Desk) (a n r : ℕ) (e : Effect) → operation d (P a n r) ≡ pass e
+      → (d .draft ≡ none) × (e ≡ (withDraft d (newDraft a (record { arity = n; roots = r })), silent))
   pub adds : (d : Desk) (from to : Bytes) (e : Effect) → operation d (M from to) ≡ pass e
       → (o : Draft) × (d .draft ≡ some o) × (e ≡ (withDraft d (withPair o (record { from = wordOf from; to = wordOf to })), silent))
-  pub empties : (d : Desk) (a : ℕ) (e : Effect) → operation d (C a) ≡ pass e → (p : Plan) × (held d (slotNumber a) ≡ some p) × (e ≡ (changed d (slotNumber a) none, ok))
-  pub lists : (d : Desk) (a : ℕ) (e : Effect) → operation d (L a) ≡ pass e → (p : Plan) × (held d (slotNumber a) ≡ some p) × (e ≡ (d, lists a p))
+  pub empties : (d : Desk) (a : ℕ) (e : Effect) → operation d (C a) ≡ pass e
+      → (p : Plan) × (held d (slotNumber a) ≡ some p) × (e ≡ (changed d (slotNumber a) none, ok))
+  pub lists : (d : Desk) (a : ℕ) (e : Effect) → operation d (L a) ≡ pass e
+      → (p : Plan) × (held d (slotNumber a) ≡ some p) × (e ≡ (d, lists a p))
   pub counts : (d : Desk) (e : Effect) → operation d Tᴿ ≡ pass e → e ≡ (d, okNumber (countOf d))
   pub surveys : (d : Desk) (e : Effect) → operation d U ≡ pass e → e ≡ (d, surveys (heldFrom 0 (d .slots)))
-  pub only-changes : (d : Desk) (r : Record) (e : Effect) → isChange r ≡ false → operation d r ≡ pass e → (e .0 .slots ≡ d .slots) × (countOf (e .0) ≡ countOf d)
+  pub only-changes : (d : Desk) (r : Record) (e : Effect) → isChange r ≡ false → operation d r ≡ pass e
+      → (e .0 .slots ≡ d .slots) × (countOf (e .0) ≡ countOf d)
   pub raises : (d : Desk) (r : Record) (e : Effect) → isChange r ≡ true → operation d r ≡ pass e → countOf (e .0) ≡ countOf d + 1
 
 -- E: what is kept is what was typed, reduced
@@ -117,7 +126,8 @@ pub record KeptIn (d : Desk) (c : ℕ) (e : Effect) (p : Plan) : Type 0 where
 
 -- Demand 2: plans accepted exactly when both columns are bases, operations those of G(n,r), a listing read back is the same plan.
 pub record Demand2 : Type 0 where
-  pub accepted : (d : Desk) (o : Draft) → IsDesk d → d .draft ≡ some o → ((e : Effect) × (operation d E ≡ pass e)) ↔ (Bases (o .shape) (o .rows) × (countOf d < maxChanges))
+  pub accepted : (d : Desk) (o : Draft) → IsDesk d → d .draft ≡ some o
+      → ((e : Effect) × (operation d E ≡ pass e)) ↔ (Bases (o .shape) (o .rows) × (countOf d < maxChanges))
   pub typed : (d : Desk) (o : Draft) (e : Effect) → IsDesk d → d .draft ≡ some o → operation d E ≡ pass e → KeptAsTyped d o e
   pub follows : (d : Desk) (a b c : ℕ) (e : Effect) → IsDesk d → operation d (F a b c) ≡ pass e
       → (p : Plan) × (q : Plan) × (r : Plan) × (held d (slotNumber a) ≡ some p) × (held d (slotNumber b) ≡ some q) × KeptIn d c e r × (p .shape ≡ q .shape) × (r .shape ≡ p .shape)

@@ -14,8 +14,11 @@ use Rattle.higman.specs.Bases.{all}
 use Rattle.higman.specs.Tables.{Table, row, φ, ψ}
 use Rattle.higman.specs.Normal.{joined, normal, normalForm, keep, compose, inverse}
 use Rattle.higman.specs.Limits.{Plan, shapeInRange, granted, isCode, maxPairs, maxDigits, maxCode, maxPower, slotCount, isPlanWord}
-use Rattle.higman.specs.Answers.{Verdict, Accepted, InFrom, InTo, verdict, reasonNumber, Answer, Granted, Refused, refusalNumber, followed, inverted, powered, Comparison, Alike, NotCompared, same, Route, Image, TooShort, NotRouted, routeNumber, routed}
-use Rattle.higman.specs.Refusals.{noRecord, wrongState, shapeOutside, badWord, pairsFull, slotOutside, slotEmpty, powerOutside, countFull, Letter}
+use Rattle.higman.specs.Answers.{Verdict, Accepted, InFrom, InTo, verdict, reasonNumber, Answer, Granted, Refused, refusalNumber}
+use Rattle.higman.specs.Answers.{followed, inverted, powered, Comparison, Alike, NotCompared, same, Route, Image, TooShort, NotRouted}
+use Rattle.higman.specs.Answers.{routeNumber, routed}
+use Rattle.higman.specs.Refusals.{noRecord, wrongState, shapeOutside, badWord, pairsFull, slotOutside, slotEmpty, powerOutside, countFull}
+use Rattle.higman.specs.Refusals.{Letter}
 use Rattle.higman.specs.Text.{Bytes, byte, bytes, digitOf, wordOf}
 use Rattle.higman.specs.Listing.{slotNumber, isSlot}
 use Rattle.desk.specs.Limits.{maxChanges, maxLine}
@@ -244,7 +247,8 @@ recordOf-example = refl
 -- with a plan open: any record but M and E is refused with 2
 open-example : map (λ r. respond (withDraft freshDesk (newDraft (byte "A") (record { arity = 2; roots = 1 }))) r .1) (T ∷ U ∷ P (byte "A") 2 1 ∷ L (byte "A") ∷ M (bytes "1") (bytes "1") ∷ E ∷ [])
     ≡ refuses 2 none ∷ refuses 2 none ∷ refuses 2 none ∷ refuses 2 none ∷ silent ∷ refuses 7 (some Letter.F) ∷ []
-unfolding _>>=_ respond operation job needsOpen slotsNamed isChange freshDesk withDraft slotCount isPlanWord maxPairs maxDigits verdict digitOf
+unfolding _>>=_ respond operation job needsOpen slotsNamed isChange freshDesk withDraft slotCount isPlanWord maxPairs maxDigits verdict
+    digitOf
 open-example = refl
 
 -- a line that is no record, and a record
@@ -262,7 +266,8 @@ fullCount = atCount (changed freshDesk 0 (some (plan21 ψ))) maxChanges
 
 full-count-example : map (λ r. respond fullCount r .1) (T ∷ C (byte "A") ∷ C (byte "B") ∷ I (byte "A") (byte "B") ∷ K (byte "A") (pos 1001) (byte "B") ∷ W (byte "A") (bytes "12") ∷ [])
     ≡ okNumber 4_000_000_000 ∷ refuses 16 none ∷ refuses 9 none ∷ refuses 16 none ∷ refuses 12 none ∷ okWord (spell 122) ∷ []
-unfolding _>>=_ respond operation job needsOpen slotsNamed isChange freshDesk changed slotCount maxChanges maxPower inverted inverse keep normalForm normal joined routed isCode maxCode digitOf
+unfolding _>>=_ respond operation job needsOpen slotsNamed isChange freshDesk changed slotCount maxChanges maxPower inverted inverse keep
+    normalForm normal joined routed isCode maxCode digitOf
 full-count-example = refl
 
 -- ψ in slot A and φ in slot B
@@ -281,5 +286,6 @@ emptied-example = refl
 -- "Operands are read before c is written, so letters may repeat."
 repeated-letters-example : map (λ r. held (respond twoPlans r .0) 0) (F (byte "A") (byte "A") (byte "A") ∷ F (byte "B") (byte "A") (byte "A") ∷ F (byte "A") (byte "B") (byte "A") ∷ I (byte "A") (byte "A") ∷ [])
     ≡ some (plan21 (row 1111 11 ∷ row 1112 121 ∷ row 112 1221 ∷ row 12 1222 ∷ [])) ∷ some (plan21 (row 111 1222 ∷ row 112 1221 ∷ row 121 11 ∷ row 122 121 ∷ [])) ∷ some (plan21 (row 1111 122 ∷ row 1112 121 ∷ row 112 111 ∷ row 12 112 ∷ [])) ∷ some (plan21 (row 11 111 ∷ row 121 112 ∷ row 122 12 ∷ [])) ∷ []
-unfolding _>>=_ respond operation job needsOpen slotsNamed isChange freshDesk changed slotCount maxChanges followed inverted granted maxPairs maxDigits compose inverse keep normalForm normal joined
+unfolding _>>=_ respond operation job needsOpen slotsNamed isChange freshDesk changed slotCount maxChanges followed inverted granted
+    maxPairs maxDigits compose inverse keep normalForm normal joined
 repeated-letters-example = refl

@@ -117,8 +117,10 @@ linesFrom-example : linesFrom [] (bytes "T\n\nU") ≡ bytes "T" ∷ [] ∷ bytes
 linesFrom-example = refl
 
 -- a last line without byte 10, and none behind the last byte 10
-last-line-example : (order : Order) → map (session order) (bytes "T" ∷ bytes "T\n" ∷ bytes "\nT\r" ∷ []) ≡ bytes "ok\t0\n" ∷ bytes "ok\t0\n" ∷ bytes "no\t1\nno\t1\n" ∷ []
-unfolding session run replyBytes _>>=_ respondLine lineOperation operation job needsOpen slotsNamed isChange parse grammar freshDesk dropped slotCount maxLine
+last-line-example : (order : Order)
+    → map (session order) (bytes "T" ∷ bytes "T\n" ∷ bytes "\nT\r" ∷ []) ≡ bytes "ok\t0\n" ∷ bytes "ok\t0\n" ∷ bytes "no\t1\nno\t1\n" ∷ []
+unfolding session run replyBytes _>>=_ respondLine lineOperation operation job needsOpen slotsNamed isChange parse grammar freshDesk
+    dropped slotCount maxLine
 last-line-example order = refl
 
 -- behind 1,100 bytes of a line one more makes it too long: what it held is let go, and at its end it is refused
@@ -126,9 +128,12 @@ abbrev fullLine : State
 fullLine = record { desk = freshDesk; line = replicate maxLine (byte "T"); overlong = false }
 
 overlong-example : (order : Order) → feed order fullLine (bytes "TT\nT\n") ≡ (idle freshDesk, bytes "no\t1\nok\t0\n")
-unfolding feed feedByte replyBytes _>>=_ respondLine lineOperation operation job needsOpen slotsNamed isChange parse grammar freshDesk dropped slotCount maxLine
+unfolding feed feedByte replyBytes _>>=_ respondLine lineOperation operation job needsOpen slotsNamed isChange parse grammar freshDesk
+    dropped slotCount maxLine
 overlong-example order = refl
 
 session-in-full : (order : Order) → session order inputInFull ≡ outputInFull
-unfolding session run replyBytes _>>=_ respondLine lineOperation operation job needsOpen slotsNamed isChange parse grammar freshDesk changed withDraft dropped slotCount maxChanges maxLine maxNumeral isPlanWord digitOf maxPairs maxDigits maxCode maxPower shapeInRange granted isCode verdict followed inverted raised powered routed keep compose inverse identity normalForm normal joined
+unfolding session run replyBytes _>>=_ respondLine lineOperation operation job needsOpen slotsNamed isChange parse grammar freshDesk
+    changed withDraft dropped slotCount maxChanges maxLine maxNumeral isPlanWord digitOf maxPairs maxDigits maxCode maxPower shapeInRange
+    granted isCode verdict followed inverted raised powered routed keep compose inverse identity normalForm normal joined
 session-in-full order = refl

@@ -141,7 +141,8 @@ pub record CallsExact : Type 0 where
   -- "a lent buffer then holds what it held before", at any refusal; and a buffer keeps its length at any answer
   pub buffer-held : (order : Order) (d : Desk) (work : Work) (buffer : Bytes) (n : ℕ) (c : Option Letter)
       → lentCall order d work buffer .1 .answer ≡ refuse n c → lentCall order d work buffer .1 .buffer ≡ buffer
-  pub buffer-length : (order : Order) (d : Desk) (work : Work) (buffer : Bytes) → length (lentCall order d work buffer .1 .buffer) ≡ length buffer
+  pub buffer-length : (order : Order) (d : Desk) (work : Work) (buffer : Bytes)
+      → length (lentCall order d work buffer .1 .buffer) ≡ length buffer
   -- a call that is lent nothing
   pub plain-no-desk : (d : Desk) (work : Work) → (IsDesk d → ⊥) → plainCall d work ≡ (d, refuse invalidValue none)
   pub plain-refused : (d : Desk) (work : Work) (n : ℕ) (c : Option Letter) → IsDesk d → work d ≡ refuse n c

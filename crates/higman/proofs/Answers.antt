@@ -13,7 +13,8 @@ use Rattle.higman.specs.Words.{Shape}
 use Rattle.higman.specs.Tables.{Table}
 use Rattle.higman.specs.Normal.{compose, inverse, identity, repeated, power}
 use Rattle.higman.specs.Limits.{Plan, granted, maxPower}
-use Rattle.higman.specs.Answers.{Answer, Granted, Refused, Refusal, ShapesDiffer, LimitBroken, PowerOutside, refusalNumber, sameShape, grant, followed, inverted, raised, repeatable, powered}
+use Rattle.higman.specs.Answers.{Answer, Granted, Refused, Refusal, ShapesDiffer, LimitBroken, PowerOutside, refusalNumber}
+use Rattle.higman.specs.Answers.{sameShape, grant, followed, inverted, raised, repeatable, powered}
 use Rattle.higman.proofs.Tests.{passes, so, T-of, clash, and-left, and-right, and-intro}
 
 abbrev IsGranted : Answer → Type 0

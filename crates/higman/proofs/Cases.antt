@@ -7,5 +7,6 @@ use Rattle.higman.specs.Answers.{verdict, followed, inverted, raised, po
 use Rattle.higman.specs.Cases.{starCases, StarCases}
 
 pub star-cases : StarCases
-unfolding starCases verdict followed inverted raised powered routed granted isCode maxPairs maxDigits maxCode maxPower keep compose inverse identity normalForm normal joined
+unfolding starCases verdict followed inverted raised powered routed granted isCode maxPairs maxDigits maxCode maxPower keep compose
+    inverse identity normalForm normal joined
 star-cases = (refl, (refl, (refl, (refl, (refl, (refl, (refl, (refl, (refl, (refl, (refl, tt)))))))))))

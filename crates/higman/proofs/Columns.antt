@@ -5,17 +5,21 @@ use mathlib.Core.Path.{_≡_, refl, sym, _∙_, ap, subst}
 use mathlib.Core.Logic.{_⊎_, inl, inr, ⊎-elim}
 use mathlib.Core.Bool.{Bool, true, false, _||_, not}
 use mathlib.Core.List.{List, [], _∷_, _++_, append-nil, append-assoc, nil≢cons, Permᴰ·symm}
-use mathlib.Core.List.{List·Memᴰ, List·Memᴰ·head, List·Memᴰ·tail, List·Memᴰ·cases-cons, List·Memᴰ·not-nil, List·Memᴰ·eq-of-singleton, List·Memᴰ·append-cases, Memᴰ·cast, Memᴰ·of-map}
+use mathlib.Core.List.{List·Memᴰ, List·Memᴰ·head, List·Memᴰ·tail, List·Memᴰ·cases-cons, List·Memᴰ·not-nil, List·Memᴰ·eq-of-singleton}
+use mathlib.Core.List.{List·Memᴰ·append-cases, Memᴰ·cast, Memᴰ·of-map}
 use native.Mathlib.Omega.{arith}
 use lib.ListN.{length, length-append}
 use Rattle.higman.specs.Words.{Shape, Word, digits, isWord, begins, child, children}
 use Rattle.higman.specs.Bases.{rootWords, Expansion, Basis, listed, all, covered, longest, gap, meets, overlap, Column}
 use Rattle.higman.specs.Theorems.{ColumnIsBasis, BasisSize}
 use Rattle.higman.proofs.Tests.{passes, so, T-of, clash, or-left-false, or-right-false, or-false, all-at, all-of}
-use Rattle.higman.proofs.Tests.{Digit, Ways, IsWord, word-of-test, test-of-word, digit-of-mem, mem-of-digit, listed-of-mem, mem-of-listed}
-use Rattle.higman.proofs.Prefixes.{begins-append, tail-of-begins, comparable, child-append, prefix-of-child, word-append, ones, ones-ways, ones-length}
+use Rattle.higman.proofs.Tests.{Digit, Ways, IsWord, word-of-test, test-of-word, digit-of-mem, mem-of-digit, listed-of-mem}
+use Rattle.higman.proofs.Tests.{mem-of-listed}
+use Rattle.higman.proofs.Prefixes.{begins-append, tail-of-begins, comparable, child-append, prefix-of-child, word-append, ones}
+use Rattle.higman.proofs.Prefixes.{ones-ways, ones-length}
 use Rattle.higman.proofs.Proper.{ApartFrom, Apart, Deep, Proper}
-use Rattle.higman.proofs.Expansions.{Begun, Separate, Within, length-of-perm, same-of-apart, perm-of-apart, proper-of-perm, proper-of-expansion, length-of-expansion}
+use Rattle.higman.proofs.Expansions.{Begun, Separate, Within, length-of-perm, same-of-apart, perm-of-apart, proper-of-perm}
+use Rattle.higman.proofs.Expansions.{proper-of-expansion, length-of-expansion}
 
 apart-from-of-meets : (w : Word) (c : List Word) → meets w c ≡ false → ApartFrom w c
 apart-from-of-meets w [] e u m = absurd (List·Memᴰ·not-nil m)

@@ -21,11 +21,13 @@ use Rattle.higman.proofs.Tests.{T-of, same-test, and-left, and-right, a
 use Rattle.higman.proofs.Images.{long-enough-of-image}
 use Rattle.higman.proofs.Actions.{Action, Same}
 use Rattle.higman.proofs.Elements.{Element, element-action, element-swapped}
-use Rattle.higman.proofs.Group.{Member, member-path, compose-member, inverse-member, identity-member, compose-assoc, compose-identity-left, compose-identity-right, compose-inverse-left, compose-inverse-right}
+use Rattle.higman.proofs.Group.{Member, member-path, compose-member, inverse-member, identity-member, compose-assoc}
+use Rattle.higman.proofs.Group.{compose-identity-left, compose-identity-right, compose-inverse-left, compose-inverse-right}
 use Rattle.higman.proofs.Smallest.{keep-granted}
 use Rattle.higman.proofs.KeptPlans.{in-range, arity-of-range, member-of-kept, kept-of-member}
 use Rattle.higman.proofs.Powers.{GroupLaws, pow-in, pow-sum, pow-neg, pow-product, inv-unique, power-is-pow}
-use Rattle.higman.proofs.Answers.{followed-is, followed-cases, grant-of, inverted-cases, powered-cases, powered-zero, powered-one, powered-minus-one}
+use Rattle.higman.proofs.Answers.{followed-is, followed-cases, grant-of, inverted-cases, powered-cases, powered-zero, powered-one}
+use Rattle.higman.proofs.Answers.{powered-minus-one}
 use Rattle.higman.proofs.Listing.{listing-faithful}
 
 -- the group of one shape, for the laws of powers

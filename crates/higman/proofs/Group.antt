@@ -10,9 +10,11 @@ use Rattle.higman.specs.Bases.{longest}
 use Rattle.higman.specs.Tables.{Table, BlockMap, froms, swapped, image}
 use Rattle.higman.specs.Normal.{normalForm, keep, andThen, times, compose, inverse, identity, repeated}
 use Rattle.higman.proofs.Tests.{IsWord}
-use Rattle.higman.proofs.Actions.{Action, Same, normal-form-unique, image-normal-form, and-then-some, and-then-cases, and-then-action}
+use Rattle.higman.proofs.Actions.{Action, Same, normal-form-unique, image-normal-form, and-then-some, and-then-cases}
+use Rattle.higman.proofs.Actions.{and-then-action}
 use Rattle.higman.proofs.Results.{identity-is}
-use Rattle.higman.proofs.Elements.{Element, Mutual, element-action, element-swapped, element-mutual, and-then-mutual, normal-form-element}
+use Rattle.higman.proofs.Elements.{Element, Mutual, element-action, element-swapped, element-mutual, and-then-mutual}
+use Rattle.higman.proofs.Elements.{normal-form-element}
 
 -- an element of G(n,r): a table with bases for columns that is its own normal form
 pub record Member (s : Shape) (t : Table) : Type 0 where

@@ -5,14 +5,16 @@ use Prim.Native.Nat.{ℕ, zero, suc, _<_}
 use mathlib.Core.Path.{_≡_, refl, sym, _∙_, ap₂, subst}
 use mathlib.Core.Logic.{_⊎_, inl, inr}
 use mathlib.Core.Bool.{true, _&&_}
-use mathlib.Core.List.{List, [], _∷_, _++_, List·Memᴰ, List·Memᴰ·head, List·Memᴰ·tail, List·Memᴰ·cases-cons, List·Memᴰ·not-nil, List·Memᴰ·append-cases, List·Memᴰ·eq-of-singleton, Memᴰ·cast, Memᴰ·map, Memᴰ·of-map}
+use mathlib.Core.List.{List, [], _∷_, _++_, List·Memᴰ, List·Memᴰ·head, List·Memᴰ·tail, List·Memᴰ·cases-cons, List·Memᴰ·not-nil}
+use mathlib.Core.List.{List·Memᴰ·append-cases, List·Memᴰ·eq-of-singleton, Memᴰ·cast, Memᴰ·map, Memᴰ·of-map}
 use native.Mathlib.Omega.{arith}
 use lib.Dec.{T, eqb, ltb, ltb→lt, lt→ltb, eqb→eq, eqb-refl}
 use Rattle.higman.specs.Words.{Shape, Word, count, digits}
 use Rattle.higman.specs.Bases.{all}
 use Rattle.higman.specs.Tables.{Pair, Table, BlockMap, froms}
 use Rattle.higman.specs.Normal.{below, under, gather, whole, normal, normalForm, before, ordered}
-use Rattle.higman.proofs.Tests.{so, T-of, and-left, and-right, and-intro, or-cases, or-true-left, or-true-right, all-at, all-of, count-bounds, digit-of-mem, Ways, IsWord}
+use Rattle.higman.proofs.Tests.{so, T-of, and-left, and-right, and-intro, or-cases, or-true-left, or-true-right, all-at, all-of}
+use Rattle.higman.proofs.Tests.{count-bounds, digit-of-mem, Ways, IsWord}
 use Rattle.higman.proofs.Blocks.{rowUnder, gathered, normal-holds}
 use Rattle.higman.proofs.Proper.{Apart}
 

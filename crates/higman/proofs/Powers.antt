@@ -2,7 +2,8 @@
 -- powers are multiplied, and they multiply when a power is raised again. At the end, that the powers of specs/ are such powers.
 use Prim.Native.Nat.{ℕ, zero, suc}
 use mathlib.Core.Path.{_≡_, refl, sym, _∙_, ap, subst}
-use lib.IntN.{ℤ, pos, negsuc, sucℤ, predℤ, negℤ, ℤ-ind, _+ℤ_, _*ℤ_, +ℤ-one, -ℤ-one, +ℤ-sucℤ, +ℤ-predℤ, +ℤ-idr, +ℤ-invr, zero-*ℤ, sucℤ-*ℤ, predℤ-*ℤ, *ℤ-comm}
+use lib.IntN.{ℤ, pos, negsuc, sucℤ, predℤ, negℤ, ℤ-ind, _+ℤ_, _*ℤ_, +ℤ-one, -ℤ-one, +ℤ-sucℤ, +ℤ-predℤ, +ℤ-idr, +ℤ-invr, zero-*ℤ, sucℤ-*ℤ}
+use lib.IntN.{predℤ-*ℤ, *ℤ-comm}
 use Rattle.higman.specs.Words.{Shape}
 use Rattle.higman.specs.Tables.{Table}
 use Rattle.higman.specs.Normal.{compose, inverse, identity, repeated, power}

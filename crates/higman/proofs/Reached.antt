@@ -3,7 +3,8 @@
 use Prim.Native.Nat.{ℕ, zero, suc, _≤_, _<_}
 use mathlib.Core.Path.{_≡_, refl, sym, _∙_, ap, ap₂, subst, subst₂, fun-ext}
 use mathlib.Core.Logic.{_⊎_, inl, inr}
-use mathlib.Core.List.{List, [], _∷_, _++_, map, map-id, nil≢cons, append-nil, append-assoc, List·Memᴰ, List·Memᴰ·head, List·Memᴰ·tail, List·Memᴰ·cases-cons, List·Memᴰ·not-nil, Memᴰ·map}
+use mathlib.Core.List.{List, [], _∷_, _++_, map, map-id, nil≢cons, append-nil, append-assoc, List·Memᴰ, List·Memᴰ·head, List·Memᴰ·tail}
+use mathlib.Core.List.{List·Memᴰ·cases-cons, List·Memᴰ·not-nil, Memᴰ·map}
 use mathlib.Core.List.{List·Permᴰ, List·Permᴰ·cons, List·Permᴰ·swap, List·Permᴰ·trans, Permᴰ·refl, Permᴰ·symm, Permᴰ·map, Permᴰ·middle}
 use mathlib.Core.Bool.{true, false}
 use native.Mathlib.Omega.{arith}
@@ -21,7 +22,8 @@ use Rattle.higman.proofs.Proper.{ApartFrom, Apart}
 use Rattle.higman.proofs.Ordered.{Before, Sorted}
 use Rattle.higman.proofs.Columns.{deep-longest}
 use Rattle.higman.proofs.Expansions.{mem-of-perm}
-use Rattle.higman.proofs.Reduced.{inPart, mem-of-in-part, sorted-in-part, Headed, gather-in-parts, image-in-part, image-of-block, Covers, covers-in-part, block-or-parts, normal-of-whole, heads-of-proper, covers-of-deep}
+use Rattle.higman.proofs.Reduced.{inPart, mem-of-in-part, sorted-in-part, Headed, gather-in-parts, image-in-part, image-of-block}
+use Rattle.higman.proofs.Reduced.{Covers, covers-in-part, block-or-parts, normal-of-whole, heads-of-proper, covers-of-deep}
 use Rattle.higman.proofs.Elements.{Element}
 use Rattle.higman.proofs.KeptPlans.{element-of-bases, keep-reduced, keep-ordered}
 use Rattle.higman.proofs.Joins.{element-of-perm, any-joins}

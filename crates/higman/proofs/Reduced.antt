@@ -5,7 +5,9 @@ use Prim.Native.Nat.{ℕ, zero, suc, _≤_}
 use mathlib.Core.Path.{_≡_, refl, sym, _∙_, ap, ap₂, subst, subst₂, fun-ext}
 use mathlib.Core.Logic.{_⊎_, inl, inr}
 use mathlib.Core.Bool.{Bool, true, false}
-use mathlib.Core.List.{[], _∷_, _++_, nil≢cons, append-nil, head-eq-of-cons-eq, tail-eq-of-cons-eq, List·Memᴰ, List·Memᴰ·head, List·Memᴰ·tail, List·Memᴰ·cases-cons, List·Memᴰ·not-nil, List·Memᴰ·eq-of-singleton, concat-ne-nil, Memᴰ·cast, Memᴰ·map, Memᴰ·of-map}
+use mathlib.Core.List.{[], _∷_, _++_, nil≢cons, append-nil, head-eq-of-cons-eq, tail-eq-of-cons-eq, List·Memᴰ, List·Memᴰ·head}
+use mathlib.Core.List.{List·Memᴰ·tail, List·Memᴰ·cases-cons, List·Memᴰ·not-nil, List·Memᴰ·eq-of-singleton, concat-ne-nil, Memᴰ·cast}
+use mathlib.Core.List.{Memᴰ·map, Memᴰ·of-map}
 use mathlib.Core.Option.{Option, none, some, Option·none-ne-some}
 use native.Mathlib.Omega.{arith}
 use native.Mathlib.Nat.{le-refl}
@@ -18,7 +20,8 @@ use Rattle.higman.specs.Tables.{Pair, Table, BlockMap, firstMatch, image
 use Rattle.higman.specs.Normal.{below, gather, whole, parts, joint, joined, normal, normalForm, keep, Joinable, Reduced, ordered}
 use Rattle.higman.proofs.Tests.{clash, Digit, Ways, IsWord, digit-of-mem, mem-of-digit, pair-path}
 use Rattle.higman.proofs.Prefixes.{after-some}
-use Rattle.higman.proofs.Blocks.{rowUnder, gathered, mem-gather, part-of-gather, gather-path, joint-of-parts, JoinCases, joined-cases, normal-whole, normal-parts, normal-holds}
+use Rattle.higman.proofs.Blocks.{rowUnder, gathered, mem-gather, part-of-gather, gather-path, joint-of-parts, JoinCases}
+use Rattle.higman.proofs.Blocks.{joined-cases, normal-whole, normal-parts, normal-holds}
 use Rattle.higman.proofs.Proper.{Deep, Proper}
 use Rattle.higman.proofs.Ordered.{Before, BeforeAll, Sorted, sorted-of-test, before-froms, sorted-same, sorted-gather}
 

@@ -13,7 +13,8 @@ use Rattle.higman.specs.Bases.{Basis, Column, all, overlap, gap}
 use Rattle.higman.specs.Tables.{Pair, Table, froms, tos, image, sameTable}
 use Rattle.higman.specs.Normal.{keep, compose, inverse, power, Reduced, ordered}
 use Rattle.higman.specs.Limits.{Plan, Bases, Kept, shapeInRange, granted, isCode, maxCode}
-use Rattle.higman.specs.Answers.{Reason, Overlap, Gap, Verdict, Accepted, InFrom, InTo, fault, verdict, accepts, isTableOf, isKept, same, Alike, NotCompared, Comparison, sameShape, Route, Image, TooShort, NotRouted, routed}
+use Rattle.higman.specs.Answers.{Reason, Overlap, Gap, Verdict, Accepted, InFrom, InTo, fault, verdict, accepts, isTableOf, isKept}
+use Rattle.higman.specs.Answers.{same, Alike, NotCompared, Comparison, sameShape, Route, Image, TooShort, NotRouted, routed}
 use Rattle.higman.specs.Theorems.{NormalForm, GroupActs, AnswersExact, ActAlike}
 use Rattle.higman.proofs.Tests.{so, T-of, and-left, and-right, and-intro, IsWord, word-of-test, same-table, same-table-refl}
 use Rattle.higman.proofs.Proper.{Proper}
@@ -24,7 +25,8 @@ use Rattle.higman.proofs.Results.{identity-bases}
 use Rattle.higman.proofs.Group.{keep-acts, keep-member, compose-acts, compose-member, inverse-acts, inverse-member}
 use Rattle.higman.proofs.Group.{identity-acts, repeated-acts}
 use Rattle.higman.proofs.Smallest.{keep-granted}
-use Rattle.higman.proofs.KeptPlans.{element-of-bases, bases-of-element, keep-reduced, keep-ordered, own-of-reduced, arity-of-range, member-of-kept, kept-of-member}
+use Rattle.higman.proofs.KeptPlans.{element-of-bases, bases-of-element, keep-reduced, keep-ordered, own-of-reduced, arity-of-range}
+use Rattle.higman.proofs.KeptPlans.{member-of-kept, kept-of-member}
 use Rattle.higman.proofs.Joins.{any-joins}
 use Rattle.higman.proofs.Reached.{reached}
 use Rattle.higman.proofs.Answers.{powered-cases, power-refused, same-shape-refl}

@@ -10,7 +10,8 @@ use Rattle.higman.specs.Tables.{Table, row, φ, ψ}
 use Rattle.higman.specs.Normal.{keep}
 use Rattle.higman.specs.Limits.{Plan}
 use Rattle.higman.specs.Refusals.{Letter, F, T, wordsOverlap, rootUncovered, codeTooShort}
-use Rattle.higman.specs.Answers.{Accepted, InFrom, InTo, reasonNumber, verdict, refusalNumber, Answer, Granted, Refused, followed, inverted, powered, Route, Image, routeNumber, routed}
+use Rattle.higman.specs.Answers.{Accepted, InFrom, InTo, reasonNumber, verdict, refusalNumber, Answer, Granted, Refused, followed}
+use Rattle.higman.specs.Answers.{inverted, powered, Route, Image, routeNumber, routed}
 
 -- the plan kept, where a code is sent, or the number of a refusal, for E with the column
 pub data Reply : Type 0 where

@@ -16,7 +16,8 @@ use Rattle.higman.specs.Bases.{Basis, Column, all}
 use Rattle.higman.specs.Tables.{Pair, Table, froms, tos, image, longEnough}
 use Rattle.higman.specs.Normal.{keep, andThen, times, compose, inverse, identity, repeated, power, Reduced, ordered, Joins}
 use Rattle.higman.specs.Limits.{Plan, Bases, Kept, shapeInRange, granted, isCode, maxPower, slotCount}
-use Rattle.higman.specs.Answers.{verdict, Accepted, isKept, Granted, Refused, LimitBroken, followed, inverted, powered, repeatable, identityPlan, same, Alike, routed, TooShort}
+use Rattle.higman.specs.Answers.{verdict, Accepted, isKept, Granted, Refused, LimitBroken, followed, inverted, powered, repeatable}
+use Rattle.higman.specs.Answers.{identityPlan, same, Alike, routed, TooShort}
 use Rattle.higman.specs.Listing.{slotNumber, slotByte, isSlot, pairRecords, joinLines, listing}
 
 -- A column is a basis exactly when its words are words of the shape, none begins or equals another and every belt is covered.
