@@ -39,7 +39,7 @@ pub fn unmatched<'a>(p: Plan, code: &'a [u8]) -> &'a [u8]
     }
     let n = p.pairs;
     let from = p.from;
-    tables::routing::matched(&from[..n], code)
+    tables::routing::unmatched(&from[..n], code)
 }
 
 // W: writes a code's image at the front of the buffer. 15, 4, 13, 14.

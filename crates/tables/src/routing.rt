@@ -55,7 +55,7 @@ fn behind(w: u64, code: &[u8]) -> &[u8]
 }
 
 // The unmatched tail, as a part of the code: what stands behind the from-word that begins it, or the whole code where none does.
-pub fn matched<'a>(from: &[u64], code: &'a [u8]) -> &'a [u8]
+pub fn unmatched<'a>(from: &[u64], code: &'a [u8]) -> &'a [u8]
     requires { ⌜ Searchable (now from) ⌝ }
     requires { ⌜ IsCode (now code) ⌝ }
     ensures { λ r. ⌜ now r ≡ unmatched (wordsOf (now (from .entry))) (now (code .entry)) ⌝ }

@@ -54,14 +54,14 @@ returns-2 c =
 array-share-prefix-from : tie.Need-array-share-prefix-from
 array-share-prefix-from c = from-room (c .before)
 
-slice-aggregate-matched : tie.Need-slice-aggregate-matched
-slice-aggregate-matched c =
+slice-aggregate-unmatched : tie.Need-slice-aggregate-unmatched
+slice-aggregate-unmatched c =
     let e = c .before .before in
     let p = called e .args .p in
     sym (length-take-le (p .pairs) (p .from) (from-room e))
 
-matched-requires : tie.Need-matched-requires
-matched-requires c κs =
+unmatched-requires : tie.Need-unmatched-requires
+unmatched-requires c κs =
     let e = c .before .before in
     let a = called e .args in
     let h = plan (e .before .before) in
@@ -72,7 +72,7 @@ returns-3 c =
     let e = c .before .before .before in
     let a = called e .args in
     let found = matched-found (a .p) (a .code .now) (plan (e .before .before)) (code e) (from-room e) (to-room e) in
-    (c .matched .ensures .0 ∙ ap (λ n. drop n (a .code .now)) found, c .matched .ensures .1 ∙ ap (λ n. further n (a .code .ptr)) found)
+    (c .unmatched .ensures .0 ∙ ap (λ n. drop n (a .code .now)) found, c .unmatched .ensures .1 ∙ ap (λ n. further n (a .code .ptr)) found)
 
 pub unmatched-spec : {M : Type 1} → statement M
 unmatched-spec =
@@ -83,6 +83,6 @@ unmatched-spec =
     is-code-requires
     returns-2
     array-share-prefix-from
-    slice-aggregate-matched
-    matched-requires
+    slice-aggregate-unmatched
+    unmatched-requires
     returns-3)

@@ -1,4 +1,4 @@
--- `tables::routing::matched` meets its contract: the place found gives the digits that are matched, and none are where there is none.
+-- `tables::routing::unmatched` meets its contract: the place found gives the digits that are matched, and none are where there is none.
 use mathlib.Core.Path.{_≡_, sym, _∙_, ap}
 use borrow.Author.Needs.{needs}
 use native.Mathlib.Omega.{arith}
@@ -8,8 +8,8 @@ use Rattle.columns.specs.Columns.{wordAt}
 use Rattle.columns.proofs.Search.{FirstIn, first-of-place}
 use Rattle.tables.specs.Routing.{further}
 use Rattle.tables.proofs.Routes.{here, matched-digits, matched-none, begins-within}
-use Rattle.tables.proofs.routing.matched.Statement.{statement}
-use Rattle.tables.proofs.routing.matched.Tie as tie
+use Rattle.tables.proofs.routing.unmatched.Statement.{statement}
+use Rattle.tables.proofs.routing.unmatched.Tie as tie
 
 -- the place found is that of the first from-word that begins the code
 first : (c : tie.After-place-of) →
@@ -50,8 +50,8 @@ returns-2 c =
     let none = sym (matched-none (a .from .now) (wordOf (a .code .now)) (p .place-of .result) (first p) end) in
     (ap (λ n. drop n (a .code .now)) none, here (a .code .ptr) ∙ ap (λ n. further n (a .code .ptr)) none)
 
-pub matched-spec : {M : Type 1} → statement M
-matched-spec =
+pub unmatched-spec : {M : Type 1} → statement M
+unmatched-spec =
     tie.close
     (tie.spec
     place-of-requires
