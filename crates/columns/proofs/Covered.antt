@@ -6,12 +6,13 @@ use mathlib.Core.Logic.{_⊎_, inl, inr, ⊎-elim}
 use mathlib.Core.Bool.{Bool, true, false, not}
 use mathlib.Core.List.{List, [], _∷_}
 use native.Mathlib.Omega.{arith}
-use lib.ListN.{length, getD, length-append}
+use lib.ListN.{length, getD}
 use Rattle.higman.specs.Words.{Word, count, digits, child}
 use Rattle.higman.specs.Bases.{sameWord, listed, all, covered, longest, gap}
 use Rattle.higman.proofs.Tests.{passes, T-of, or-false, same-word}
 use Rattle.higman.specs.Limits.{maxDigits}
 use Rattle.words.specs.Bytes.{shape}
+use Rattle.words.proofs.Sizes.{length-child}
 use Rattle.words.proofs.Limit.{word-fits}
 use Rattle.columns.specs.Packed.{wordsOf}
 
@@ -61,9 +62,6 @@ uncovered m c P none down zero w h = none w h
 uncovered m c P none down (suc d) w h =
     parts (suc m) c d w (none w h) ∙ rw (uncovered m c P none down d (child w 1) (down w h), all) refl
 
-pub child-length : (w : Word) (i : ℕ) → length (child w i) ≡ length w + 1
-child-length w i = length-append w (i ∷ [])
-
 -- a word longer than all of the column is not listed
 unlisted : (c : List Word) (w : Word) → longest c < length w → listed w c ≡ false
 unlisted [] w h = refl
@@ -75,7 +73,7 @@ unlisted (u ∷ c) w h = or-false (sameWord w u) (listed w c) other (unlisted c 
 -- nor is, where a block has a part, the block covered
 too-deep : (m : ℕ) (c : List Word) (d : ℕ) (w : Word) → longest c < length w → covered (suc m) c d w ≡ false
 too-deep m c d w h =
-    uncovered m c (λ v. longest c < length v) (unlisted c) (λ v k. omega (arith, child-length v 1)) d w h
+    uncovered m c (λ v. longest c < length v) (unlisted c) (λ v k. omega (arith, length-child v 1)) d w h
 
 -- two depths that reach past the longest word
 pub covered-deep : (m : ℕ) (c : List Word) (d e : ℕ) (w : Word) → longest c ≤ length w + d → longest c ≤ length w + e → covered (suc m) c d w ≡ covered (suc m) c e w
@@ -84,14 +82,20 @@ covered-deep m c zero (suc e) w h k = go (passes (listed w c))
   where
     go : (listed w c ≡ true) ⊎ (listed w c ≡ false) → listed w c ≡ covered (suc m) c (suc e) w
     go (inl t) = t ∙ sym (covered-listed (suc m) c (suc e) w t)
-    go (inr f) = f ∙ sym (parts (suc m) c e w f ∙ rw (too-deep m c e (child w 1) (omega (arith, child-length w 1)), all) refl)
+    go (inr f) = f ∙ sym (parts (suc m) c e w f ∙ rw (too-deep m c e (child w 1) (omega (arith, length-child w 1)), all) refl)
 covered-deep m c (suc d) zero w h k = go (passes (listed w c))
   where
     go : (listed w c ≡ true) ⊎ (listed w c ≡ false) → covered (suc m) c (suc d) w ≡ listed w c
     go (inl t) = covered-listed (suc m) c (suc d) w t ∙ sym t
-    go (inr f) = parts (suc m) c d w f ∙ rw (too-deep m c d (child w 1) (omega (arith, child-length w 1)), all) (sym f)
+    go (inr f) = parts (suc m) c d w f ∙ rw (too-deep m c d (child w 1) (omega (arith, length-child w 1)), all) (sym f)
 covered-deep m c (suc d) (suc e) w h k =
-    ap (λ r. elim (listed w c) as (λ _. Bool) [ true ↦ true | false ↦ r ]) (all-same (λ i. covered (suc m) c d (child w i)) (λ i. covered (suc m) c e (child w i)) (λ i. covered-deep m c d e (child w i) (omega (arith, child-length w i)) (omega (arith, child-length w i))) (digits (suc m)))
+    ap
+    (λ r. elim (listed w c) as (λ _. Bool) [ true ↦ true | false ↦ r ])
+    (all-same
+    (λ i. covered (suc m) c d (child w i))
+    (λ i. covered (suc m) c e (child w i))
+    (λ i. covered-deep m c d e (child w i) (omega (arith, length-child w i)) (omega (arith, length-child w i)))
+    (digits (suc m)))
 
 -- a gap, looked for as deep as the longest word reaches or deeper
 pub gap-deep : (n r : ℕ) (c : List Word) (d : ℕ) → 1 ≤ n → longest c ≤ suc d → gap (shape n r) c ≡ not (all (λ a. covered n c d (a ∷ [])) (digits r))

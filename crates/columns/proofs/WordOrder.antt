@@ -25,10 +25,10 @@ three-ways a b = go (passes (ltb a b)) (passes (eqb a b))
     go (inr l) (inl e) = inr (inl (eqb-true a b e))
     go (inr l) (inr e) = inr (inr (omega (arith, ltb-false a b l, eqb-false a b e)))
 
-total : (u v : Word) → InOrder u v ⊎ InOrder v u
-total [] v = inl tt
-total (a ∷ u) [] = inr tt
-total (a ∷ u) (b ∷ v) = go (three-ways a b) (total u v)
+pub in-order-either-way : (u v : Word) → InOrder u v ⊎ InOrder v u
+in-order-either-way [] v = inl tt
+in-order-either-way (a ∷ u) [] = inr tt
+in-order-either-way (a ∷ u) (b ∷ v) = go (three-ways a b) (in-order-either-way u v)
   where
     go : (a < b) ⊎ ((a ≡ b) ⊎ (b < a)) → InOrder u v ⊎ InOrder v u → InOrder (a ∷ u) (b ∷ v) ⊎ InOrder (b ∷ v) (a ∷ u)
     go (inl l) rest = inl (inl l)
@@ -38,7 +38,7 @@ total (a ∷ u) (b ∷ v) = go (three-ways a b) (total u v)
 
 -- two words that are not in order are in order the other way round
 pub in-order-total : (u v : Word) → inOrder u v ≡ false → inOrder v u ≡ true
-in-order-total u v e = go (total u v)
+in-order-total u v e = go (in-order-either-way u v)
   where
     go : InOrder u v ⊎ InOrder v u → inOrder v u ≡ true
     go (inl h) = absurd (clash (test-of-in-order u v h) e)

@@ -7,18 +7,22 @@ use mathlib.Core.List.{List, [], _∷_, map}
 use lib.ListN.{take, drop}
 use Rattle.higman.specs.Words.{Word, begins, spell}
 use Rattle.higman.specs.Bases.{all}
-use Rattle.higman.specs.Tables.{Table, row}
+use Rattle.higman.specs.Tables.{Pair, Table, row}
 use Rattle.higman.specs.Normal.{before}
 use Rattle.words.specs.Packed.{unpackIn, unpack}
 
 abbrev pub wordsOf : List ℕ → List Word
 wordsOf column = map unpack column
 
+-- the pair that two numbers hold
+abbrev pub pairOf : ℕ → ℕ → Pair
+pairOf from to = record { from = unpack from; to = unpack to }
+
 -- the pairs of two columns, place by place
 abbrev pub table : List ℕ → List ℕ → Table
 table [] to = []
 table (f ∷ from) [] = []
-table (f ∷ from) (t ∷ to) = record { from = unpack f; to = unpack t } ∷ table from to
+table (f ∷ from) (t ∷ to) = pairOf f t ∷ table from to
 
 -- the first k pairs of two columns
 abbrev pub rows : ℕ → List ℕ → List ℕ → Table

@@ -3,7 +3,7 @@
 use Prim.Native.Nat.{ℕ, _≤_}
 use mathlib.Core.Path.{_≡_, sym, _∙_, ap, subst}
 use mathlib.Core.Bool.{true}
-use mathlib.Core.List.{List, List·Permᴰ, Permᴰ·symm, Permᴰ·map}
+use mathlib.Core.List.{List, List·Permᴰ, Permᴰ·symm}
 use mathlib.Core.Option.{some}
 use native.Mathlib.Omega.{arith}
 use lib.ListN.{length}
@@ -13,19 +13,16 @@ use Rattle.higman.specs.Normal.{keep, ordered}
 use Rattle.higman.specs.Limits.{Bases}
 use Rattle.higman.proofs.Proper.{Apart}
 use Rattle.higman.proofs.Images.{row-of-image, image-of-row}
-use Rattle.higman.proofs.Expansions.{mem-of-perm, proper-of-perm}
+use Rattle.higman.proofs.Expansions.{mem-of-perm}
 use Rattle.higman.proofs.Columns.{column-of-proper}
 use Rattle.higman.proofs.Elements.{Element, element-action}
 use Rattle.higman.proofs.Group.{keep-acts, keep-member, by-common}
 use Rattle.higman.proofs.KeptPlans.{element-of-bases}
+use Rattle.higman.proofs.Joins.{element-of-perm}
 use Rattle.columns.specs.Packed.{table}
 use Rattle.columns.specs.Sorts.{SortedPairs}
 use Rattle.tables.specs.Reduction.{Reducible}
 use Rattle.columns.proofs.Rearranged.{froms-table, ordered-keys}
-
-element-of-perm : (s : Shape) {t u : Table} → List·Permᴰ t u → Element s t → Element s u
-element-of-perm s h E =
-    record { from-proper = proper-of-perm s (Permᴰ·map (λ p. p .from) h) (E .from-proper); to-proper = proper-of-perm s (Permᴰ·map (λ p. p .to) h) (E .to-proper) }
 
 image-of-perm : (t u : Table) → List·Permᴰ t u → Apart (froms u) → (w v : Word) → image t w ≡ some v → image u w ≡ some v
 image-of-perm t u h a w v e =

@@ -2,13 +2,11 @@
 -- it: so a pass that stops at the first other word meets them all.
 use Prim.Native.Nat.{ℕ, zero, suc, _+_, _≤_, _<_}
 use mathlib.Core.Path.{_≡_, refl, sym, _∙_, ap, subst}
-use mathlib.Core.Logic.{_⊎_, inl, inr, ⊎-elim}
+use mathlib.Core.Logic.{_⊎_, ⊎-elim}
 use mathlib.Core.Bool.{true, false}
 use mathlib.Core.List.{List, [], _∷_, _++_}
 use mathlib.Core.Option.{none, some}
 use native.Mathlib.Omega.{arith}
-use lib.Dec.{ltb}
-use borrow.Author.Tests.{ltb-true, ltb-false}
 use lib.ListN.{length, drop, drop-of-length-le, length-drop}
 use lib.Seq.{getD-drop}
 use Rattle.higman.specs.Words.{Word, after, begins}
@@ -21,21 +19,10 @@ use Rattle.columns.specs.Columns.{wordAt, PartedAt}
 use Rattle.tables.specs.Spread.{beneath, spreadPair}
 use Rattle.tables.specs.Spreading.{pair, Unbegun}
 use Rattle.columns.proofs.InOrder.{InOrder, in-order-of-test, test-of-in-order, in-order-of-begins, in-order-antisym, begins-between}
+use Rattle.columns.proofs.WordOrder.{in-order-either-way}
 use Rattle.columns.proofs.Places.{sorted-at}
 use Rattle.columns.proofs.Search.{first-of-place}
 use Rattle.tables.proofs.Lookup.{table-left}
-
-in-order-total : (u v : Word) → InOrder u v ⊎ InOrder v u
-in-order-total [] v = inl tt
-in-order-total (a ∷ u) [] = inr tt
-in-order-total (a ∷ u) (b ∷ v) = go (passes (ltb a b)) (passes (ltb b a)) (in-order-total u v)
-  where
-    go : (ltb a b ≡ true) ⊎ (ltb a b ≡ false) → (ltb b a ≡ true) ⊎ (ltb b a ≡ false) → InOrder u v ⊎ InOrder v u → InOrder (a ∷ u) (b ∷ v) ⊎ InOrder (b ∷ v) (a ∷ u)
-    go (inl l) m rest = inl (inl (ltb-true a b l))
-    go (inr f) (inl l) rest = inr (inl (ltb-true b a l))
-    go (inr f) (inr g) rest =
-        let e : a ≡ b = omega (arith, ltb-false a b f, ltb-false b a g) in
-        ⊎-elim (λ h. inl (inr (e, h))) (λ h. inr (inr (sym e, h))) rest
 
 module _ (column : List ℕ) (w r : ℕ) (p : PartedAt column w r) where
   -- before the place: a word in order with w that w begins is w itself
@@ -58,7 +45,7 @@ module _ (column : List ℕ) (w r : ℕ) (p : PartedAt column w r) where
           ⊎-elim
           (λ o. o)
           (λ o. absurd (clash (test-of-in-order (wordAt column i) (unpack w) o) (p .back i l h)))
-          (in-order-total (unpack w) (wordAt column i))
+          (in-order-either-way (unpack w) (wordAt column i))
 
       between : begins (unpack w) (wordAt column k) ≡ true → begins (unpack w) (wordAt column i) ≡ true
       between t = begins-between (unpack w) (wordAt column i) (wordAt column k) later (sorted-at column s i k m j) t

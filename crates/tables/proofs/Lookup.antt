@@ -18,7 +18,7 @@ use Rattle.higman.proofs.Matches.{FirstAt, match-found, match-nowhere}
 use Rattle.words.specs.Packed.{unpack, isPacked}
 use Rattle.words.proofs.Packing.{unpack-zero}
 use Rattle.words.proofs.Packed.{packed-ways, packed-length, packed-of, packed-as}
-use Rattle.columns.specs.Packed.{table}
+use Rattle.columns.specs.Packed.{pairOf, table}
 use Rattle.columns.specs.Columns.{wordAt}
 use Rattle.tables.specs.Spreading.{packedWords, pair}
 use Rattle.columns.proofs.Rows.{table-length}
@@ -31,7 +31,7 @@ table-left from to i h k =
 
 -- the pair at a place
 pub pair-at : (from to : List ℕ) → length from ≡ length to → (k : ℕ)
-    → getD (table from to) k (pair (unpack 0) (unpack 0)) ≡ pair (wordAt from k) (wordAt to k)
+    → getD (table from to) k (pairOf 0 0) ≡ pairOf (getD from k 0) (getD to k 0)
 pair-at [] [] l k = refl
 pair-at [] (t ∷ to) l k = absurd (omega arith)
 pair-at (f ∷ from) [] l k = absurd (omega arith)
@@ -40,7 +40,7 @@ pair-at (f ∷ from) (t ∷ to) l (suc k) = pair-at from to (omega arith) k
 
 -- the image of w, by the place of the from-word that begins w
 module _ (from to : List ℕ) (l : length from ≡ length to) (w : Word) (k : ℕ) (f : FirstIn from w k) where
-  first-pair : FirstAt (λ p. p .from) (pair (unpack 0) (unpack 0)) (table from to) w k
+  first-pair : FirstAt (λ p. p .from) (pairOf 0 0) (table from to) w k
   first-pair =
       record {
         within = omega (arith, f .within, table-length from to l);

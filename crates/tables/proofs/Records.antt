@@ -12,7 +12,8 @@ use Rattle.higman.specs.Tables.{Pair, Table}
 use Rattle.higman.specs.Limits.{maxDigits}
 use Rattle.higman.specs.Listing.{pairRecord, pairRecords, joinLines, closeRecord, listing}
 use Rattle.words.proofs.Limit.{word-fits}
-use Rattle.tables.specs.Lines.{pairOf, pairLines}
+use Rattle.columns.specs.Packed.{pairOf}
+use Rattle.tables.specs.Lines.{pairLines}
 
 pub pair-size : (p : Pair) → length (pairRecord p) ≡ 4 + length (p .from) + length (p .to)
 pair-size p = simp (length-append, length-map) (omega arith)

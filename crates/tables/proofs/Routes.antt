@@ -8,7 +8,7 @@ use mathlib.Core.List.{List, [], _∷_, _++_, append-nil, append-assoc, map-appe
 use mathlib.Core.Option.{Option, none, some, Option·getD}
 use native.Mathlib.Nat.{zero-add}
 use native.Mathlib.Omega.{arith}
-use lib.Dec.{leb, lit≤}
+use lib.Dec.{leb}
 use lib.ListN.{length, take, drop, length-append, length-drop, length-map, take-append-drop, drop-of-length-le}
 use lib.Seq.{take-all, take-at, drop-at, drop-drop}
 use borrow.Author.Tests.{leb-true, leb-false}
@@ -17,17 +17,15 @@ use Rattle.higman.specs.Tables.{firstMatch, image}
 use Rattle.higman.specs.Text.{digitByte, wordBytes, digitOf, wordOf}
 use Rattle.higman.specs.Limits.{maxDigits}
 use Rattle.higman.proofs.Tests.{passes, Ways, ways-of-test}
-use Rattle.higman.proofs.Prefixes.{tail-of-begins, ways-left, ways-right}
+use Rattle.higman.proofs.Prefixes.{tail-of-begins, ways-right}
 use Rattle.higman.proofs.Matches.{match-found, match-nowhere, match-map}
-use Rattle.words.specs.Packed.{pack, unpack}
+use Rattle.words.specs.Packed.{unpack}
 use Rattle.higman.specs.Buffers.{written}
 use Rattle.higman.proofs.Buffers.{with-room, without-room, lent-written, lent-as-it-was}
 use Rattle.words.specs.Writing.{Wrote}
-use Rattle.words.proofs.Packing.{unpack-pack}
-use Rattle.higman.proofs.PlanWords.{more-ways}
 use Rattle.words.proofs.Packed.{packed-length}
 use Rattle.higman.proofs.Text.{digit-under, digit-over, digit-within}
-use Rattle.words.proofs.Codes.{digits-take, digits-drop, begins-take, after-drop}
+use Rattle.words.proofs.Codes.{digits-drop, begins-take, after-drop}
 use Rattle.columns.specs.Packed.{wordsOf, table}
 use Rattle.columns.specs.Columns.{wordAt, placeIn}
 use Rattle.tables.specs.Spreading.{packedWords, Operand}
@@ -42,13 +40,6 @@ here place = ap (λ n. (place .0, n)) (sym (zero-add (place .1)))
 
 pub code-ways : (code : List ℕ) → IsCode code → Ways 9 (wordOf code)
 code-ways code t = ways-of-test 9 (wordOf code) t
-
--- the first k digits of a code, packed, hold the first k digits of its word
-pub front-of-code : (code : List ℕ) (k : ℕ) → IsCode code → unpack (pack (wordOf (take k code))) ≡ take k (wordOf code)
-front-of-code code k t =
-    let w = wordOf code in
-    let ways = ways-left 9 (take k w) (drop k w) (subst (Ways 9) (sym (take-append-drop k w)) (code-ways code t)) in
-    ap (λ u. unpack (pack u)) (digits-take k code) ∙ unpack-pack (take k w) (more-ways (take k w) (lit≤ tt) ways)
 
 -- the word that begins the front of w is the word that begins w
 pub place-of-front : (column : List ℕ) (x : ℕ) (w : Word) (r : ℕ) → packedWords column → unpack x ≡ take maxDigits w

@@ -1,15 +1,10 @@
--- The pair and the plan that packed numbers hold, and the M records of two columns: what a listing writes.
+-- The plan that packed numbers hold, and the M records of two columns: what a listing writes.
 use Prim.Native.Nat.{ℕ}
 use mathlib.Core.List.{List}
-use Rattle.higman.specs.Tables.{Pair}
 use Rattle.higman.specs.Limits.{Plan}
 use Rattle.higman.specs.Listing.{pairRecords, joinLines}
-use Rattle.words.specs.Packed.{unpack}
 use Rattle.words.specs.Bytes.{shape}
 use Rattle.columns.specs.Packed.{table}
-
-abbrev pub pairOf : ℕ → ℕ → Pair
-pairOf from to = record { from = unpack from; to = unpack to }
 
 -- the M records of two columns
 abbrev pub pairLines : List ℕ → List ℕ → List ℕ

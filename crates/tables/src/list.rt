@@ -8,8 +8,8 @@ ghost use Rattle.higman.specs.Limits.{maxPairs};
 ghost use Rattle.higman.specs.Listing.{openRecord, pairRecord, closeRecord, listing};
 ghost use Rattle.words.specs.Bytes.{shape};
 ghost use Rattle.words.specs.Writing.{Wrote};
-ghost use Rattle.columns.specs.Packed.{table};
-ghost use Rattle.tables.specs.Lines.{pairOf, pairLines, planOf};
+ghost use Rattle.columns.specs.Packed.{pairOf, table};
+ghost use Rattle.tables.specs.Lines.{pairLines, planOf};
 use words::writing;
 
 // The bytes of the P record and the E record.

@@ -46,11 +46,11 @@ digits-drop zero code = refl
 digits-drop (suc k) [] = refl
 digits-drop (suc k) (b ∷ code) = digits-drop k code
 
--- the front of a code, packed, holds the front of its word
-pub unpack-front-of-code : (s : Shape) (code : List ℕ) (k : ℕ) → isWord s (wordOf code) ≡ true → unpack (pack (wordOf (take k code))) ≡ take k (wordOf code)
-unpack-front-of-code s code k e =
-    ap (λ w. unpack (pack w)) (digits-take k code)
-    ∙ unpack-pack (take k (wordOf code)) (more-ways (take k (wordOf code)) (lit≤ tt) (take-ways 9 k (wordOf code) (spelled-ways s code e)))
+-- the first k digits of a code, packed, hold the first k digits of its word
+pub unpack-front : (code : List ℕ) (k : ℕ) → Ways 9 (wordOf code) → unpack (pack (wordOf (take k code))) ≡ take k (wordOf code)
+unpack-front code k h =
+    let front = take k (wordOf code) in
+    ap (λ w. unpack (pack w)) (digits-take k code) ∙ unpack-pack front (more-ways front (lit≤ tt) (take-ways 9 k (wordOf code) h))
 
 -- the whole word that a code spells
 pub unpack-spelled : (s : Shape) (code : List ℕ) → isWord s (wordOf code) ≡ true → unpack (pack (wordOf code)) ≡ wordOf code

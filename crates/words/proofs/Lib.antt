@@ -13,4 +13,3 @@ pub mod PlanWords
 pub mod Bytes
 pub mod Runs
 pub mod Codes
-pub mod Lookup

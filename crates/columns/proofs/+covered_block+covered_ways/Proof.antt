@@ -11,12 +11,13 @@ use lib.ListN.{length}
 use Rattle.higman.specs.Words.{child}
 use Rattle.higman.specs.Bases.{listed, covered}
 use Rattle.words.specs.Packed.{unpack}
+use Rattle.words.proofs.Sizes.{length-child}
 use Rattle.words.proofs.child.Reads as child-reads
 use Rattle.columns.specs.Packed.{wordsOf}
 use Rattle.columns.specs.Columns.{AtBlock, Walked}
 use Rattle.columns.specs.declared.Cover.{Cover}
 use Rattle.columns.specs.declared.Cover.the-variants.{UpTo, Gap}
-use Rattle.columns.proofs.Covered.{covered-listed, covered-parts, all-done, all-stop, all-pass, child-length}
+use Rattle.columns.proofs.Covered.{covered-listed, covered-parts, all-done, all-stop, all-pass}
 use Rattle.columns.proofs.Walks.{past-listed, at-child, at-later, past-parts, walked-same, uncovered-behind, listed-here, listed-nowhere}
 use Rattle.columns.proofs.skip_before.Reads as skip-reads
 use Rattle.columns.proofs.covered_block.Reads as block
@@ -143,7 +144,7 @@ module _ (t : ℕ) where
   ways-block-requires c κs =
       let start = c .before .before .before in
       let a = start .args in
-      let longer = ap length (c .child .ensures) ∙ child-length (unpack (a .w)) (a .way) in
+      let longer = ap length (c .child .ensures) ∙ length-child (unpack (a .w)) (a .way) in
       (omega arith, (start .pre .1 .0, (start .pre .1 .1 .0, start .pre .1 .1 .1, omega (arith, longer), subst (λ v. AtBlock (a .column .now) v (a .at)) (sym (c .child .ensures)) (start .pre .1 .1 .6))))
 
   ways-next : ways-lts.Need-enum-known-next (ways-calls t) (ways-at t) ways.Post

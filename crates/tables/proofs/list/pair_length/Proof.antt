@@ -2,7 +2,7 @@
 -- A packed word has few digits, so the sums fit.
 use borrow.Author.Needs.{needs}
 use native.Mathlib.Omega.{arith}
-use Rattle.tables.specs.Lines.{pairOf}
+use Rattle.columns.specs.Packed.{pairOf}
 use Rattle.tables.proofs.Records.{pair-size}
 use Rattle.tables.proofs.list.pair_length.Statement.{statement}
 use Rattle.tables.proofs.list.pair_length.Tie as tie

@@ -3,7 +3,7 @@
 use borrow.Author.Needs.{needs}
 use native.Mathlib.Omega.{arith}
 use Rattle.words.specs.Packed.{unpack}
-use Rattle.tables.specs.Lines.{pairOf}
+use Rattle.columns.specs.Packed.{pairOf}
 use Rattle.words.proofs.Runs.{word-size, wrote-then}
 use Rattle.tables.proofs.Records.{pair-size}
 use Rattle.tables.proofs.list.pair_line.Statement.{statement}

@@ -7,7 +7,8 @@ use native.Mathlib.Omega.{arith}
 use lib.ListN.{length, getD, drop, length-append}
 use Rattle.higman.specs.Listing.{pairRecord}
 use Rattle.words.specs.Writing.{Wrote}
-use Rattle.tables.specs.Lines.{pairOf, pairLines}
+use Rattle.columns.specs.Packed.{pairOf}
+use Rattle.tables.specs.Lines.{pairLines}
 use Rattle.words.proofs.Runs.{wrote-nothing, wrote-then}
 use Rattle.tables.proofs.Records.{lines-step, lines-size, lines-none}
 use Rattle.tables.proofs.list.pair_lines.Statement.{statement}

@@ -7,7 +7,8 @@ use Rattle.higman.specs.Limits.{maxDigits}
 use Rattle.words.specs.Packed.{pack, unpack}
 use Rattle.higman.specs.Text.{wordOf}
 use Rattle.words.proofs.Limit.{limit}
-use Rattle.tables.proofs.Routes.{front-of-code}
+use Rattle.words.proofs.Codes.{unpack-front}
+use Rattle.tables.proofs.Routes.{code-ways}
 use Rattle.tables.proofs.routing.front.Statement.{statement}
 use Rattle.tables.proofs.routing.front.Tie as tie
 
@@ -26,13 +27,15 @@ returns c =
     let code = s .args .code .now in
     ap unpack (c .pack .ensures)
     ∙ ap (λ l. unpack (pack (wordOf l))) (sym (take-all maxDigits code (omega (arith, limit))))
-    ∙ front-of-code code maxDigits (s .pre)
+    ∙ unpack-front code maxDigits (code-ways code (s .pre))
 
 returns-2 : tie.Need-returns-2
 returns-2 c =
     let s = c .before .before .before .before in
     let code = s .args .code .now in
-    ap unpack (c .pack2 .ensures) ∙ ap (λ k. unpack (pack (wordOf (take k code)))) (sym limit) ∙ front-of-code code maxDigits (s .pre)
+    ap unpack (c .pack2 .ensures)
+    ∙ ap (λ k. unpack (pack (wordOf (take k code)))) (sym limit)
+    ∙ unpack-front code maxDigits (code-ways code (s .pre))
 
 pub front-spec : {M : Type 1} → statement M
 front-spec =
