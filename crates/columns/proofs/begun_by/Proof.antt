@@ -7,29 +7,11 @@ use Rattle.columns.proofs.Search.{begun-found, begun-nowhere}
 use Rattle.columns.proofs.begun_by.Statement.{statement}
 use Rattle.columns.proofs.begun_by.Tie as tie
 
-first-after-requires : tie.Need-first-after-requires
-first-after-requires c κs = search needs
-
 returns : tie.Need-returns
 returns c =
     let call = c .before in
     let start = call .before .before in
     begun-nowhere (start .args .column .now) (start .pre .0) (start .pre .1) (start .args .w) (call .first-after .result) (call .first-after .ensures) (λ h. absurd (omega arith))
-
-sub-begins : tie.Need-sub-begins
-sub-begins c = search needs
-
-mul-begins : tie.Need-mul-begins
-mul-begins c = search needs
-
-shared-slice-read-begins : tie.Need-shared-slice-read-begins
-shared-slice-read-begins c = search needs
-
-begins-requires : tie.Need-begins-requires
-begins-requires c κs = search needs
-
-sub-result : tie.Need-sub-result
-sub-result c = search needs
 
 returns-2 : tie.Need-returns-2
 returns-2 c =
@@ -49,12 +31,12 @@ pub begun-by-spec : {M : Type 1} → statement M
 begun-by-spec =
     tie.close
     (tie.spec
-    first-after-requires
+    (λ c κs. search needs)
     returns
-    sub-begins
-    mul-begins
-    shared-slice-read-begins
-    begins-requires
-    sub-result
+    (λ c. search needs)
+    (λ c. search needs)
+    (λ c. search needs)
+    (λ c κs. search needs)
+    (λ c. search needs)
     returns-2
     returns-3)

@@ -12,24 +12,6 @@ use Rattle.plans_c.proofs.verdict_of.Tie as tie
 abbrev inColumn : ℕ → ℕ → Verdict
 inColumn letter n = record { number = n; column = letter }
 
-enum-told : tie.Need-enum-told
-enum-told c = search needs
-
-enum-told-2 : tie.Need-enum-told-2
-enum-told-2 c = search needs
-
-enum-known-judgement : tie.Need-enum-known-judgement
-enum-known-judgement c = search needs
-
-reason-number-requires : tie.Need-reason-number-requires
-reason-number-requires c κs = search needs
-
-enum-known-judgement-2 : tie.Need-enum-known-judgement-2
-enum-known-judgement-2 c = search needs
-
-reason-number-requires-2 : tie.Need-reason-number-requires-2
-reason-number-requires-2 c κs = search needs
-
 returns : tie.Need-returns
 returns c = sym (ap verdictOf (c .enum-told .given .1))
 
@@ -46,12 +28,12 @@ pub verdict-of-spec : {M : Type 1} → statement M
 verdict-of-spec =
     tie.close
     (tie.spec
-    enum-told
-    enum-told-2
-    enum-known-judgement
-    reason-number-requires
-    enum-known-judgement-2
-    reason-number-requires-2
+    (λ c. search needs)
+    (λ c. search needs)
+    (λ c. search needs)
+    (λ c κs. search needs)
+    (λ c. search needs)
+    (λ c κs. search needs)
     returns
     returns-2
     returns-3

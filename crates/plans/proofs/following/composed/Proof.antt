@@ -140,27 +140,12 @@ slice-aggregate-spread-plans-4 c =
     let s = c .before .before .before .before .before .before .before .before in
     sym (length-take-le (s .args .b .pairs) (s .args .b .to) (b-to-room s))
 
-slice-aggregate-spread-plans-5 : tie.Need-slice-aggregate-spread-plans-5
-slice-aggregate-spread-plans-5 c = search needs
-
-slice-aggregate-spread-plans-6 : tie.Need-slice-aggregate-spread-plans-6
-slice-aggregate-spread-plans-6 c = search needs
-
 spread-plans-requires : tie.Need-spread-plans-requires
 spread-plans-requires c κs =
     let s = c .before .before .before .before .before .before .before .before .before .before in (
       plain (s .args .a) (s .pre .0) (a-from-room s) (a-to-room s),
       (operand (s .args .b) (s .pre .1) (b-from-room s) (b-to-room s), (omega (arith, room s), omega (arith, room s))),
     )
-
-enum-known-n : tie.Need-enum-known-n
-enum-known-n c = search needs
-
-enum-told : tie.Need-enum-told
-enum-told c = search needs
-
-refused-requires : tie.Need-refused-requires
-refused-requires c κs = search needs
 
 returns : tie.Need-returns
 returns c =
@@ -186,12 +171,6 @@ slice-aggregate-reduce-2 c =
     let k = c .before .before in
     sym (length-take-le (written k) (tos (told k)) (to-written k))
 
-slice-aggregate-reduce-3 : tie.Need-slice-aggregate-reduce-3
-slice-aggregate-reduce-3 c = search needs
-
-slice-aggregate-reduce-4 : tie.Need-slice-aggregate-reduce-4
-slice-aggregate-reduce-4 c = search needs
-
 reduce-requires : tie.Need-reduce-requires
 reduce-requires c κs =
     let k = c .before .before .before .before in
@@ -206,9 +185,6 @@ reduce-requires c κs =
       subst (Reducible (shapeOf (s .args .a))) (sym (known k .1 .pairs)) (reducible (planOf (s .args .a)) (planOf (s .args .b)) (first s) (second s) (s .pre .2)),
     )
 
-refused-requires-2 : tie.Need-refused-requires-2
-refused-requires-2 c κs = search needs
-
 returns-2 : tie.Need-returns-2
 returns-2 c =
     let r = c .before .before .before .before in
@@ -217,19 +193,10 @@ returns-2 c =
     ∙ sym (ap making (too-many (planOf (s .args .a)) (planOf (s .args .b)) (first s) (second s) (s .pre .2) (result r) (reduced r)
     (omega (arith, counted r, pair-limit, c .before .if1 .taken))))
 
-slice-aggregate-filled : tie.Need-slice-aggregate-filled
-slice-aggregate-filled c = search needs
-
-slice-aggregate-filled-2 : tie.Need-slice-aggregate-filled-2
-slice-aggregate-filled-2 c = search needs
-
 filled-requires : tie.Need-filled-requires
 filled-requires c κs =
     let r = c .before .before .before .before .before in
     (omega (arith, pair-limit, c .before .before .if1 .left), out-room r .0, out-room r .1)
-
-granted-requires : tie.Need-granted-requires
-granted-requires c κs = search needs
 
 returns-3 : tie.Need-returns-3
 returns-3 c =
@@ -256,24 +223,24 @@ composed-spec =
     slice-aggregate-spread-plans-3
     array-share-prefix-b-to
     slice-aggregate-spread-plans-4
-    slice-aggregate-spread-plans-5
-    slice-aggregate-spread-plans-6
+    (λ c. search needs)
+    (λ c. search needs)
     spread-plans-requires
-    enum-known-n
-    enum-told
-    refused-requires
+    (λ c. search needs)
+    (λ c. search needs)
+    (λ c κs. search needs)
     returns
     array-share-prefix-froms
     slice-aggregate-reduce
     array-share-prefix-tos
     slice-aggregate-reduce-2
-    slice-aggregate-reduce-3
-    slice-aggregate-reduce-4
+    (λ c. search needs)
+    (λ c. search needs)
     reduce-requires
-    refused-requires-2
+    (λ c κs. search needs)
     returns-2
-    slice-aggregate-filled
-    slice-aggregate-filled-2
+    (λ c. search needs)
+    (λ c. search needs)
     filled-requires
-    granted-requires
+    (λ c κs. search needs)
     returns-3)

@@ -17,12 +17,6 @@ use Rattle.plans.proofs.following.identity.Tie as tie
 few : (s : tie.Start) → s .args .roots ≤ 9
 few s = in-range (shape (s .args .arity) (s .args .roots)) (s .pre) .roots-high
 
-slice-aggregate-filled : tie.Need-slice-aggregate-filled
-slice-aggregate-filled c = search needs
-
-slice-aggregate-filled-2 : tie.Need-slice-aggregate-filled-2
-slice-aggregate-filled-2 c = search needs
-
 filled-requires : tie.Need-filled-requires
 filled-requires c κs =
     let h = few (c .before .before) in
@@ -39,4 +33,4 @@ returns c =
 
 pub identity-spec : {M : Type 1} → statement M
 identity-spec =
-    tie.close (tie.spec slice-aggregate-filled slice-aggregate-filled-2 filled-requires returns)
+    tie.close (tie.spec (λ c. search needs) (λ c. search needs) filled-requires returns)

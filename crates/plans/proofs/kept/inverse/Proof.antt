@@ -6,12 +6,6 @@ use Rattle.plans.proofs.Accepted.{plan-few, plan-in-range, exchanged-ba
 use Rattle.plans.proofs.kept.inverse.Statement.{statement}
 use Rattle.plans.proofs.kept.inverse.Tie as tie
 
-is-plan-requires : tie.Need-is-plan-requires
-is-plan-requires c κs = search needs
-
-refused-requires : tie.Need-refused-requires
-refused-requires c κs = search needs
-
 returns : tie.Need-returns
 returns c =
     let i = c .before .before in
@@ -24,9 +18,6 @@ kept-requires c κs =
     let e = sym (i .is-plan .ensures) ∙ not-false (i .is-plan .result) (c .before .before .if1 .left) in
     (plan-few a e, plan-in-range a e, exchanged-bases a e)
 
-granted-requires : tie.Need-granted-requires
-granted-requires c κs = search needs
-
 returns-2 : tie.Need-returns-2
 returns-2 c =
     let k = c .before in
@@ -35,4 +26,4 @@ returns-2 c =
     c .granted .ensures ∙ inverting-plan a (sym (i .is-plan .ensures) ∙ not-false (i .is-plan .result) (k .before .before .before .if1 .left)) (k .kept .result) (k .kept .ensures)
 
 pub inverse-spec : {M : Type 1} → statement M
-inverse-spec = tie.close (tie.spec is-plan-requires refused-requires returns kept-requires granted-requires returns-2)
+inverse-spec = tie.close (tie.spec (λ c κs. search needs) (λ c κs. search needs) returns kept-requires (λ c κs. search needs) returns-2)

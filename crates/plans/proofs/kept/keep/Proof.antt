@@ -6,21 +6,12 @@ use Rattle.plans.proofs.Accepted.{not-accepted, approved, keeping-of, n
 use Rattle.plans.proofs.kept.keep.Statement.{statement}
 use Rattle.plans.proofs.kept.keep.Tie as tie
 
-verdict-requires : tie.Need-verdict-requires
-verdict-requires c κs = search needs
-
-enum-told : tie.Need-enum-told
-enum-told c = search needs
-
 kept-requires : tie.Need-kept-requires
 kept-requires c κs =
     let v = c .before .before .before .before in
     let p = v .before .args .draft in
     let a = approved p (sym (v .verdict .ensures) ∙ c .before .before .enum-told .given .1) in
     (a .few, a .in-range, a .bases)
-
-blank-requires : tie.Need-blank-requires
-blank-requires c κs = search needs
 
 returns : tie.Need-returns
 returns c =
@@ -37,4 +28,4 @@ returns-2 c =
     (c .blank .ensures ∙ none-kept p (v .verdict .result) (not-accepted (v .verdict .result) (c .before .match .keys2)))
 
 pub keep-spec : {M : Type 1} → statement M
-keep-spec = tie.close (tie.spec verdict-requires enum-told kept-requires blank-requires returns returns-2)
+keep-spec = tie.close (tie.spec (λ c κs. search needs) (λ c. search needs) kept-requires (λ c κs. search needs) returns returns-2)

@@ -33,12 +33,6 @@ array-borrow-prefix-values c = omega (arith, pair-limit)
 slice-aggregate-keep-into-2 : tie.Need-slice-aggregate-keep-into-2
 slice-aggregate-keep-into-2 c = let z = c .before .before in sym (length-take-le (z .args .n) (z .args .to) (to-inside z))
 
-slice-aggregate-keep-into-3 : tie.Need-slice-aggregate-keep-into-3
-slice-aggregate-keep-into-3 c = search needs
-
-slice-aggregate-keep-into-4 : tie.Need-slice-aggregate-keep-into-4
-slice-aggregate-keep-into-4 c = search needs
-
 keep-into-requires : tie.Need-keep-into-requires
 unfolding maxPairs
 keep-into-requires c κs =
@@ -62,7 +56,7 @@ kept-spec =
     slice-aggregate-keep-into
     array-borrow-prefix-values
     slice-aggregate-keep-into-2
-    slice-aggregate-keep-into-3
-    slice-aggregate-keep-into-4
+    (λ c. search needs)
+    (λ c. search needs)
     keep-into-requires
     returns)

@@ -41,17 +41,11 @@ counted : (c : tie.After-listing-length) →
     c .listing-length .result ≡ length (listing (a .slot) (planOf (a .p)))
 counted c = let a = called (asked c) .args in c .listing-length .ensures (a .slot) (shapeOf (a .p))
 
-is-plan-requires : tie.Need-is-plan-requires
-is-plan-requires c κs = search needs
-
 returns : tie.Need-returns
 returns c =
     let i = c .before in
     let a = i .before .before .args in
     listing-no-plan (a .p) (a .slot) (a .out .now) (sym (i .is-plan .ensures) ∙ not-true (i .is-plan .result) (c .if1 .taken))
-
-is-slot-requires : tie.Need-is-slot-requires
-is-slot-requires c κs = search needs
 
 returns-2 : tie.Need-returns-2
 returns-2 c =
@@ -118,9 +112,6 @@ list-into-requires c κs =
     let range = in-range (shapeOf p) (kept p h .in-range) in
     (range .arity-high, range .roots-high, plain p h (from-room e) (to-room e) .long, omega (arith, counted n))
 
-same-length : tie.Need-same-length
-same-length c = search needs
-
 returns-4 : tie.Need-returns-4
 returns-4 c =
     let l = c .before .before in
@@ -134,9 +125,9 @@ pub list-spec : {M : Type 1} → statement M
 list-spec =
     tie.close
     (tie.spec
-    is-plan-requires
+    (λ c κs. search needs)
     returns
-    is-slot-requires
+    (λ c κs. search needs)
     returns-2
     array-share-prefix-from
     slice-aggregate-listing-length
@@ -149,5 +140,5 @@ list-spec =
     array-share-prefix-to-2
     slice-aggregate-list-into-2
     list-into-requires
-    same-length
+    (λ c. search needs)
     returns-4)

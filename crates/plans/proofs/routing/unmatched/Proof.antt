@@ -32,17 +32,11 @@ from-room c = let s = called c in K.from-room (s .args .p) (plan (c .before .bef
 to-room : (c : tie.Else2) → called c .args .p .pairs ≤ length (called c .args .p .to)
 to-room c = let s = called c in K.to-room (s .args .p) (plan (c .before .before)) _ (s .good .0)
 
-is-plan-requires : tie.Need-is-plan-requires
-is-plan-requires c κs = search needs
-
 returns : tie.Need-returns
 returns c =
     let i = c .before in
     let a = i .before .before .args in
     whole-code (a .p) (a .code .now) (a .code .ptr) (matched-no-plan (a .p) (a .code .now) (sym (i .is-plan .ensures) ∙ not-true (i .is-plan .result) (c .if1 .taken)))
-
-is-code-requires : tie.Need-is-code-requires
-is-code-requires c κs = search needs
 
 returns-2 : tie.Need-returns-2
 returns-2 c =
@@ -78,9 +72,9 @@ pub unmatched-spec : {M : Type 1} → statement M
 unmatched-spec =
     tie.close
     (tie.spec
-    is-plan-requires
+    (λ c κs. search needs)
     returns
-    is-code-requires
+    (λ c κs. search needs)
     returns-2
     array-share-prefix-from
     slice-aggregate-unmatched

@@ -27,9 +27,6 @@ close-line-requires c κs =
     let size = listing-size (a .slot) (shape (a .arity) (a .roots)) (table (a .from .now) (a .to .now)) in
     omega arith
 
-same-length : tie.Need-same-length
-same-length c = search needs
-
 returns : tie.Need-returns
 returns c =
     let close = c .before .before in
@@ -43,4 +40,4 @@ returns c =
     (wrote-then (omega arith) (pairs .pair-lines .ensures) (close .close-line .ensures))
 
 pub list-into-spec : {M : Type 1} → statement M
-list-into-spec = tie.close (tie.spec open-line-requires pair-lines-requires close-line-requires same-length returns)
+list-into-spec = tie.close (tie.spec open-line-requires pair-lines-requires close-line-requires (λ c. search needs) returns)

@@ -15,30 +15,6 @@ use Rattle.tables.proofs.list.open_line.Tie as tie
 field-of : {b d : ℕ} {l l′ : List ℕ} {at e : ℕ} → b ≡ d → Wrote (tab ∷ b ∷ []) l at l′ e → Wrote (tab ∷ d ∷ []) l at l′ e
 field-of {l = l} {l′ = l′} {at = at} {e = e} q w = subst (λ x. Wrote (tab ∷ x ∷ []) l at l′ e) q w
 
-byte-requires : tie.Need-byte-requires
-byte-requires c κs = search needs
-
-byte-requires-2 : tie.Need-byte-requires-2
-byte-requires-2 c κs = search needs
-
-put-requires : tie.Need-put-requires
-put-requires c κs = search needs
-
-put-field-requires : tie.Need-put-field-requires
-put-field-requires c κs = search needs
-
-put-field-requires-2 : tie.Need-put-field-requires-2
-put-field-requires-2 c κs = search needs
-
-put-field-requires-3 : tie.Need-put-field-requires-3
-put-field-requires-3 c κs = search needs
-
-put-requires-2 : tie.Need-put-requires-2
-put-requires-2 c κs = search needs
-
-same-length : tie.Need-same-length
-same-length c = search needs
-
 returns : tie.Need-returns
 returns c =
     let end = c .before .before in
@@ -62,12 +38,12 @@ pub open-line-spec : {M : Type 1} → statement M
 open-line-spec =
     tie.close
     (tie.spec
-    byte-requires
-    byte-requires-2
-    put-requires
-    put-field-requires
-    put-field-requires-2
-    put-field-requires-3
-    put-requires-2
-    same-length
+    (λ c κs. search needs)
+    (λ c κs. search needs)
+    (λ c κs. search needs)
+    (λ c κs. search needs)
+    (λ c κs. search needs)
+    (λ c κs. search needs)
+    (λ c κs. search needs)
+    (λ c. search needs)
     returns)

@@ -9,9 +9,6 @@ use Rattle.tables.proofs.Records.{pair-size}
 use Rattle.tables.proofs.list.pair_line.Statement.{statement}
 use Rattle.tables.proofs.list.pair_line.Tie as tie
 
-put-requires : tie.Need-put-requires
-put-requires c κs = search needs
-
 put-word-requires : tie.Need-put-word-requires
 put-word-requires c κs = let a = c .before .before .before .before .before .before .args in omega (arith, pair-size (pairOf (a .from) (a .to)))
 
@@ -24,9 +21,6 @@ put-requires-2 : tie.Need-put-requires-2
 put-requires-2 c κs =
     let a = c .before .before .before .before .before .before .before .before .before .before .before .before .before .before .args in
     omega (arith, pair-size (pairOf (a .from) (a .to)), word-size (unpack (a .from)), word-size (unpack (a .to)))
-
-same-length : tie.Need-same-length
-same-length c = search needs
 
 returns : tie.Need-returns
 returns c =
@@ -46,9 +40,9 @@ pub pair-line-spec : {M : Type 1} → statement M
 pair-line-spec =
     tie.close
     (tie.spec
-    put-requires
+    (λ c κs. search needs)
     put-word-requires
     put-word-requires-2
     put-requires-2
-    same-length
+    (λ c. search needs)
     returns)

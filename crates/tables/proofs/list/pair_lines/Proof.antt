@@ -30,18 +30,6 @@ abbrev μ-loop : tie.MeasureT-loop
 loop-holds : tie.Need-loop-holds Inv-loop μ-loop
 loop-holds c = record { done = []; lines = refl; wrote = wrote-nothing _ _; within = omega arith; long = refl }
 
-mul-pair-line : tie.Need-mul-pair-line Inv-loop μ-loop
-mul-pair-line c = omega arith
-
-shared-slice-read-pair-line : tie.Need-shared-slice-read-pair-line Inv-loop μ-loop
-shared-slice-read-pair-line c = omega arith
-
-mul-pair-line-2 : tie.Need-mul-pair-line-2 Inv-loop μ-loop
-mul-pair-line-2 c = omega arith
-
-shared-slice-read-pair-line-2 : tie.Need-shared-slice-read-pair-line-2 Inv-loop μ-loop
-shared-slice-read-pair-line-2 c = omega arith
-
 pair-line-requires : tie.Need-pair-line-requires Inv-loop μ-loop
 pair-line-requires c κs =
     let l = c .before .before .before .before in
@@ -54,12 +42,6 @@ pair-line-requires c κs =
     let whole = ap length (v .lines) ∙ length-append (v .done) (pairLines (drop i from) (drop i to)) in
     let placed = v .wrote .place in
     omega arith
-
-add-i : tie.Need-add-i Inv-loop μ-loop
-add-i c = omega arith
-
-loop-less : tie.Need-loop-less Inv-loop μ-loop
-loop-less c = omega arith
 
 loop-again : tie.Need-loop-again Inv-loop μ-loop
 loop-again c =
@@ -98,13 +80,13 @@ pair-lines-spec =
     Inv-loop
     μ-loop
     loop-holds
-    mul-pair-line
-    shared-slice-read-pair-line
-    mul-pair-line-2
-    shared-slice-read-pair-line-2
+    (λ c. omega arith)
+    (λ c. omega arith)
+    (λ c. omega arith)
+    (λ c. omega arith)
     pair-line-requires
-    add-i
-    loop-less
+    (λ c. omega arith)
+    (λ c. omega arith)
     loop-again
     same-length
     returns)

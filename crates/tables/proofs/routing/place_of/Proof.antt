@@ -5,12 +5,6 @@ use Rattle.tables.proofs.Routes.{place-of-front}
 use Rattle.tables.proofs.routing.place_of.Statement.{statement}
 use Rattle.tables.proofs.routing.place_of.Tie as tie
 
-front-requires : tie.Need-front-requires
-front-requires c κs = search needs
-
-begun-by-requires : tie.Need-begun-by-requires
-begun-by-requires c κs = search needs
-
 returns : tie.Need-returns
 returns c =
     let f = c .before in
@@ -20,4 +14,4 @@ returns c =
     (c .begun-by .ensures)
 
 pub place-of-spec : {M : Type 1} → statement M
-place-of-spec = tie.close (tie.spec front-requires begun-by-requires returns)
+place-of-spec = tie.close (tie.spec (λ c κs. search needs) (λ c κs. search needs) returns)

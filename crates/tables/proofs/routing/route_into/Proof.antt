@@ -77,9 +77,6 @@ behind-head c =
     let head = wordAt (p .before .before .before .before .before .args .to .now) (p .place-of .result) in
     omega (arith, c .write .ensures .place, word-size head)
 
-place-of-requires : tie.Need-place-of-requires
-place-of-requires c κs = search needs
-
 returns : tie.Need-returns
 returns c =
     let p = c .before in
@@ -89,29 +86,11 @@ returns c =
     route-too-short (a .out .now)
     (image-nowhere (a .from .now) (a .to .now) (s .pre .0 .plain .long) (wordOf (a .code .now)) (p .place-of .result) (first p) end)
 
-mul-behind : tie.Need-mul-behind
-mul-behind c = search needs
-
-shared-slice-read-behind : tie.Need-shared-slice-read-behind
-shared-slice-read-behind c = search needs
-
 behind-requires : tie.Need-behind-requires
 behind-requires c κs =
     let e = c .before in
     let a = e .before .before .before .before .before .before .args in
     begins-within (wordAt (a .from .now) (e .before .place-of .result)) (a .code .now) (first (e .before) .found (e .if1 .left))
-
-mul-length : tie.Need-mul-length
-mul-length c = search needs
-
-shared-slice-read-length : tie.Need-shared-slice-read-length
-shared-slice-read-length c = search needs
-
-length-requires : tie.Need-length-requires
-length-requires c κs = search needs
-
-cast-head : tie.Need-cast-head
-cast-head c = search needs
 
 returns-2 : tie.Need-returns-2
 returns-2 c =
@@ -120,9 +99,6 @@ returns-2 c =
     let a = e .before .before .before .before .before .before .args in
     route-no-room (a .out .now) (routed e) (image-is e) (omega (arith, long e))
 
-sub-if3 : tie.Need-sub-if3
-sub-if3 c = search needs
-
 returns-3 : tie.Need-returns-3
 returns-3 c =
     let l = c .before .before in
@@ -130,32 +106,17 @@ returns-3 c =
     let a = e .before .before .before .before .before .before .args in
     route-no-room (a .out .now) (routed e) (image-is e) (omega (arith, long e, ap length (l .before .before .behind .ensures .0)))
 
-mul-write : tie.Need-mul-write
-mul-write c = search needs
-
-shared-slice-read-write : tie.Need-shared-slice-read-write
-shared-slice-read-write c = search needs
-
-write-requires : tie.Need-write-requires
-write-requires c κs = search needs
-
 sub-copy : tie.Need-sub-copy
 sub-copy c = omega (arith, behind-head (c .before .before))
 
 part-copy-start : tie.Need-part-copy-start
 part-copy-start c = omega (arith, behind-head (c .before .before))
 
-part-copy-end : tie.Need-part-copy-end
-part-copy-end c = search needs
-
 copy-requires : tie.Need-copy-requires
 copy-requires c κs = omega (arith, behind-head (c .before .before .before))
 
 add-t16 : tie.Need-add-t16
 add-t16 c = omega (arith, behind-head (c .before .before .before .before .before .before))
-
-same-length : tie.Need-same-length
-same-length c = search needs
 
 returns-4 : tie.Need-returns-4
 returns-4 c =
@@ -183,25 +144,25 @@ pub route-into-spec : {M : Type 1} → statement M
 route-into-spec =
     tie.close
     (tie.spec
-    place-of-requires
+    (λ c κs. search needs)
     returns
-    mul-behind
-    shared-slice-read-behind
+    (λ c. search needs)
+    (λ c. search needs)
     behind-requires
-    mul-length
-    shared-slice-read-length
-    length-requires
-    cast-head
+    (λ c. search needs)
+    (λ c. search needs)
+    (λ c κs. search needs)
+    (λ c. search needs)
     returns-2
-    sub-if3
+    (λ c. search needs)
     returns-3
-    mul-write
-    shared-slice-read-write
-    write-requires
+    (λ c. search needs)
+    (λ c. search needs)
+    (λ c κs. search needs)
     sub-copy
     part-copy-start
-    part-copy-end
+    (λ c. search needs)
     copy-requires
     add-t16
-    same-length
+    (λ c. search needs)
     returns-4)

@@ -19,15 +19,6 @@ first c =
     let a = c .before .before .before .args in
     first-of-place (a .from .now) (wordOf (a .code .now)) (c .place-of .result) (c .place-of .ensures)
 
-place-of-requires : tie.Need-place-of-requires
-place-of-requires c κs = search needs
-
-mul-behind : tie.Need-mul-behind
-mul-behind c = search needs
-
-shared-slice-read-behind : tie.Need-shared-slice-read-behind
-shared-slice-read-behind c = search needs
-
 behind-requires : tie.Need-behind-requires
 behind-requires c κs =
     let p = c .before .before in
@@ -54,9 +45,9 @@ pub unmatched-spec : {M : Type 1} → statement M
 unmatched-spec =
     tie.close
     (tie.spec
-    place-of-requires
-    mul-behind
-    shared-slice-read-behind
+    (λ c κs. search needs)
+    (λ c. search needs)
+    (λ c. search needs)
     behind-requires
     returns
     returns-2)

@@ -56,21 +56,6 @@ parts c =
     spread-parts (table (a .from .now) (a .to .now)) (unpack (a .u)) (unpack (a .v))
     (image-nowhere (a .from .now) (a .to .now) (s .pre .1 .0 .plain .long) (unpack (a .v)) (b .begun-by .result) (first b) (behind c))
 
-begun-by-requires : tie.Need-begun-by-requires
-begun-by-requires c κs = search needs
-
-mul-image : tie.Need-mul-image
-mul-image c = omega arith
-
-shared-slice-read-image : tie.Need-shared-slice-read-image
-shared-slice-read-image c = omega arith
-
-mul-tail : tie.Need-mul-tail
-mul-tail c = omega arith
-
-shared-slice-read-tail : tie.Need-shared-slice-read-tail
-shared-slice-read-tail c = omega arith
-
 tail-requires : tie.Need-tail-requires
 tail-requires c κs =
     let b = c .before .before .before in
@@ -143,11 +128,11 @@ pub spread-pair-spec : {M : Type 1} → statement M
 spread-pair-spec =
     tie.close
     (tie.spec
-    begun-by-requires
-    mul-image
-    shared-slice-read-image
-    mul-tail
-    shared-slice-read-tail
+    (λ c κs. search needs)
+    (λ c. omega arith)
+    (λ c. omega arith)
+    (λ c. omega arith)
+    (λ c. omega arith)
     tail-requires
     put-requires
     spread-beneath-requires

@@ -6,19 +6,10 @@ use Rattle.words.proofs.Runs.{wrote-then}
 use Rattle.words.proofs.writing.put_field.Statement.{statement}
 use Rattle.words.proofs.writing.put_field.Tie as tie
 
-put-requires : tie.Need-put-requires
-put-requires c κs = search needs
-
-put-requires-2 : tie.Need-put-requires-2
-put-requires-2 c κs = search needs
-
-same-length : tie.Need-same-length
-same-length c = search needs
-
 returns : tie.Need-returns
 returns c =
     let p = c .before .before in
     wrote-then (omega arith) (p .before .before .before .before .put .ensures) (p .put2 .ensures)
 
 pub put-field-spec : {M : Type 1} → statement M
-put-field-spec = tie.close (tie.spec put-requires put-requires-2 same-length returns)
+put-field-spec = tie.close (tie.spec (λ c κs. search needs) (λ c κs. search needs) (λ c. search needs) returns)

@@ -5,19 +5,10 @@ use Rattle.words.proofs.Runs.{wrote-then}
 use Rattle.words.proofs.writing.put_word.Statement.{statement}
 use Rattle.words.proofs.writing.put_word.Tie as tie
 
-put-requires : tie.Need-put-requires
-put-requires c κs = search needs
-
-write-requires : tie.Need-write-requires
-write-requires c κs = search needs
-
-same-length : tie.Need-same-length
-same-length c = search needs
-
 returns : tie.Need-returns
 returns c =
     let p = c .before .before in
     wrote-then (omega arith) (p .before .before .before .before .put .ensures) (p .write .ensures)
 
 pub put-word-spec : {M : Type 1} → statement M
-put-word-spec = tie.close (tie.spec put-requires write-requires same-length returns)
+put-word-spec = tie.close (tie.spec (λ c κs. search needs) (λ c κs. search needs) (λ c. search needs) returns)
