@@ -20,12 +20,12 @@ use Rattle.words.specs.Packed.{pack}
 use Rattle.words.proofs.Packing.{pack-unpack, unpack-pack}
 use Rattle.higman.proofs.PlanWords.{ways-of-word}
 use Rattle.plans.specs.declared.Plan.{Plan}
-use Rattle.columns.specs.Packed.{wordsOf, table, rows}
+use Rattle.columns.specs.Packed.{pairOf, wordsOf, table, rows}
 use Rattle.plans.specs.Plans.{rowsOf, zeros, inTable, column, packed}
 use Rattle.plans.specs.Theorems.{pairAt}
 use Rattle.plans.specs.Keeping.{KeptColumns}
 use Rattle.columns.proofs.Rearranged.{froms-table, tos-table}
-use Rattle.columns.proofs.Rows.{pairOf, rows-length}
+use Rattle.columns.proofs.Rows.{rows-length}
 
 -- the pairs of two columns by their places
 count-shifted : {A : Type 0} (g : ℕ → A) (a m : ℕ) → map g (count (suc a) m) ≡ map (λ i. g (suc i)) (count a m)
