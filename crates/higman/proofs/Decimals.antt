@@ -73,6 +73,11 @@ decimal-behind q d p h =
     ap wordBytes (spelled-behind k q d p h ∙ ap (λ w. w ++ (d ∷ [])) (spelled-enough q k (omega arith)))
     ∙ map-append digitByte (spelled (suc q) q) (d ∷ [])
 
+pub decimal-split : (k : ℕ) → 10 ≤ k → decimal k ≡ decimal (k / 10) ++ (digitByte (k % 10) ∷ [])
+decimal-split k h =
+    let whole : k ≡ k / 10 * 10 + k % 10 = omega arith in
+    ap decimal whole ∙ decimal-behind (k / 10) (k % 10) (omega arith) (omega arith)
+
 -- digits as bytes
 numeral-of-digit : (d : ℕ) → d < 10 → T (isNumeral (digitByte d))
 numeral-of-digit d h =

@@ -3,7 +3,7 @@
 ghost use mathlib.Core.List.{[], _∷_};
 ghost use Prim.Native.Nat.{_+_, _≤_, _<_};
 ghost use lib.ListN.{length};
-ghost use Rattle.higman.specs.Text.{tab, wordBytes};
+ghost use Rattle.higman.specs.Text.{tab, wordBytes, decimal};
 ghost use Rattle.words.specs.Packed.{unpack};
 ghost use Rattle.words.specs.Writing.{Wrote};
 
@@ -39,6 +39,18 @@ pub fn write(w: u64, out: &mut [u8], at: usize) -> usize
         front = front / 16;
     }
     end
+}
+
+// A number in decimal: its last digit behind the digits before it.
+pub fn put_number(k: u32, out: &mut [u8], at: usize) -> usize
+    requires { ⌜ at + length (decimal k) ≤ length (now out) ⌝ }
+    ensures { λ r. ⌜ Wrote (decimal k) (now (out .entry)) at (now (out .exit)) r ⌝ }
+{
+    if k < 10 {
+        return put(b'0' + k as u8, out, at);
+    }
+    let last_at = put_number(k / 10, out, at);
+    put(b'0' + (k % 10) as u8, out, last_at)
 }
 
 // A tab and a word.
