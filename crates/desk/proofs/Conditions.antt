@@ -21,7 +21,8 @@ use Rattle.higman.specs.Limits.{Plan, Kept, shapeInRange, granted, isCode, maxP
 use Rattle.higman.specs.Answers.{Reason, Overlap, Gap, Verdict, Accepted, InFrom, InTo, verdict, Answer, Granted, Refused, ShapesDiffer}
 use Rattle.higman.specs.Answers.{LimitBroken, BadCode, Comparison, Alike, NotCompared, Route, Image, TooShort, NotRouted, sameShape}
 use Rattle.higman.specs.Answers.{raised, repeatable, followed, inverted, powered, same, routed}
-use Rattle.higman.specs.Refusals.{wrongState, badWord, wordsOverlap, rootUncovered, slotEmpty, shapesDiffer, limitBroken, codeTooShort}
+use Rattle.higman.specs.Refusals.{shapeOutside, pairsFull, powerOutside, countFull, slotOutside, wrongState, badWord, wordsOverlap}
+use Rattle.higman.specs.Refusals.{rootUncovered, slotEmpty, shapesDiffer, limitBroken, codeTooShort}
 use Rattle.higman.specs.Refusals.{Letter}
 use Rattle.higman.proofs.Tests.{T-of, clash, or-cases, or-true-left, or-true-right, count-bounds, count-mem}
 use Rattle.higman.proofs.Prefixes.{after-append, after-some}
@@ -32,7 +33,7 @@ use Rattle.higman.specs.Listing.{slotNumber}
 use Rattle.higman.specs.Text.{wordOf}
 use Rattle.desk.specs.Replies.{Outcome, refuse, pass, _>>=_, isOpen, openAmiss, outside, atLimit, openPlan, planIn, ofVerdict}
 use Rattle.desk.specs.Replies.{ofAnswer, ofComparison, ofRoute, job, operation, _when_}
-use Rattle.desk.specs.Conditions.{Condition, inColumn, isEmpty, ofPlan, ofBoth, ownConditions, conditions, firstOf, refusalOf, _if_}
+use Rattle.desk.specs.Conditions.{Condition, inColumn, isEmpty, ofPlan, ofOpen, ofBoth, conditions, firstOf, refusalOf, _if_}
 
 -- an outcome is refused as the first condition that holds says
 record Says {A : Type 0} (o : Outcome A) (cs : List Condition) : Type 0 where
@@ -297,6 +298,42 @@ same-says : {A : Type 0} (d : Desk) (a b : ℕ) (p q : Plan) → held d (slotNum
 unfolding differ
 same-says d a b p q e e′ {f = g} h = subst (λ x. Says (ofComparison (same p q) >>= g) ((shapesDiffer if x) ∷ [])) (sym (of-both d a b p q e e′ differ)) (same-then p q h)
 
+-- The conditions of a record's own, between 8 and 16.
+ownConditions : Desk → Record → List Condition
+ownConditions d (P a n r) = (shapeOutside if not (shapeInRange (record { arity = n; roots = r }))) ∷ []
+ownConditions d (M from to) =
+    (badWord if ofOpen d (λ o. not (isPlanWord (o .shape) (wordOf from) && isPlanWord (o .shape) (wordOf to)))) ∷
+    (pairsFull if ofOpen d (λ o. leb maxPairs (length (o .rows)))) ∷
+    []
+ownConditions d E =
+    inColumn wordsOverlap Letter.F (ofOpen d (λ o. overlap (froms (o .rows)))) ∷
+    inColumn rootUncovered Letter.F (ofOpen d (λ o. gap (o .shape) (froms (o .rows)))) ∷
+    inColumn wordsOverlap Letter.T (ofOpen d (λ o. overlap (tos (o .rows)))) ∷
+    inColumn rootUncovered Letter.T (ofOpen d (λ o. gap (o .shape) (tos (o .rows)))) ∷
+    []
+ownConditions d (F a b c) =
+    (slotEmpty if isEmpty d a || isEmpty d b) ∷
+    (shapesDiffer if ofBoth d a b (λ p q. not (sameShape (p .shape) (q .shape)))) ∷
+    (limitBroken if ofBoth d a b (λ p q. not (granted (compose (p .shape) (p .rows) (q .rows))))) ∷
+    []
+ownConditions d (I a c) = (slotEmpty if isEmpty d a) ∷ []
+ownConditions d (K a k c) =
+    (powerOutside if not (leb (natAbs k) maxPower)) ∷
+    (slotEmpty if isEmpty d a) ∷
+    (limitBroken if ofPlan d a (λ p. anyOf (λ j. not (granted (power (p .shape) (p .rows) (pos j)))) (count 1 (natAbs k)))) ∷
+    []
+ownConditions d (S a b) =
+    (slotEmpty if isEmpty d a || isEmpty d b) ∷ (shapesDiffer if ofBoth d a b (λ p q. not (sameShape (p .shape) (q .shape)))) ∷ []
+ownConditions d (W a code) =
+    (slotEmpty if isEmpty d a) ∷
+    (badWord if ofPlan d a (λ p. not (isCode (p .shape) (wordOf code)))) ∷
+    (codeTooShort if ofPlan d a (λ p. anyOf (beginsProperly (wordOf code)) (froms (p .rows)))) ∷
+    []
+ownConditions d (L a) = (slotEmpty if isEmpty d a) ∷ []
+ownConditions d (C a) = (slotEmpty if isEmpty d a) ∷ []
+ownConditions d Tᴿ = []
+ownConditions d U = []
+
 own-says : (d : Desk) → IsDesk d → (r : Record) → openAmiss d r ≡ false → Says (job d r) (ownConditions d r)
 unfolding job ownConditions needsOpen
 own-says d D (P a n r) o = when-then (not (shapeInRange (record { arity = n; roots = r }))) (λ _ _. done)
@@ -317,11 +354,34 @@ own-says d D (C a) o = plan-then d a (λ p e. done)
 own-says d D Tᴿ o = done
 own-says d D U o = done
 
-operation-says : (d : Desk) → IsDesk d → (r : Record) → Says (operation d r) (conditions d r)
-unfolding operation conditions
-operation-says d D r =
+-- the order of all operations
+abbrev shared : Desk → Record → List Condition
+shared d r =
+    (wrongState if openAmiss d r) ∷
+    (slotOutside if outside (slotsNamed r)) ∷
+    (ownConditions d r ++ (countFull if isChange r && atLimit d) ∷ [])
+
+shared-says : (d : Desk) → IsDesk d → (r : Record) → Says (operation d r) (shared d r)
+unfolding operation
+shared-says d D r =
     when-then (openAmiss d r) (λ _ o. when-then (outside (slotsNamed r)) (λ _ _. says-then (job d r) (own-says d D r o)
     (λ e. when-then (isChange r && atLimit d) (λ _ _. done))))
 
+-- it gives the paper's table, record by record, but for a 16 that never holds
+shared-table : (d : Desk) (r : Record) → firstOf (shared d r) ≡ firstOf (conditions d r)
+unfolding conditions ownConditions needsOpen slotsNamed isChange
+shared-table d (P a n r) = refl
+shared-table d (M from to) = refl
+shared-table d E = refl
+shared-table d (F a b c) = refl
+shared-table d (I a c) = refl
+shared-table d (K a k c) = refl
+shared-table d (S a b) = refl
+shared-table d (W a code) = refl
+shared-table d (L a) = refl
+shared-table d (C a) = refl
+shared-table d Tᴿ = refl
+shared-table d U = refl
+
 pub first-condition : (d : Desk) → IsDesk d → (r : Record) → refusalOf (operation d r) ≡ firstOf (conditions d r)
-first-condition d D r = operation-says d D r .says
+first-condition d D r = shared-says d D r .says ∙ shared-table d r

@@ -36,6 +36,8 @@ use Rattle.desk.proofs.Outcomes.{refusal-drops}
 use Rattle.desk.proofs.Stays.{desk-stays}
 use Rattle.desk.proofs.Desks.{desk-test}
 use Rattle.desk.proofs.Calls.{calls-exact}
+use Rattle.desk.specs.Grammar.{NoRecord}
+use Rattle.desk.proofs.Lines.{Read, read-or-not, not-read, line-of-record}
 use Rattle.desk.proofs.Conditions.{first-condition}
 
 -- a number of the list
@@ -237,13 +239,14 @@ not-later : (n : ℕ) → n ≡ noRecord → List·Memᴰ n operationNumbers →
 unfolding among operationNumbers
 not-later n e m = clash (among-of-mem n operationNumbers m) (ap (λ k. among k operationNumbers) e)
 
-no-record : (d : Desk) (line : Bytes) (c : Option Letter) → (lineOperation d line ≡ refuse noRecord c) ↔ (recordOf line ≡ refuse noRecord c)
-no-record d line c = (λ e. go (line-cases d line noRecord c e), no-record-line d line noRecord c)
+no-record : (d : Desk) (line : Bytes) → ((c : Option Letter) × (lineOperation d line ≡ refuse noRecord c)) ↔ NoRecord line
+no-record d line = (λ h. by-reading (read-or-not line) h, λ h. (none, no-record-line d line noRecord none (not-read line h)))
   where
-    go : (_≡_ {A = ℕ} noRecord noRecord × (recordOf line ≡ refuse noRecord c)) ⊎ List·Memᴰ noRecord operationNumbers
-        → recordOf line ≡ refuse noRecord c
-    go (inl (p, q)) = q
-    go (inr m) = absurd (not-later noRecord refl m)
+    by-reading : (NoRecord line × (recordOf line ≡ refuse noRecord none)) ⊎ Read line
+        → (c : Option Letter) × (lineOperation d line ≡ refuse noRecord c) → NoRecord line
+    by-reading (inl (g, e)) h = g
+    by-reading (inr r) (c, e) =
+        absurd (not-later noRecord refl (operation-numbered d (r .typed) noRecord c (sym (record-line d line (r .typed) (r .read)) ∙ e)))
 
 numbered : (d : Desk) (line : Bytes) (n : ℕ) (c : Option Letter) → lineOperation d line ≡ refuse n c → List·Memᴰ n refusalNumbers
 unfolding refusalNumbers operationNumbers
@@ -278,6 +281,10 @@ answered order d line = go (lineOperation d line) refl
           one-line = ap (λ x. replyBytes order (x .1)) r;
         })
 
+numbers : refusalNumbers ≡ 1 ∷ 2 ∷ 3 ∷ 4 ∷ 5 ∷ 6 ∷ 7 ∷ 8 ∷ 9 ∷ 10 ∷ 11 ∷ 12 ∷ 13 ∷ 16 ∷ []
+unfolding refusalNumbers operationNumbers
+numbers = refl
+
 -- Demand 1.
 pub demand1 : Demand1
 demand1 =
@@ -285,7 +292,10 @@ demand1 =
       answered = answered;
       refusal-drops = refusal-drops;
       desk-stays = desk-stays;
+      numbers = numbers;
+      library-numbers = (refl, refl);
       no-record = no-record;
+      record-line = line-of-record;
       first-condition = first-condition;
       desk-test = desk-test;
       calls = calls-exact;

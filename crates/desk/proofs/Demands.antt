@@ -4,13 +4,13 @@ use Rattle.higman.proofs.Results.{results-reduced}
 use Rattle.higman.proofs.MinimalExpansion.{minimal-expansion}
 use Rattle.higman.proofs.Automorphisms.{plans-are-automorphisms}
 use Rattle.desk.specs.Demands.{SessionExact, Demands}
-use Rattle.desk.proofs.Session.{fed-in-pieces, session-fed}
+use Rattle.desk.proofs.Session.{fed-in-pieces, session-fed, lines-exact, lines-fed}
 use Rattle.desk.proofs.Grammar.{text-exact}
 use Rattle.desk.proofs.Demand1.{demand1}
 use Rattle.desk.proofs.Demand2.{demand2}
 
 session-exact : SessionExact
-session-exact = record { text = text-exact; fed = session-fed; pieces = fed-in-pieces }
+session-exact = record { text = text-exact; lines = lines-exact; lines-fed = lines-fed; fed = session-fed; pieces = fed-in-pieces }
 
 pub demands : Demands
 demands =

@@ -3,27 +3,31 @@
 use Prim.Native.Nat.{ℕ, suc}
 use native.Mathlib.Omega.{arith}
 use mathlib.Core.Path.{_≡_, refl, sym, _∙_, ap, subst}
-use mathlib.Core.Logic.{_⊎_, inl, inr}
+use mathlib.Core.Logic.{_⊎_, inl, inr, _↔_}
 use mathlib.Core.Bool.{Bool, true, false}
 use mathlib.Core.List.{List, [], _∷_, map}
 use mathlib.Core.Option.{Option, none, some, Option·none-ne-some, Option·some-injective}
 use lib.Dec.{T, eqb}
+use lib.IntN.{natAbs}
 use lib.ListN.{length}
 use borrow.Author.Tests.{eqb-true, ne-eqb}
 use Rattle.higman.specs.Words.{spelled}
 use Rattle.higman.specs.Bases.{all}
-use Rattle.higman.specs.Text.{Bytes, tab, decimal}
+use Rattle.higman.specs.Text.{Bytes, bytes, tab, wordBytes, decimal}
 use Rattle.higman.specs.Listing.{slotByte}
 use Rattle.higman.proofs.Tests.{passes, and-left, and-right, and-intro, all-cons}
 use Rattle.desk.specs.Limits.{maxNumeral}
-use Rattle.desk.specs.Records.{Record, P, M, E, F, I, K, S, W, L, C, U, Form, slotField, anyField, numberField, field, noMore, Rule}
+use Rattle.desk.specs.Records.{Record, P, M, E, F, I, K, S, W, L, C, T as Tᴿ, U, Form, slotField, anyField, numberField, field}
+use Rattle.desk.specs.Records.{noMore, Rule}
 use Rattle.desk.specs.Records.{grammar, readBy, readFields, parse, fields, parted, recordFields, recordText, noTab, hasDigits}
 use Rattle.desk.specs.Records.{numbersFit, wellFormed}
-use Rattle.desk.specs.Grammar.{GrammarExact, HeldLinesRead, TextExact}
+use Rattle.desk.specs.Grammar.{GrammarExact, NumbersFit, WellFormedExact, LineOf, RepliesWritten, TextExact}
+use Rattle.desk.specs.Replies.{Held}
+use Rattle.desk.specs.Bytes.{lineOf, heldFields, Order, replyBytes}
 use Rattle.desk.proofs.Fields.{no-tab-cons, word-no-tab, fields-of-parted, parted-of-fields, fields-no-tab}
-use Rattle.higman.proofs.Decimals.{decimal-read-back, decimals-exact}
+use Rattle.higman.proofs.Decimals.{decimals-exact}
 use Rattle.higman.proofs.Listing.{slots-exact}
-use Rattle.desk.proofs.NumberFields.{Written, ExactForm, number-exact, signed-exact}
+use Rattle.desk.proofs.NumberFields.{Written, ExactForm, number-exact, signed-exact, digits-below}
 
 -- the two forms that are not numbers
 slot-exact : ExactForm slotField (λ b. b ∷ []) (λ b. true)
@@ -164,7 +168,7 @@ parse-text r h =
     let plain = all noTab (recordFields r) in
     parse-parted (recordFields r) r (and-left plain (numbersFit r) h) (readFields-recordFields r (and-right plain (numbersFit r) h))
 
-text-of-parse : (line : Bytes) (r : Record) → parse line ≡ some r → T (wellFormed r) × (line ≡ recordText r)
+pub text-of-parse : (line : Bytes) (r : Record) → parse line ≡ some r → T (wellFormed r) × (line ≡ recordText r)
 unfolding parse recordText wellFormed
 text-of-parse line r e =
     let typed = readFields-only .typed (fields line) r e in
@@ -175,34 +179,78 @@ text-of-parse line r e =
 grammar-exact : GrammarExact
 grammar-exact line r = (text-of-parse line r, λ h. ap parse (h .1) ∙ parse-text r (h .0))
 
-slot-no-tab : (i : ℕ) → T (noTab (slotByte i ∷ []))
-slot-no-tab i = no-tab-cons (slotByte i) [] (ne-eqb (slotByte i) tab (λ e. omega arith)) tt
+-- the replies: lines of fields without a tab
+decimal-no-tab : (k : ℕ) → T (noTab (decimal k))
+decimal-no-tab k = word-no-tab (spelled (suc k) k)
 
-decimals-no-tab : (ks : List ℕ) → T (all noTab (map decimal ks))
-decimals-no-tab [] = tt
-decimals-no-tab (k ∷ ks) = all-cons noTab (decimal k) (map decimal ks) (word-no-tab (spelled (suc k) k)) (decimals-no-tab ks)
+line-of : (f : Bytes) (fs : List Bytes) → T (all noTab (f ∷ fs)) → LineOf (lineOf (f ∷ fs)) (f ∷ fs)
+line-of f fs h = record { text = parted (f ∷ fs); ended = refl; parts = fields-of-parted f fs h }
 
-slot-line-fields : (i : ℕ) (ks : List ℕ) → fields (parted ((slotByte i ∷ []) ∷ map decimal ks)) ≡ (slotByte i ∷ []) ∷ map decimal ks
-slot-line-fields i ks =
-    let slot = slotByte i ∷ [] in
-    fields-of-parted slot (map decimal ks) (all-cons noTab slot (map decimal ks) (slot-no-tab i) (decimals-no-tab ks))
+module _ (order : Order) where
+  numbered-line : (f : Bytes) (n : ℕ) (fs : List Bytes) → T (noTab f) → T (all noTab fs) → LineOf (lineOf (f ∷ decimal n ∷ fs)) (f ∷ decimal n ∷ fs)
+  numbered-line f n fs h k =
+      line-of f (decimal n ∷ fs) (all-cons noTab f (decimal n ∷ fs) h (all-cons noTab (decimal n) fs (decimal-no-tab n) k))
 
-held-lines-read : HeldLinesRead
-held-lines-read h =
-    let n = h .plan .shape .arity in
-    let r = h .plan .shape .roots in
-    let m = length (h .plan .rows) in
-    record {
-      letter = slotByte (h .slot);
-      arity = decimal n;
-      roots = decimal r;
-      pairs = decimal m;
-      line-fields = slot-line-fields (h .slot) (n ∷ r ∷ m ∷ []);
-      letter-read = omega arith;
-      arity-read = decimal-read-back n;
-      roots-read = decimal-read-back r;
-      pairs-read = decimal-read-back m;
-    }
+  held-line : (h : Held) → LineOf (lineOf (heldFields h)) (heldFields h)
+  held-line h =
+      let slot = slotByte (h .slot) ∷ [] in
+      let n = decimal (h .plan .shape .arity) in
+      let r = decimal (h .plan .shape .roots) in
+      let m = decimal (length (h .plan .rows)) in
+      let plain = no-tab-cons (slotByte (h .slot)) [] (ne-eqb (slotByte (h .slot)) tab (λ e. omega arith)) tt in
+      let pairs = all-cons noTab m [] (decimal-no-tab (length (h .plan .rows))) tt in
+      let roots = all-cons noTab r (m ∷ []) (decimal-no-tab (h .plan .shape .roots)) pairs in
+      let numbers = all-cons noTab n (r ∷ m ∷ []) (decimal-no-tab (h .plan .shape .arity)) roots in
+      line-of slot (n ∷ r ∷ m ∷ []) (all-cons noTab slot (n ∷ r ∷ m ∷ []) plain numbers)
+
+  replies-written : RepliesWritten order
+  unfolding replyBytes
+  replies-written =
+      record {
+        nothing = refl;
+        done = line-of (bytes "ok") [] tt;
+        number = λ n. numbered-line (bytes "ok") n [] tt tt;
+        word = λ w. line-of (bytes "ok") (wordBytes w ∷ []) (all-cons noTab (wordBytes w) [] (word-no-tab w) tt);
+        plan = λ b p. refl;
+        refusal = λ n. numbered-line (bytes "no") n [] tt tt;
+        from-refusal = λ n. numbered-line (bytes "no") n (bytes "F" ∷ []) tt tt;
+        to-refusal = λ n. numbered-line (bytes "no") n (bytes "T" ∷ []) tt tt;
+        held = held-line;
+      }
+
+-- the numbers of well-formed records
+numbers-fit : (r : Record) → T (numbersFit r) ↔ NumbersFit r
+unfolding maxNumeral
+numbers-fit (P a n r) = (
+  λ h. (digits-below 0 n .0 (and-left (hasDigits 1 n) (hasDigits 1 r) h), digits-below 0 r .0 (and-right (hasDigits 1 n) (hasDigits 1 r) h)),
+  λ h. and-intro (hasDigits 1 n) (hasDigits 1 r) (digits-below 0 n .1 (h .0)) (digits-below 0 r .1 (h .1)),
+)
+numbers-fit (M from to) = (λ _. tt, λ _. tt)
+numbers-fit E = (λ _. tt, λ _. tt)
+numbers-fit (F a b c) = (λ _. tt, λ _. tt)
+numbers-fit (I a c) = (λ _. tt, λ _. tt)
+numbers-fit (K a k c) = digits-below 3 (natAbs k)
+numbers-fit (S a b) = (λ _. tt, λ _. tt)
+numbers-fit (W a code) = (λ _. tt, λ _. tt)
+numbers-fit (L a) = (λ _. tt, λ _. tt)
+numbers-fit (C a) = (λ _. tt, λ _. tt)
+numbers-fit Tᴿ = (λ _. tt, λ _. tt)
+numbers-fit U = (λ _. tt, λ _. tt)
+
+well-formed-exact : WellFormedExact
+unfolding wellFormed
+well-formed-exact r =
+    let plain = all noTab (recordFields r) in (
+      λ h. (and-left plain (numbersFit r) h, numbers-fit r .0 (and-right plain (numbersFit r) h)),
+      λ h. and-intro plain (numbersFit r) (h .0) (numbers-fit r .1 (h .1)),
+    )
 
 pub text-exact : TextExact
-text-exact = record { grammar = grammar-exact; slots = slots-exact; decimals = decimals-exact; held-lines = held-lines-read }
+text-exact =
+    record {
+      grammar = grammar-exact;
+      well-formed = well-formed-exact;
+      slots = slots-exact;
+      decimals = decimals-exact;
+      replies = replies-written;
+    }

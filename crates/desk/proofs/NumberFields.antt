@@ -1,20 +1,68 @@
 -- The forms of numbers in specs/Records.antt read exactly the decimal digits of numbers that are short enough.
-use Prim.Native.Nat.{ℕ, zero, suc, _-_}
+use Prim.Native.Nat.{ℕ, zero, suc, _+_, _/_, _%_, _^_, _≤_, _<_}
+use native.Mathlib.Nat.{pow-suc}
 use native.Mathlib.Omega.{arith}
 use mathlib.Core.Path.{_≡_, refl, sym, _∙_, ap, subst}
-use mathlib.Core.Logic.{_⊎_, inl, inr}
+use mathlib.Core.Logic.{_⊎_, inl, inr, _↔_}
 use mathlib.Core.Bool.{Bool, true, false, _&&_}
 use mathlib.Core.List.{[], _∷_}
 use mathlib.Core.Option.{Option, none, some, Option·none-ne-some, Option·some-injective}
-use lib.Dec.{T, leb, eqb}
+use lib.Dec.{T, leb, eqb, leb→le, le→leb}
 use lib.IntN.{ℤ, pos, negsuc, natAbs}
-use lib.ListN.{length}
-use borrow.Author.Tests.{eqb-true, ne-eqb}
+use lib.ListN.{length, length-append}
+use borrow.Author.Tests.{leb-true, leb-false, eqb-true, ne-eqb}
 use Rattle.higman.specs.Bases.{all}
-use Rattle.higman.specs.Text.{Bytes, byte, decimal, isNumeral, spelledOut, noLeadingZero}
+use Rattle.higman.specs.Text.{Bytes, byte, digitByte, decimal, isNumeral, spelledOut, noLeadingZero}
 use Rattle.higman.proofs.Tests.{passes, so, T-of, and-left, and-right, and-intro, all-head}
-use Rattle.higman.proofs.Decimals.{numeral-low, decimal-numerals, decimal-read-back, decimal-no-leading-zero, decimal-unique}
+use Rattle.higman.proofs.Decimals.{decimal-digit, decimal-split, numeral-low, decimal-numerals, decimal-read-back}
+use Rattle.higman.proofs.Decimals.{decimal-no-leading-zero, decimal-unique}
 use Rattle.desk.specs.Records.{Form, numberField, signedField, positive, negative, signedDecimal, hasDigits}
+
+-- so many digits, below so many tens
+some-digit : (k : ℕ) → 1 ≤ length (decimal k)
+some-digit k = by-digits (decimal k) (decimal-no-leading-zero k)
+  where
+    by-digits : (x : Bytes) → T (noLeadingZero x) → 1 ≤ length x
+    by-digits [] h = absurd h
+    by-digits (b ∷ x) h = omega arith
+
+ten-power : (d : ℕ) → 1 ≤ 10 ^ d
+ten-power zero = omega arith
+ten-power (suc d) = omega (arith, pow-suc 10 d, ten-power d)
+
+length-split : (k : ℕ) → 10 ≤ k → length (decimal k) ≡ length (decimal (k / 10)) + 1
+length-split k h = ap length (decimal-split k h) ∙ length-append (decimal (k / 10)) (digitByte (k % 10) ∷ [])
+
+below-of-length : (d k : ℕ) → length (decimal k) ≤ suc d → k < 10 ^ suc d
+below-of-length zero k h = by-size (passes (leb 10 k))
+  where
+    by-size : (leb 10 k ≡ true) ⊎ (leb 10 k ≡ false) → k < 10 ^ 1
+    by-size (inl e) = absurd (omega (arith, length-split k (leb-true 10 k e), some-digit (k / 10)))
+    by-size (inr e) = leb-false 10 k e
+below-of-length (suc d) k h = by-size (passes (leb 10 k)) (below-of-length d (k / 10))
+  where
+    by-size : (leb 10 k ≡ true) ⊎ (leb 10 k ≡ false) → (length (decimal (k / 10)) ≤ suc d → k / 10 < 10 ^ suc d) → k < 10 ^ suc (suc d)
+    by-size (inl e) front =
+        let less = front (omega (arith, length-split k (leb-true 10 k e))) in
+        omega (arith, less, pow-suc 10 (suc d))
+    by-size (inr e) front = omega (arith, leb-false 10 k e, pow-suc 10 (suc d), pow-suc 10 d, ten-power d)
+
+length-of-below : (d k : ℕ) → k < 10 ^ suc d → length (decimal k) ≤ suc d
+length-of-below zero k h = omega (arith, ap length (decimal-digit k (omega arith)))
+length-of-below (suc d) k h = by-size (passes (leb 10 k)) (length-of-below d (k / 10))
+  where
+    by-size : (leb 10 k ≡ true) ⊎ (leb 10 k ≡ false) → (k / 10 < 10 ^ suc d → length (decimal (k / 10)) ≤ suc d)
+        → length (decimal k) ≤ suc (suc d)
+    by-size (inl e) front =
+        let less : k / 10 < 10 ^ suc d = omega (arith, pow-suc 10 (suc d)) in
+        omega (arith, length-split k (leb-true 10 k e), front less)
+    by-size (inr e) front = omega (arith, ap length (decimal-digit k (leb-false 10 k e)))
+
+pub digits-below : (d k : ℕ) → T (hasDigits (suc d) k) ↔ (k < 10 ^ suc d)
+digits-below d k = (
+  λ h. below-of-length d k (leb→le (length (decimal k)) (suc d) h),
+  λ h. le→leb (length (decimal k)) (suc d) (length-of-below d k h),
+)
 
 -- A field form is exact for a way to write values: it reads every value that fits, and what it reads is a value that fits, written.
 pub record Written {A : Type 0} (written : A → Bytes) (fits : A → Bool) (f : Bytes) (a : A) : Type 0 where

@@ -5,12 +5,12 @@ use mathlib.Core.Path.{_≡_, refl, sym, ap, subst}
 use mathlib.Core.Bool.{Bool, true, false}
 use mathlib.Core.List.{List, [], _∷_}
 use mathlib.Core.Option.{Option, none, some}
-use lib.ListN.{length, getD, set}
+use lib.ListN.{length, getD, set, replicate}
 use Rattle.higman.specs.Words.{given}
-use Rattle.higman.specs.Limits.{Plan}
+use Rattle.higman.specs.Limits.{Plan, slotCount}
 use Rattle.higman.proofs.Tests.{clash}
 use Rattle.higman.specs.Text.{Bytes, wordOf}
-use Rattle.desk.specs.Desk.{Draft, Desk, countOf, held, changed, withDraft, withPair, dropped}
+use Rattle.desk.specs.Desk.{Draft, Desk, freshDesk, countOf, held, changed, withDraft, withPair, dropped}
 use Rattle.desk.specs.Records.{Record, P, M, E, F, I, K, S, W, L, C, T, U, needsOpen, isChange}
 use Rattle.higman.specs.Listing.{slotNumber}
 use Rattle.desk.specs.Replies.{Effect, silent, ok, okNumber, lists, surveys, isOpen, heldFrom, newDraft, job, operation}
@@ -117,10 +117,18 @@ set-elsewhere (y ∷ l) zero (suc j) x h = refl
 set-elsewhere (y ∷ l) (suc i) zero x h = refl
 set-elsewhere (y ∷ l) (suc i) (suc j) x h = set-elsewhere l i j x (λ e. h (ap suc e))
 
+replicated : (n i : ℕ) (x : Option Plan) → getD (replicate n x) i x ≡ x
+replicated zero i x = refl
+replicated (suc n) zero x = refl
+replicated (suc n) (suc i) x = replicated n i x
+
 pub desk-parts : DeskParts
-unfolding changed withDraft dropped
+unfolding freshDesk changed withDraft dropped
 desk-parts =
     record {
+      fresh-slots = λ i. replicated slotCount i none;
+      fresh-open = refl;
+      fresh-count = refl;
       changed-here = λ d i x e h. set-here (d .slots) i x (subst (λ n. i < n) (sym e) h);
       changed-elsewhere = λ d i j x h. set-elsewhere (d .slots) i j x h;
       changed-count = λ d i x. refl;

@@ -2,23 +2,24 @@
 -- answers for the whole of the line that has begun, however long it is.
 use Prim.Native.Nat.{ℕ, _≤_, _<_, zero-le}
 use native.Mathlib.Omega.{arith}
-use mathlib.Core.Path.{_≡_, refl, sym, _∙_, ap}
-use mathlib.Core.Bool.{Bool, true, false}
+use mathlib.Core.Path.{_≡_, refl, sym, _∙_, ap, subst}
+use mathlib.Core.Bool.{Bool, true, false, not}
 use mathlib.Core.List.{List, [], _∷_, _++_, append-assoc, append-nil}
 use mathlib.Core.Option.{none}
-use lib.Dec.{leb, ltb, eqb, leb→le, ltb→lt, nltb→le, not-T}
+use borrow.Author.Tests.{not-true}
+use lib.Dec.{T, leb, ltb, eqb, leb→le, ltb→lt, nltb→le, not-T}
 use lib.ListN.{length, length-append}
-use Rattle.higman.proofs.Tests.{so, T-of, clash}
+use Rattle.higman.proofs.Tests.{so, T-of, clash, all-head, all-tail}
 use Rattle.higman.specs.Text.{lineEnd, Bytes}
 use Rattle.higman.specs.Refusals.{noRecord}
 use Rattle.higman.specs.Listing.{joinLines}
 use Rattle.desk.specs.Limits.{maxLine}
-use Rattle.desk.specs.Desk.{Desk}
+use Rattle.desk.specs.Desk.{Desk, dropped}
 use Rattle.desk.specs.Replies.{_>>=_, refuse, settle, recordOf, lineOperation, respondLine, run}
 use Rattle.desk.specs.Bytes.{Order, replyBytes}
-use Rattle.desk.specs.Session.{State, idle, grown, effectOf, lineEnded, feedByte, feed, finish, linesFrom, repliesTo, fedWhole}
+use Rattle.desk.specs.Session.{unended, State, idle, grown, effectOf, lineEnded, feedByte, feed, finish, linesFrom, repliesTo, fedWhole}
 use Rattle.desk.specs.Session.{session}
-use Rattle.desk.specs.Theorems.{feedBoth, feedPieces, FedInPieces, SessionFed}
+use Rattle.desk.specs.Theorems.{LinesExact, thenFed, LinesFed, feedBoth, feedPieces, FedInPieces, SessionFed}
 
 module _ (order : Order) where
   pub feed-append : (s : State) (x y : Bytes) → feed order s (x ++ y) ≡ feedBoth order s x y
@@ -92,3 +93,66 @@ module _ (order : Order) where
 pub session-fed : SessionFed
 unfolding session
 session-fed order input = fed-lines order input (kept [] zero-le)
+
+-- bytes without byte 10, by the first of them
+inside-first : (b : ℕ) (l : Bytes) → T (unended (b ∷ l)) → eqb b lineEnd ≡ false
+inside-first b l h = not-true (eqb b lineEnd) (so (not (eqb b lineEnd)) (all-head (λ c. not (eqb c lineEnd)) b l h))
+
+inside-rest : (b : ℕ) (l : Bytes) → T (unended (b ∷ l)) → T (unended l)
+inside-rest b l h = all-tail (λ c. not (eqb c lineEnd)) b l h
+
+-- the lines of some bytes
+lines-ended : (begun line rest : Bytes) → T (unended line) → linesFrom begun (line ++ lineEnd ∷ rest) ≡ (begun ++ line) ∷ linesFrom [] rest
+lines-ended begun [] rest h = ap (λ l. l ∷ linesFrom [] rest) (sym (append-nil begun))
+lines-ended begun (b ∷ line) rest h =
+    rw (inside-first b line h, linesFrom)
+    (lines-ended (begun ++ (b ∷ [])) line rest (inside-rest b line h) ∙ ap (λ l. l ∷ linesFrom [] rest) (append-assoc begun (b ∷ []) line))
+
+lines-last : (b : ℕ) (begun line : Bytes) → T (unended line) → linesFrom (b ∷ begun) line ≡ (b ∷ (begun ++ line)) ∷ []
+lines-last b begun [] h = ap (λ l. (b ∷ l) ∷ []) (sym (append-nil begun))
+lines-last b begun (c ∷ line) h =
+    rw (inside-first c line h, linesFrom)
+    (lines-last b (begun ++ (c ∷ [])) line (inside-rest c line h) ∙ ap (λ l. (b ∷ l) ∷ []) (append-assoc begun (c ∷ []) line))
+
+pub lines-exact : LinesExact
+lines-exact =
+    record {
+      none-left = refl;
+      ended = λ line rest h. lines-ended [] line rest h;
+      last = λ b line h. rw (inside-first b line h, linesFrom) (lines-last b [] line (inside-rest b line h));
+    }
+
+module _ (order : Order) where
+  -- a line that has begun, fed to its end
+  fed-line : (line rest : Bytes) {d : Desk} {s : State} {l : Bytes} → Begun d s l → T (unended line)
+      → feed order s (line ++ lineEnd ∷ rest) ≡ thenFed order (respondLine d (l ++ line)) rest
+  unfolding feed feedByte
+  fed-line [] rest {d} {s} {l} g h = ap (λ e. thenFed order e rest) (begun-effect g ∙ ap (respondLine d) (sym (append-nil l)))
+  fed-line (b ∷ line) rest {d} {s} {l} g h =
+      rw (byte-inside order s b (inside-first b line h))
+      (fed-line line rest (begun-grown b g) (inside-rest b line h) ∙ ap (λ x. thenFed order (respondLine d x) rest) (append-assoc l (b ∷ []) line))
+
+  -- and one that the input ends
+  fed-last : (line : Bytes) {d : Desk} {s : State} {l : Bytes} → Begun d s l → T (unended line)
+      → Begun d (feed order s line .0) (l ++ line)
+  unfolding feed
+  fed-last [] {d} {s} {l} g h = subst (Begun d s) (sym (append-nil l)) g
+  fed-last (b ∷ line) {d} {s} {l} g h =
+      let more = fed-last line (begun-grown b g) (inside-rest b line h) in
+      subst (λ x. Begun d (feed order (x .0) line .0) (l ++ b ∷ line)) (sym (byte-inside order s b (inside-first b line h)))
+      (subst (Begun d (feed order (grown s b) line .0)) (append-assoc l (b ∷ []) line) more)
+
+  finished : {d : Desk} {s : State} {b : ℕ} {l : Bytes} → Begun d s (b ∷ l)
+      → finish order s ≡ (dropped (respondLine d (b ∷ l) .0), replyBytes order (respondLine d (b ∷ l) .1))
+  unfolding finish
+  finished (kept (b ∷ l) h) = refl
+  finished {d} (lost (b ∷ l) h) = ap (λ e. (dropped (e .0), replyBytes order (e .1))) (begun-effect {d = d} (lost (b ∷ l) h))
+
+pub lines-fed : LinesFed
+unfolding finish
+lines-fed =
+    record {
+      ended = λ order d line rest h. fed-line order line rest (kept [] zero-le) h;
+      last = λ order d b line h. finished order (fed-last order (b ∷ line) (kept [] zero-le) h);
+      none-left = λ order d. refl;
+    }

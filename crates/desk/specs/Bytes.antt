@@ -1,5 +1,5 @@
 -- Replies as bytes (document 01, "Records"): `ok` or `no`, then fields, parted by tabs, in lines that byte 10 ends. The order of U's
--- lines, which the paper leaves open, enters here and nowhere before. Read Session.antt next.
+-- lines, which the paper leaves open, enters here and nowhere before. Read Grammar.antt next.
 use mathlib.Core.Path.{_≡_, refl}
 use mathlib.Core.List.{List, [], _∷_, _++_, map, List·Permᴰ, Permᴰ·refl}
 use mathlib.Core.Option.{Option, none, some}

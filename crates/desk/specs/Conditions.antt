@@ -1,18 +1,18 @@
 -- "When each operation says no", as a table: for each record the numbers in the paper's order, each with its condition. Demand 1 says
 -- of every desk that the first whose condition holds is given, and that the operation is done where none holds.
--- `operation` says the same and what is done besides, step by step and by higman's answers. The table stands beside it to be held
--- against the paper line by line: each number has here its own condition, in the words of the definitions and by itself, so that no
--- number hides in an answer or behind another step. Read Demands.antt next.
+-- `operation` says the same and what is done besides, with one order for all records and by higman's answers. The table stands beside
+-- it to be held against the paper line by line: each number has here its own condition, in the words of the definitions and by itself,
+-- so that no number hides in an answer, in a record's kind or behind another step. Read Demands.antt next.
 use Prim.Native.Nat.{ℕ}
 use mathlib.Core.Path.{_≡_, refl}
 use mathlib.Core.Bool.{Bool, true, false, _&&_, _||_, not}
-use mathlib.Core.List.{List, [], _∷_, _++_, map}
+use mathlib.Core.List.{List, [], _∷_, map}
 use mathlib.Core.Option.{Option, none, some}
 use lib.Dec.{leb}
 use lib.IntN.{pos, natAbs}
 use lib.ListN.{length}
 use Rattle.higman.specs.Words.{count, given, beginsProperly}
-use Rattle.higman.specs.Bases.{anyOf, overlap, gap}
+use Rattle.higman.specs.Bases.{all, anyOf, overlap, gap}
 use Rattle.higman.specs.Tables.{froms, tos}
 use Rattle.higman.specs.Normal.{compose, power}
 use Rattle.higman.specs.Limits.{Plan, shapeInRange, granted, isCode, maxPairs, maxPower, slotCount, isPlanWord}
@@ -21,9 +21,9 @@ use Rattle.higman.specs.Refusals.{wrongState, shapeOutside, badWord, pairsFull,
 use Rattle.higman.specs.Refusals.{shapesDiffer, limitBroken, powerOutside, codeTooShort, countFull, Letter}
 use Rattle.higman.specs.Text.{byte, wordOf}
 use Rattle.desk.specs.Desk.{Draft, Desk, freshDesk, held}
-use Rattle.desk.specs.Records.{Record, P, M, E, F, I, K, S, W, L, C, T, U, needsOpen, slotsNamed, isChange}
-use Rattle.higman.specs.Listing.{slotNumber}
-use Rattle.desk.specs.Replies.{Outcome, refuse, pass, openAmiss, outside, atLimit}
+use Rattle.desk.specs.Records.{Record, P, M, E, F, I, K, S, W, L, C, T, U}
+use Rattle.higman.specs.Listing.{slotNumber, isSlot}
+use Rattle.desk.specs.Replies.{Outcome, refuse, pass, isOpen, atLimit}
 
 -- a refusal's number, the column it adds, and the condition it is given under
 pub record Condition : Type 0 where
@@ -39,6 +39,10 @@ n if b = record { number = n; column = none; holds = b }
 abbrev pub inColumn : ℕ → Letter → Bool → Condition
 inColumn n c b = record { number = n; column = some c; holds = b }
 
+-- a slot byte outside A to H among these
+abbrev pub outsideOf : List ℕ → Bool
+outsideOf bs = not (all isSlot bs)
+
 -- no plan in the slot
 abbrev pub isEmpty : Desk → ℕ → Bool
 isEmpty d a = not (given (held d (slotNumber a)))
@@ -53,62 +57,84 @@ ofOpen d test = elim (d .draft) [ none ↦ false | some o ↦ test o ]
 abbrev pub ofBoth : Desk → ℕ → ℕ → (Plan → Plan → Bool) → Bool
 ofBoth d a b test = ofPlan d a (λ p. ofPlan d b (λ q. test p q))
 
--- the numbers that are the record's own, between 8 and 16
-unfoldable pub ownConditions : Desk → Record → List Condition
+unfoldable pub conditions : Desk → Record → List Condition
 -- "P: then 8, a slot byte outside A to H; 3, n or r outside its range."
-ownConditions d (P a n r) = (shapeOutside if not (shapeInRange (record { arity = n; roots = r }))) ∷ []
+conditions d (P a n r) =
+    (wrongState if isOpen d) ∷
+    (slotOutside if outsideOf (a ∷ [])) ∷
+    (shapeOutside if not (shapeInRange (record { arity = n; roots = r }))) ∷
+    []
 -- "M: then 4, a word that is empty, too long or has a wrong digit; 5, a 129th pair."
-ownConditions d (M from to) =
+conditions d (M from to) =
+    (wrongState if not (isOpen d)) ∷
     (badWord if ofOpen d (λ o. not (isPlanWord (o .shape) (wordOf from) && isPlanWord (o .shape) (wordOf to)))) ∷
     (pairsFull if ofOpen d (λ o. leb maxPairs (length (o .rows)))) ∷
     []
 -- "E: then two checks, both made of the from column and after that both of the to column .. Then 16, the count is at its limit."
-ownConditions d E =
+conditions d E =
+    (wrongState if not (isOpen d)) ∷
     inColumn wordsOverlap Letter.F (ofOpen d (λ o. overlap (froms (o .rows)))) ∷
     inColumn rootUncovered Letter.F (ofOpen d (λ o. gap (o .shape) (froms (o .rows)))) ∷
     inColumn wordsOverlap Letter.T (ofOpen d (λ o. overlap (tos (o .rows)))) ∷
     inColumn rootUncovered Letter.T (ofOpen d (λ o. gap (o .shape) (tos (o .rows)))) ∷
+    (countFull if atLimit d) ∷
     []
 -- "F: then 8; 9, a or b empty; 10, shapes differ; 11, the reduced result breaks a limit; 16."
-ownConditions d (F a b c) =
+conditions d (F a b c) =
+    (wrongState if isOpen d) ∷
+    (slotOutside if outsideOf (a ∷ b ∷ c ∷ [])) ∷
     (slotEmpty if isEmpty d a || isEmpty d b) ∷
     (shapesDiffer if ofBoth d a b (λ p q. not (sameShape (p .shape) (q .shape)))) ∷
     (limitBroken if ofBoth d a b (λ p q. not (granted (compose (p .shape) (p .rows) (q .rows))))) ∷
+    (countFull if atLimit d) ∷
     []
 -- "I: then 8; 9; 16."
-ownConditions d (I a c) = (slotEmpty if isEmpty d a) ∷ []
+conditions d (I a c) =
+    (wrongState if isOpen d) ∷
+    (slotOutside if outsideOf (a ∷ c ∷ [])) ∷
+    (slotEmpty if isEmpty d a) ∷
+    (countFull if atLimit d) ∷
+    []
 -- "K: then 8; 12, k outside −1,000 to 1,000; 9; 11, some reduced power from 1 up to the size of k breaks a limit; 16."
-ownConditions d (K a k c) =
+conditions d (K a k c) =
+    (wrongState if isOpen d) ∷
+    (slotOutside if outsideOf (a ∷ c ∷ [])) ∷
     (powerOutside if not (leb (natAbs k) maxPower)) ∷
     (slotEmpty if isEmpty d a) ∷
     (limitBroken if ofPlan d a (λ p. anyOf (λ j. not (granted (power (p .shape) (p .rows) (pos j)))) (count 1 (natAbs k)))) ∷
+    (countFull if atLimit d) ∷
     []
 -- "S: then 8; 9; 10."
-ownConditions d (S a b) =
+conditions d (S a b) =
+    (wrongState if isOpen d) ∷
+    (slotOutside if outsideOf (a ∷ b ∷ [])) ∷
     (slotEmpty if isEmpty d a || isEmpty d b) ∷
     (shapesDiffer if ofBoth d a b (λ p q. not (sameShape (p .shape) (q .shape)))) ∷
     []
 -- "W: then 8; 9; 4; 13, the code is a proper beginning of a from-word."
-ownConditions d (W a code) =
+conditions d (W a code) =
+    (wrongState if isOpen d) ∷
+    (slotOutside if outsideOf (a ∷ [])) ∷
     (slotEmpty if isEmpty d a) ∷
     (badWord if ofPlan d a (λ p. not (isCode (p .shape) (wordOf code)))) ∷
     (codeTooShort if ofPlan d a (λ p. anyOf (beginsProperly (wordOf code)) (froms (p .rows)))) ∷
     []
 -- "L: 8; 9."
-ownConditions d (L a) = (slotEmpty if isEmpty d a) ∷ []
+conditions d (L a) =
+    (wrongState if isOpen d) ∷
+    (slotOutside if outsideOf (a ∷ [])) ∷
+    (slotEmpty if isEmpty d a) ∷
+    []
 -- "C: the same" as I
-ownConditions d (C a) = (slotEmpty if isEmpty d a) ∷ []
+conditions d (C a) =
+    (wrongState if isOpen d) ∷
+    (slotOutside if outsideOf (a ∷ [])) ∷
+    (slotEmpty if isEmpty d a) ∷
+    (countFull if atLimit d) ∷
+    []
 -- "U and T: no more."
-ownConditions d T = []
-ownConditions d U = []
-
--- "Then 2, an M or E with no plan open, or any other record while one is open"; 8 where slots are named; the record's own; and 16
--- where it is a change.
-unfoldable pub conditions : Desk → Record → List Condition
-conditions d r =
-    (wrongState if openAmiss d r) ∷
-    (slotOutside if outside (slotsNamed r)) ∷
-    (ownConditions d r ++ (countFull if isChange r && atLimit d) ∷ [])
+conditions d T = (wrongState if isOpen d) ∷ []
+conditions d U = (wrongState if isOpen d) ∷ []
 
 -- the first condition that holds: its number and column
 abbrev pub firstOf : List Condition → Option (ℕ × Option Letter)
@@ -122,5 +148,5 @@ refusalOf (pass a) = none
 
 -- on a fresh desk: a slot outside comes before a power outside, and that before an empty slot
 conditions-example : map (λ r. firstOf (conditions freshDesk r)) (K (byte "I") (pos 1001) (byte "A") ∷ K (byte "A") (pos 1001) (byte "A") ∷ K (byte "A") (pos 1000) (byte "A") ∷ T ∷ []) ≡ some (8, none) ∷ some (12, none) ∷ some (9, none) ∷ none ∷ []
-unfolding conditions ownConditions needsOpen slotsNamed isChange freshDesk slotCount maxPower
+unfolding conditions freshDesk slotCount maxPower
 conditions-example = refl

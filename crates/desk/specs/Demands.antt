@@ -1,6 +1,6 @@
 -- The three demands, as statements about the definitions: Demand1 and Demand2 here, Demand3 from higman, and `Demands` for all of them.
 -- proofs/ has one term of each. Read Cases.antt next.
-use Prim.Native.Nat.{ℕ, _+_, _<_}
+use Prim.Native.Nat.{ℕ, _+_, _≤_, _<_}
 use mathlib.Core.Path.{_≡_}
 use mathlib.Core.Logic.{_↔_, _⊎_}
 use mathlib.Core.Bool.{true, false}
@@ -17,18 +17,20 @@ use Rattle.higman.specs.Text.{lineEnd, Bytes, wordOf}
 use Rattle.higman.specs.Theorems.{ActAlike, ResultsReduced, MinimalExpansion, Demand3}
 use Rattle.higman.specs.Automorphisms.{PlansAreAutomorphisms}
 use Rattle.higman.specs.Refusals.{noRecord, wrongState, shapeOutside, badWord, pairsFull, wordsOverlap, rootUncovered, slotOutside}
-use Rattle.higman.specs.Refusals.{slotEmpty, shapesDiffer, limitBroken, powerOutside, codeTooShort, countFull, Letter}
-use Rattle.desk.specs.Limits.{maxChanges}
-use Rattle.desk.specs.Desk.{Draft, Desk, countOf, held, IsDesk, changed, withDraft, withPair, dropped}
-use Rattle.desk.specs.Records.{Record, P, M, E, F, I, K, S, W, L, C, T as Tᴿ, U, isChange}
+use Rattle.higman.specs.Refusals.{slotEmpty, shapesDiffer, limitBroken, powerOutside, codeTooShort, bufferTooShort, invalidValue}
+use Rattle.higman.specs.Refusals.{countFull, Letter}
+use Rattle.desk.specs.Limits.{maxChanges, maxLine}
+use Rattle.desk.specs.Desk.{Draft, Desk, freshDesk, countOf, held, IsDesk, changed, withDraft, withPair, dropped}
+use Rattle.desk.specs.Records.{Record, P, M, E, F, I, K, S, W, L, C, T as Tᴿ, U, isChange, recordText, wellFormed}
 use Rattle.higman.specs.Listing.{slotNumber}
 use Rattle.desk.specs.Replies.{refuse, pass, Effect, silent, ok, okNumber, okWord, lists, surveys, refuses, heldFrom, operation}
-use Rattle.desk.specs.Replies.{lineOperation, respondLine, recordOf, newDraft, closed}
+use Rattle.desk.specs.Replies.{lineOperation, respondLine, newDraft, closed}
 use Rattle.desk.specs.Bytes.{Order, replyBytes}
 use Rattle.desk.specs.Conditions.{conditions, firstOf, refusalOf}
-use Rattle.desk.specs.Theorems.{RefusalDrops, DeskStays, DeskTest, SurveyExact, FedInPieces, SessionFed, TypedIn, AcceptedFromLines}
+use Rattle.desk.specs.Theorems.{RefusalDrops, DeskStays, DeskTest, SurveyExact, LinesExact, LinesFed, FedInPieces, SessionFed}
+use Rattle.desk.specs.Theorems.{TypedIn, AcceptedFromLines}
 use Rattle.desk.specs.Theorems.{ListingReadBack, CallsExact}
-use Rattle.desk.specs.Grammar.{TextExact}
+use Rattle.desk.specs.Grammar.{NoRecord, TextExact}
 
 -- the numbers that the operation of a record may be refused with; 14 and 15 are of library calls
 unfoldable pub operationNumbers : List ℕ
@@ -73,9 +75,14 @@ pub record Demand1 : Type 0 where
   -- "Any refusal drops an open plan and changes nothing else."
   pub refusal-drops : RefusalDrops
   pub desk-stays : DeskStays
-  -- 1 exactly where a line is no record, and every other number under its condition and no other: the first that holds
-  pub no-record : (d : Desk) (line : Bytes) (c : Option Letter)
-      → (lineOperation d line ≡ refuse noRecord c) ↔ (recordOf line ≡ refuse noRecord c)
+  -- the paper's numbers
+  pub numbers : refusalNumbers ≡ 1 ∷ 2 ∷ 3 ∷ 4 ∷ 5 ∷ 6 ∷ 7 ∷ 8 ∷ 9 ∷ 10 ∷ 11 ∷ 12 ∷ 13 ∷ 16 ∷ []
+  pub library-numbers : (bufferTooShort ≡ 14) × (invalidValue ≡ 15)
+  -- 1 exactly where a line is no record, a record's line does what the record does, and every other number is given under its
+  -- condition and no other: the first that holds
+  pub no-record : (d : Desk) (line : Bytes) → ((c : Option Letter) × (lineOperation d line ≡ refuse noRecord c)) ↔ NoRecord line
+  pub record-line : (d : Desk) (r : Record) → T (wellFormed r) → length (recordText r) ≤ maxLine
+      → lineOperation d (recordText r) ≡ operation d r
   pub first-condition : (d : Desk) → IsDesk d → (r : Record) → refusalOf (operation d r) ≡ firstOf (conditions d r)
   -- the test for a desk says what one is, and library calls put 15 first and 14 last
   pub desk-test : DeskTest
@@ -83,6 +90,10 @@ pub record Demand1 : Type 0 where
 
 -- What becomes of a desk that is changed, gets an open plan or loses it.
 pub record DeskParts : Type 0 where
+  -- "A fresh desk has empty slots and count 0."
+  pub fresh-slots : (i : ℕ) → held freshDesk i ≡ none
+  pub fresh-open : freshDesk .draft ≡ none
+  pub fresh-count : countOf freshDesk ≡ 0
   -- a change: one slot holds something else, the others hold what they held, and the count is one higher
   pub changed-here : (d : Desk) (i : ℕ) (content : Option Plan) → length (d .slots) ≡ slotCount → i < slotCount
       → held (changed d i content) i ≡ content
@@ -155,6 +166,8 @@ pub record Demand2 : Type 0 where
 -- What is read is what is written, and a session is the replies to its lines, wherever its input is cut.
 pub record SessionExact : Type 0 where
   pub text : TextExact
+  pub lines : LinesExact
+  pub lines-fed : LinesFed
   pub fed : SessionFed
   pub pieces : FedInPieces
 

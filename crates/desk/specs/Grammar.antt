@@ -1,41 +1,80 @@
 -- What is read is what is written, as statements: a line is a record exactly when it is the record's text; letters name slots one to
--- one; a number's digits read back to it; and a line of U gives back what it says of a slot. Read Session.antt next.
-use Prim.Native.Nat.{ℕ}
+-- one; a number's digits read back to it; and every reply is a line of its fields. Read Session.antt next.
+use Prim.Native.Nat.{ℕ, _^_, _<_}
 use mathlib.Core.Path.{_≡_}
-use mathlib.Core.Logic.{_↔_}
-use mathlib.Core.List.{[], _∷_}
-use mathlib.Core.Option.{some}
-use lib.Dec.{T}
+use mathlib.Core.Logic.{_↔_, _⊎_}
+use mathlib.Core.List.{List, [], _∷_, _++_}
+use mathlib.Core.Option.{none, some}
+use lib.Dec.{T as So}
+use lib.IntN.{natAbs}
 use lib.ListN.{length}
-use Rattle.higman.specs.Text.{Bytes, spelledOut}
-use Rattle.higman.specs.Listing.{slotNumber}
+use Rattle.higman.specs.Words.{Word}
+use Rattle.higman.specs.Text.{Bytes, bytes, lineEnd, wordBytes, decimal}
+use Rattle.higman.specs.Bases.{all}
+use Rattle.higman.specs.Limits.{Plan}
+use Rattle.higman.specs.Refusals.{Letter}
+use Rattle.higman.specs.Listing.{slotByte, listing}
 use Rattle.higman.specs.Theorems.{SlotsExact, DecimalsExact}
-use Rattle.desk.specs.Records.{Record, fields, parted, parse, recordText, wellFormed}
-use Rattle.desk.specs.Replies.{Held}
-use Rattle.desk.specs.Bytes.{heldFields}
+use Rattle.desk.specs.Limits.{maxLine, maxNumeral}
+use Rattle.desk.specs.Records.{Record, P, M, E, F, I, K, S, W, L, C, T, U, fields, parse, recordFields, recordText, noTab, wellFormed}
+use Rattle.desk.specs.Replies.{Held, silent, ok, okNumber, okWord, lists, refuses}
+use Rattle.desk.specs.Bytes.{lineOf, heldFields, Order, replyBytes}
 
 -- "1, unknown letter, wrong number of fields, a field form": every other line is the text of the record that it is read as.
 abbrev pub GrammarExact : Type 0
-GrammarExact = (line : Bytes) (r : Record) → (parse line ≡ some r) ↔ (T (wellFormed r) × (line ≡ recordText r))
+GrammarExact = (line : Bytes) (r : Record) → (parse line ≡ some r) ↔ (So (wellFormed r) × (line ≡ recordText r))
 
--- what a line of U says, read from its fields: "`slot⇥n⇥r⇥pairs`"
-pub record HeldRead (line : Bytes) (h : Held) : Type 0 where
-  pub letter : ℕ
-  pub arity : Bytes
-  pub roots : Bytes
-  pub pairs : Bytes
-  pub line-fields : fields line ≡ (letter ∷ []) ∷ arity ∷ roots ∷ pairs ∷ []
-  pub letter-read : slotNumber letter ≡ h .slot
-  pub arity-read : spelledOut 0 arity ≡ h .plan .shape .arity
-  pub roots-read : spelledOut 0 roots ≡ h .plan .shape .roots
-  pub pairs-read : spelledOut 0 pairs ≡ length (h .plan .rows)
+-- what it is for the numbers of a record to fit their fields: "n and r one digit 0 to 9", "k .. one to four digits"
+abbrev pub NumbersFit : Record → Type 0
+NumbersFit (P a n r) = (n < 10) × (r < 10)
+NumbersFit (M from to) = Unit {0}
+NumbersFit E = Unit {0}
+NumbersFit (F a b c) = Unit {0}
+NumbersFit (I a c) = Unit {0}
+NumbersFit (K a k c) = natAbs k < 10 ^ maxNumeral
+NumbersFit (S a b) = Unit {0}
+NumbersFit (W a code) = Unit {0}
+NumbersFit (L a) = Unit {0}
+NumbersFit (C a) = Unit {0}
+NumbersFit T = Unit {0}
+NumbersFit U = Unit {0}
 
-abbrev pub HeldLinesRead : Type 0
-HeldLinesRead = (h : Held) → HeldRead (parted (heldFields h)) h
+-- a record is well formed exactly when no field has a tab in it and its numbers fit
+abbrev pub WellFormedExact : Type 0
+WellFormedExact = (r : Record) → So (wellFormed r) ↔ (So (all noTab (recordFields r)) × NumbersFit r)
+
+-- "1, unknown letter, wrong number of fields, a field form, or a line too long": the line is too long, or no record's text
+abbrev pub NoRecord : Bytes → Type 0
+NoRecord line = (maxLine < length line) ⊎ ((r : Record) → So (wellFormed r) → line ≡ recordText r → ⊥)
+
+-- some bytes are one line of these fields: "fields parted by tabs, lines ended by byte 10"
+pub record LineOf (output : Bytes) (fs : List Bytes) : Type 0 where
+  pub text : Bytes
+  pub ended : output ≡ text ++ lineEnd ∷ []
+  pub parts : fields text ≡ fs
+
+-- the replies as they are written
+pub record RepliesWritten (order : Order) : Type 0 where
+  -- "Neither replies when accepted."
+  pub nothing : replyBytes order silent ≡ []
+  -- `ok`; `ok⇥` and a number; `ok⇥` and an image
+  pub done : LineOf (replyBytes order ok) (bytes "ok" ∷ [])
+  pub number : (n : ℕ) → LineOf (replyBytes order (okNumber n)) (bytes "ok" ∷ decimal n ∷ [])
+  pub word : (w : Word) → LineOf (replyBytes order (okWord w)) (bytes "ok" ∷ wordBytes w ∷ [])
+  pub plan : (b : ℕ) (p : Plan) → replyBytes order (lists b p) ≡ listing b p
+  -- "A refusal is `no⇥` and its number; those of E for a column add ⇥F or ⇥T (from, to)."
+  pub refusal : (n : ℕ) → LineOf (replyBytes order (refuses n none)) (bytes "no" ∷ decimal n ∷ [])
+  pub from-refusal : (n : ℕ) → LineOf (replyBytes order (refuses n (some Letter.F))) (bytes "no" ∷ decimal n ∷ bytes "F" ∷ [])
+  pub to-refusal : (n : ℕ) → LineOf (replyBytes order (refuses n (some Letter.T))) (bytes "no" ∷ decimal n ∷ bytes "T" ∷ [])
+  -- U: "`slot⇥n⇥r⇥pairs` for each held slot"
+  pub held : (h : Held)
+      → LineOf (lineOf (heldFields h))
+      ((slotByte (h .slot) ∷ []) ∷ decimal (h .plan .shape .arity) ∷ decimal (h .plan .shape .roots) ∷ decimal (length (h .plan .rows)) ∷ [])
 
 -- all of it, with what higman says of letters and numbers
 pub record TextExact : Type 0 where
   pub grammar : GrammarExact
+  pub well-formed : WellFormedExact
   pub slots : SlotsExact
   pub decimals : DecimalsExact
-  pub held-lines : HeldLinesRead
+  pub replies : (order : Order) → RepliesWritten order

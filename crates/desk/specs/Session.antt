@@ -3,11 +3,12 @@
 -- is `SessionFed` of Theorems.antt. The example is the paper's "A session in full". Read Buffers.antt next.
 use Prim.Native.Nat.{ℕ}
 use mathlib.Core.Path.{_≡_, refl}
-use mathlib.Core.Bool.{Bool, true, false}
+use mathlib.Core.Bool.{Bool, true, false, not}
 use mathlib.Core.List.{List, [], _∷_, _++_, map}
 use mathlib.Core.Option.{none}
 use lib.Dec.{eqb, ltb}
 use lib.ListN.{length, replicate}
+use Rattle.higman.specs.Bases.{all}
 use Rattle.higman.specs.Normal.{joined, normal, normalForm, keep, compose, inverse, identity}
 use Rattle.higman.specs.Limits.{isPlanWord, maxPairs, maxDigits, maxCode, maxPower, shapeInRange, granted, isCode, slotCount}
 use Rattle.higman.specs.Answers.{verdict, followed, inverted, raised, powered, routed}
@@ -25,6 +26,10 @@ abbrev pub linesFrom : Bytes → Bytes → List Bytes
 linesFrom begun [] = elim begun [ [] ↦ [] | b ∷ l ↦ (b ∷ l) ∷ [] ]
 linesFrom begun (b ∷ input) =
     elim (eqb b lineEnd) [ true ↦ begun ∷ linesFrom [] input | false ↦ linesFrom (begun ++ (b ∷ [])) input ]
+
+-- no byte 10 in it
+abbrev pub unended : Bytes → Bool
+unended line = all (λ b. not (eqb b lineEnd)) line
 
 -- the bytes of the replies to lines, one after the other
 abbrev pub repliesTo : Order → Desk → List Bytes → Bytes

@@ -1,6 +1,6 @@
 -- The statements, for every order of U's lines. Of one line: RefusalDrops, DeskStays, DeskTest and SurveyExact. Of a session:
--- FedInPieces (wherever its input is cut), SessionFed (what the state holds of a line is enough), TypedIn, AcceptedFromLines and
--- ListingReadBack. Of a library call: CallsExact. proofs/ has one term of each. Read Conditions.antt next.
+-- LinesExact, LinesFed, FedInPieces (wherever its input is cut), SessionFed (what the state holds of a line is enough), TypedIn,
+-- AcceptedFromLines and ListingReadBack. Of a library call: CallsExact. proofs/ has one term of each. Read Conditions.antt next.
 use Prim.Native.Nat.{ℕ, suc, _≤_, _<_}
 use mathlib.Core.Path.{_≡_}
 use mathlib.Core.Logic.{_↔_}
@@ -10,7 +10,7 @@ use mathlib.Core.Option.{Option, none, some}
 use lib.Dec.{T}
 use lib.ListN.{length}
 use Rattle.higman.specs.Words.{Shape}
-use Rattle.higman.specs.Text.{Bytes, decimal, wordOf}
+use Rattle.higman.specs.Text.{Bytes, lineEnd, decimal, wordOf}
 use Rattle.higman.specs.Bases.{all}
 use Rattle.higman.specs.Tables.{Table}
 use Rattle.higman.specs.Normal.{keep}
@@ -24,7 +24,7 @@ use Rattle.desk.specs.Desk.{Desk, countOf, held, IsDesk, isDesk, freshDe
 use Rattle.desk.specs.Records.{Record, P, M, E, recordText, wellFormed}
 use Rattle.desk.specs.Replies.{refuse, pass, Effect, lists, surveys, Held, heldFrom, okNumber, refuses, respondLine, run, deskAfter}
 use Rattle.desk.specs.Bytes.{lineOf, okLine, heldFields, Order, replyBytes}
-use Rattle.desk.specs.Session.{State, idle, feed, fedWhole, session}
+use Rattle.desk.specs.Session.{linesFrom, unended, State, idle, feed, finish, fedWhole, session}
 use Rattle.desk.specs.Buffers.{Work, lentCall, plainCall}
 
 -- "Any refusal drops an open plan and changes nothing else."
@@ -75,6 +75,25 @@ pub record FedInPieces : Type 0 where
 abbrev pub SessionFed : Type 0
 SessionFed = (order : Order) (input : Bytes) → fedWhole order (idle freshDesk) input ≡ session order input
 
+-- "lines ended by byte 10. A last line without that byte counts if it isn't empty."
+pub record LinesExact : Type 0 where
+  pub none-left : linesFrom [] [] ≡ []
+  pub ended : (line rest : Bytes) → T (unended line) → linesFrom [] (line ++ lineEnd ∷ rest) ≡ line ∷ linesFrom [] rest
+  pub last : (b : ℕ) (line : Bytes) → T (unended (b ∷ line)) → linesFrom [] (b ∷ line) ≡ (b ∷ line) ∷ []
+
+-- what a line's effect leaves to be fed
+abbrev pub thenFed : Order → Effect → Bytes → State × Bytes
+thenFed order e rest = let q = feed order (idle (e .0)) rest in (q .0, replyBytes order (e .1) ++ q .1)
+
+-- A line that is fed, however long, is answered as a whole; at the end of input a line that has begun is answered if it isn't empty, and
+-- "An open plan is dropped".
+pub record LinesFed : Type 0 where
+  pub ended : (order : Order) (d : Desk) (line rest : Bytes) → T (unended line)
+      → feed order (idle d) (line ++ lineEnd ∷ rest) ≡ thenFed order (respondLine d line) rest
+  pub last : (order : Order) (d : Desk) (b : ℕ) (line : Bytes) → T (unended (b ∷ line))
+      → let e = respondLine d (b ∷ line) in finish order (feed order (idle d) (b ∷ line) .0) ≡ (dropped (e .0), replyBytes order (e .1))
+  pub none-left : (order : Order) (d : Desk) → finish order (idle d) ≡ (dropped d, [])
+
 -- What is typed is what the lines say: P and M records of words within the limits, typed into a desk with no open plan, get no reply
 -- and open just the plan that they spell, in their order. Whatever follows, E first of all, meets that plan.
 abbrev pub TypedIn : Type 0
@@ -104,7 +123,7 @@ pub record Acceptable (d : Desk) (b : ℕ) (s : Shape) (t : Table) : Type 0 wher
   pub bases : Bases s t
   pub room : countOf d < maxChanges
 
--- "plans accepted exactly when both columns are bases", from the typed lines on: on a desk with no open plan a plan is kept where all
+-- Plans are accepted exactly when both columns are bases, from the typed lines on: on a desk with no open plan a plan is kept where all
 -- that is asked holds, and otherwise the desk is as it was.
 pub record AcceptedFromLines : Type 0 where
   pub kept : (d : Desk) → d .draft ≡ none → (b : ℕ) (s : Shape) (ps : List TypedPair) → T (all wellFormed (typedRecords b s ps))

@@ -2,17 +2,17 @@
 -- and the two columns of an M record can be read back. And letters name slots one to one.
 use Prim.Native.Nat.{ℕ, suc, _≤_, _<_}
 use mathlib.Core.Path.{_≡_, refl, ap, ap₂}
-use mathlib.Core.List.{List, [], _∷_, _++_, nil≢cons, cons≢nil, head-eq-of-cons-eq, tail-eq-of-cons-eq, append-assoc, append-cancel-right}
+use mathlib.Core.List.{List, [], _∷_, _++_, nil≢cons, cons≢nil, head-eq-of-cons-eq, tail-eq-of-cons-eq, append-assoc, append-cancel-right, map-append}
 use native.Mathlib.Omega.{arith}
 use lib.Dec.{T, leb, leb→le, le→leb}
 use Rattle.higman.specs.Words.{Word}
 use Rattle.higman.specs.Tables.{Pair, Table}
 use Rattle.higman.specs.Limits.{Plan, slotCount}
-use Rattle.higman.specs.Text.{byte, tab, lineEnd, digitByte, wordBytes}
+use Rattle.higman.specs.Text.{byte, tab, lineEnd, digitByte, wordBytes, wordOf}
 use Rattle.higman.specs.Listing.{slotByte, isSlot, pairRecord, closeRecord, pairRecords, joinLines, listing}
 use Rattle.higman.specs.Theorems.{ListingFaithful, SlotsExact}
 use Rattle.higman.proofs.Tests.{and-left, and-right, and-intro, pair-path, ways-of-test}
-use Rattle.higman.proofs.Text.{word-of-bytes}
+use Rattle.higman.proofs.Text.{word-of-bytes, bytes-of-word}
 
 digit-of-byte : (d c : ℕ) → digitByte d ≡ digitByte c → d ≡ c
 digit-of-byte d c e = omega arith
@@ -51,6 +51,8 @@ plan-read-back slot a b e =
 pub listing-faithful : ListingFaithful
 listing-faithful = record {
   words = λ w h. word-of-bytes w (ways-of-test 9 w h);
+  bytes = λ code h. bytes-of-word code (ways-of-test 9 (wordOf code) h);
+  last-digit = λ w d. map-append digitByte w (d ∷ []);
   records = λ t u. (λ e. lines-read-back t u (ap joinLines e), ap pairRecords);
   lines = λ t u. (lines-read-back t u, ap (λ t. joinLines (pairRecords t)));
   whole-listing = λ slot a b. (plan-read-back slot a b, ap (listing slot));

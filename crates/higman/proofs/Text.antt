@@ -8,7 +8,7 @@ use native.Mathlib.Omega.{arith}
 use lib.Dec.{leb}
 use borrow.Author.Tests.{leb-true, leb-false, le-leb, lt-leb}
 use Rattle.higman.specs.Words.{Word}
-use Rattle.higman.specs.Text.{digitByte, wordBytes, digitOf, wordOf}
+use Rattle.higman.specs.Text.{Bytes, digitByte, wordBytes, digitOf, wordOf}
 use Rattle.higman.proofs.Tests.{passes, Digit, Ways}
 
 -- the digit of a byte: under '1', over '9' and between
@@ -41,3 +41,16 @@ digit-of-byte d h = omega (arith, digit-within (48 + d) (omega arith) (omega ari
 pub word-of-bytes : (w : Word) → Ways 9 w → wordOf (wordBytes w) ≡ w
 word-of-bytes [] h = refl
 word-of-bytes (d ∷ w) h = ap₂ _∷_ (digit-of-byte d (h .0)) (word-of-bytes w (h .1))
+
+-- a byte that stands for a digit from 1 to 9 is that digit's byte
+byte-of-digit : (b : ℕ) → Digit 9 (digitOf b) → digitByte (digitOf b) ≡ b
+byte-of-digit b h = by-range (passes (leb 49 b)) (passes (leb b 57))
+  where
+    by-range : (leb 49 b ≡ true) ⊎ (leb 49 b ≡ false) → (leb b 57 ≡ true) ⊎ (leb b 57 ≡ false) → digitByte (digitOf b) ≡ b
+    by-range (inl l) (inl k) = omega (arith, leb-true 49 b l, digit-within b (leb-true 49 b l) (leb-true b 57 k))
+    by-range (inl l) (inr k) = absurd (omega (arith, digit-over b (leb-false b 57 k)))
+    by-range (inr l) k = absurd (omega (arith, digit-under b (leb-false 49 b l)))
+
+pub bytes-of-word : (code : Bytes) → Ways 9 (wordOf code) → wordBytes (wordOf code) ≡ code
+bytes-of-word [] h = refl
+bytes-of-word (b ∷ code) h = ap₂ _∷_ (byte-of-digit b (h .0)) (bytes-of-word code (h .1))

@@ -9,7 +9,7 @@ use Rattle.higman.specs.Words.{Shape, Word, spell}
 use Rattle.higman.specs.Tables.{Table, row, φ, ψ}
 use Rattle.higman.specs.Normal.{keep}
 use Rattle.higman.specs.Limits.{Plan}
-use Rattle.higman.specs.Refusals.{Letter, F, T, wordsOverlap, rootUncovered, codeTooShort}
+use Rattle.higman.specs.Refusals.{Letter, F, T}
 use Rattle.higman.specs.Answers.{Accepted, InFrom, InTo, reasonNumber, verdict, refusalNumber, Answer, Granted, Refused, followed}
 use Rattle.higman.specs.Answers.{inverted, powered, Route, Image, routeNumber, routed}
 
@@ -84,11 +84,11 @@ starCases =
     -- "11→12, 12→11 keeps two."
     (typed (row 11 12 ∷ row 12 11 ∷ []) gives kept (row 11 12 ∷ row 12 11 ∷ [])) ∷
     -- "to column 1, 11: 6, T."
-    (typed (row 11 1 ∷ row 12 11 ∷ []) gives refusesColumn wordsOverlap T) ∷
+    (typed (row 11 1 ∷ row 12 11 ∷ []) gives refusesColumn 6 T) ∷
     -- "no pairs: 7, F."
-    (typed [] gives refusesColumn rootUncovered F) ∷
+    (typed [] gives refusesColumn 7 F) ∷
     -- "11→11, 121→121, 122→1221: 7, T."
-    (typed (row 11 11 ∷ row 121 121 ∷ row 122 1221 ∷ []) gives refusesColumn rootUncovered T) ∷
+    (typed (row 11 11 ∷ row 121 121 ∷ row 122 1221 ∷ []) gives refusesColumn 7 T) ∷
     -- "φ squared: 111→112, 112→111, 121→122, 122→121."
     (powerOf (typed φ) (pos 2) gives kept (row 111 112 ∷ row 112 111 ∷ row 121 122 ∷ row 122 121 ∷ [])) ∷
     -- "φ inverse: 11→12, 121→112, 122→111."
@@ -100,7 +100,7 @@ starCases =
     -- "ψ on 12 gives 122"
     (routeOf (typed ψ) (spell 12) gives sends (Image (spell 122))) ∷
     -- "on 11 gives 13."
-    (routeOf (typed ψ) (spell 11) gives refuses codeTooShort) ∷
+    (routeOf (typed ψ) (spell 11) gives refuses 13) ∷
     []
 
 -- "The ★ cases stand in one table, proved through one statement about the definitions."

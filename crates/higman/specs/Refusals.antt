@@ -80,3 +80,12 @@ letterByte T = byte "T"
 
 letterByte-example : map letterByte (F ∷ T ∷ []) ≡ 70 ∷ 84 ∷ []
 letterByte-example = refl
+
+-- the paper's numbers, in its order
+numbers-example : noRecord ∷ wrongState ∷ shapeOutside ∷ badWord ∷ pairsFull ∷ wordsOverlap ∷ rootUncovered ∷ slotOutside ∷ slotEmpty ∷ []
+    ≡ 1 ∷ 2 ∷ 3 ∷ 4 ∷ 5 ∷ 6 ∷ 7 ∷ 8 ∷ 9 ∷ []
+numbers-example = refl
+
+later-numbers-example : shapesDiffer ∷ limitBroken ∷ powerOutside ∷ codeTooShort ∷ bufferTooShort ∷ invalidValue ∷ countFull ∷ []
+    ≡ 10 ∷ 11 ∷ 12 ∷ 13 ∷ 14 ∷ 15 ∷ 16 ∷ []
+later-numbers-example = refl

@@ -1,17 +1,17 @@
--- The statements. proofs/ has one term of each: ColumnIsBasis and BasisSize (what "accepted exactly when both columns are bases"
--- rests on), NormalForm, GroupActs, ResultsReduced, MinimalExpansion, AnswersExact, Demand3, ListingFaithful,
--- SlotsExact and DecimalsExact. They hold for every arity and number of roots.
+-- The statements. proofs/ has one term of each: ColumnIsBasis and BasisSize (what it rests on that plans are
+-- accepted exactly when both columns are bases), NormalForm, GroupActs, ResultsReduced, MinimalExpansion, AnswersExact, Demand3, ListingFaithful,
+-- SlotsExact and DecimalsExact. They hold for every arity of at least 1 and every number of roots. Read Algebras.antt next.
 use Prim.Native.Nat.{ℕ, suc, _+_, _*_, _-_, _≤_, _<_}
 use mathlib.Core.Path.{_≡_}
 use mathlib.Core.Logic.{_↔_}
 use mathlib.Core.Bool.{true, false}
-use mathlib.Core.List.{List, _∷_, _++_, List·Memᴰ}
+use mathlib.Core.List.{List, [], _∷_, _++_, List·Memᴰ}
 use mathlib.Core.Option.{some}
 use lib.Dec.{T, leb}
 use lib.ListN.{length}
 use lib.IntN.{ℤ, pos, negsuc, natAbs, _+ℤ_, _*ℤ_}
-use Rattle.higman.specs.Words.{Shape, Word, isWays, isWord}
-use Rattle.higman.specs.Text.{wordBytes, isNumeral, spelledOut, noLeadingZero, decimal, wordOf}
+use Rattle.higman.specs.Words.{Shape, Word, isWays, isWord, child}
+use Rattle.higman.specs.Text.{Bytes, digitByte, wordBytes, isNumeral, spelledOut, noLeadingZero, decimal, wordOf}
 use Rattle.higman.specs.Bases.{Basis, Column, all}
 use Rattle.higman.specs.Tables.{Pair, Table, froms, tos, image, longEnough}
 use Rattle.higman.specs.Normal.{keep, andThen, times, compose, inverse, identity, repeated, power, Reduced, ordered, Joins}
@@ -40,7 +40,7 @@ pub record NormalForm : Type 0 where
   pub own : (s : Shape) → 1 ≤ s .arity → (t : Table) → Bases s t → (Reduced (s .arity) t × (ordered (froms t) ≡ true)) ↔ (keep s t ≡ t)
   -- it is reached from the table by joins, and the pairs listed in order
   pub reached : (s : Shape) → 1 ≤ s .arity → (t : Table) → Bases s t → Joins (s .arity) t (keep s t)
-  -- Lemma 4.3: "it doesn't depend on which join came first"
+  -- after Lemma 4.3: "it doesn't depend on which join came first"
   pub any-joins : (s : Shape) → 1 ≤ s .arity → (t u : Table) → Bases s t → Joins (s .arity) t u → Reduced (s .arity) u → ordered (froms u) ≡ true → u ≡ keep s t
 
 -- Compositions, inverses and powers act as those of the group G(n,r), on blocks and so on codes of any length, and have bases for
@@ -133,10 +133,12 @@ pub record Demand3 : Type 0 where
   -- the M records agree exactly when every code long enough for both, whatever its length, is sent to the same place
   pub same-listing : (a b : Plan) → Kept a → Kept b → a .shape ≡ b .shape → (pairRecords (a .rows) ≡ pairRecords (b .rows)) ↔ ActAlike a b
 
--- "a listing read back is the same plan" rests on this: the bytes determine the slot's plan, and the M records the table.
+-- That a listing read back is the same plan rests on this: the bytes determine the slot's plan, and the M records the table.
 pub record ListingFaithful : Type 0 where
-  -- the bytes of a word of digits 1 to 9 spell it
+  -- the bytes of a word of digits 1 to 9 spell it, first digit first, and no other bytes do
   pub words : (w : Word) → T (isWays 9 w) → wordOf (wordBytes w) ≡ w
+  pub bytes : (code : Bytes) → T (isWays 9 (wordOf code)) → wordBytes (wordOf code) ≡ code
+  pub last-digit : (w : Word) (d : ℕ) → wordBytes (child w d) ≡ wordBytes w ++ digitByte d ∷ []
   pub records : (t u : Table) → (pairRecords t ≡ pairRecords u) ↔ (t ≡ u)
   pub lines : (t u : Table) → (joinLines (pairRecords t) ≡ joinLines (pairRecords u)) ↔ (t ≡ u)
   pub whole-listing : (slot : ℕ) (a b : Plan) → (listing slot a ≡ listing slot b) ↔ (a ≡ b)

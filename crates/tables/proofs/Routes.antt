@@ -24,7 +24,7 @@ use Rattle.higman.specs.Buffers.{written}
 use Rattle.higman.proofs.Buffers.{with-room, without-room, lent-written, lent-as-it-was}
 use Rattle.words.specs.Writing.{Wrote}
 use Rattle.words.proofs.Packed.{packed-length}
-use Rattle.higman.proofs.Text.{digit-under, digit-over, digit-within}
+use Rattle.higman.proofs.Text.{bytes-of-word, digit-over, digit-under, digit-within}
 use Rattle.words.proofs.Codes.{digits-drop, begins-take, after-drop}
 use Rattle.columns.specs.Packed.{wordsOf, table}
 use Rattle.columns.specs.Columns.{wordAt, placeIn}
@@ -80,19 +80,6 @@ begins-within p code b =
     let t = tail-of-begins p (wordOf code) b in
     omega (arith, ap length (t .1), length-append p (t .0), length-map code digitOf)
 
-byte-of-digit : (b : ℕ) → 1 ≤ digitOf b → digitByte (digitOf b) ≡ b
-byte-of-digit b h = go (passes (leb 49 b)) (passes (leb b 57))
-  where
-    go : (leb 49 b ≡ true) ⊎ (leb 49 b ≡ false) → (leb b 57 ≡ true) ⊎ (leb b 57 ≡ false) → digitByte (digitOf b) ≡ b
-    go (inl p) (inl q) = omega (arith, leb-true 49 b p, digit-within b (leb-true 49 b p) (leb-true b 57 q))
-    go (inl p) (inr q) = absurd (omega (arith, digit-over b (leb-false b 57 q)))
-    go (inr p) q = absurd (omega (arith, digit-under b (leb-false 49 b p)))
-
--- the bytes of a code are those of its word
-bytes-of-code : (code : List ℕ) → Ways 9 (wordOf code) → wordBytes (wordOf code) ≡ code
-bytes-of-code [] h = refl
-bytes-of-code (b ∷ code) h = ap₂ _∷_ (byte-of-digit b (h .0 .0)) (bytes-of-code code (h .1))
-
 -- what the first from-word that begins a code gives: the to-word, and behind it the tail
 module _
     (from to : List ℕ)
@@ -121,7 +108,7 @@ module _
       let w = wordOf code in
       let ways = ways-right 9 (take n w) (drop n w) (subst (Ways 9) (sym (take-append-drop n w)) (code-ways code t)) in
       map-append digitByte (wordAt to k) (wordOf tail)
-      ∙ ap (λ l. wordBytes (wordAt to k) ++ l) (bytes-of-code tail (subst (Ways 9) (sym (digits-drop n code)) ways))
+      ∙ ap (λ l. wordBytes (wordAt to k) ++ l) (bytes-of-word tail (subst (Ways 9) (sym (digits-drop n code)) ways))
 
   pub routed-length : length (wordBytes routed-word) ≡ length (wordAt to k) + length (drop (length (wordAt from k)) code)
   routed-length =
