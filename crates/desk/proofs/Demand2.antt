@@ -35,7 +35,7 @@ use Rattle.desk.proofs.TypedLines.{accepted-from-lines}
 use Rattle.desk.proofs.Outcomes.{Passes, stops, passes, passes-then, any-then, passed, plan-held, passes-operation}
 use Rattle.desk.proofs.Stays.{below-limit, slot-of-record}
 use Rattle.desk.proofs.OpenPlans.{close-pass, close-steps, draft-verdict}
-use Rattle.desk.proofs.Replies.{replies-exact, desk-parts}
+use Rattle.desk.proofs.Replies.{replies-exact, slots-used, desk-parts}
 use Rattle.desk.proofs.Surveys.{survey-exact}
 
 -- what the answers about plans pass on
@@ -268,6 +268,7 @@ demand2 =
       routes = routes;
       compares = compares;
       replies = replies-exact;
+      slots-used = slots-used;
       desk-parts = desk-parts;
       survey = survey-exact;
       typed-in = typed-in;

@@ -1,9 +1,10 @@
 -- What P, M, C, L, T and U do when they are not refused, which records change slots and count, and what a change is.
 use Prim.Native.Nat.{ℕ, zero, suc, _+_, _<_}
 use native.Mathlib.Omega.{arith}
-use mathlib.Core.Path.{_≡_, refl, sym, ap, subst}
+use mathlib.Core.Path.{_≡_, refl, sym, _∙_, ap, subst}
 use mathlib.Core.Bool.{Bool, true, false}
-use mathlib.Core.List.{List, [], _∷_}
+use mathlib.Core.List.{List, [], _∷_, List·Memᴰ, List·Memᴰ·head, List·Memᴰ·tail, List·Memᴰ·cases-cons, List·Memᴰ·not-nil}
+use mathlib.Core.Logic.{_⊎_, inl, inr}
 use mathlib.Core.Option.{Option, none, some}
 use lib.ListN.{length, getD, set, replicate}
 use Rattle.higman.specs.Words.{given}
@@ -11,10 +12,11 @@ use Rattle.higman.specs.Limits.{Plan, slotCount}
 use Rattle.higman.proofs.Tests.{clash}
 use Rattle.higman.specs.Text.{Bytes, wordOf}
 use Rattle.desk.specs.Desk.{Draft, Desk, freshDesk, countOf, held, changed, withDraft, withPair, dropped}
-use Rattle.desk.specs.Records.{Record, P, M, E, F, I, K, S, W, L, C, T, U, needsOpen, isChange}
+use Rattle.desk.specs.Records.{Record, P, M, E, F, I, K, S, W, L, C, T, U, Use, reads, target, SlotUse, reading, writing, needsOpen}
+use Rattle.desk.specs.Records.{slotsNamed, isChange}
 use Rattle.higman.specs.Listing.{slotNumber}
 use Rattle.desk.specs.Replies.{Effect, silent, ok, okNumber, lists, surveys, isOpen, heldFrom, newDraft, job, operation}
-use Rattle.desk.specs.Demands.{RepliesExact, DeskParts}
+use Rattle.desk.specs.Demands.{RepliesExact, SlotsUsed, DeskParts}
 use Rattle.desk.proofs.Outcomes.{Passes, passes, passes-then, any-then, passed, plan-held, plan-open, passes-operation}
 
 -- no plan is open where the test says so
@@ -135,4 +137,86 @@ desk-parts =
       changed-open = λ d i x. refl;
       drafted = λ d o. (refl, refl, refl);
       dropped-parts = λ d. (refl, refl, refl);
+    }
+
+-- a slot that is read holds a plan, at the first place of some uses and at the others
+abbrev ReadsHeld : Desk → List SlotUse → Type 0
+ReadsHeld d us = (u : SlotUse) → List·Memᴰ u us → u .does ≡ reads → (p : Plan) × (held d (slotNumber (u .slot)) ≡ some p)
+
+no-uses : (d : Desk) → ReadsHeld d []
+no-uses d u m e = absurd (List·Memᴰ·not-nil m)
+
+reading-held : (d : Desk) (a : ℕ) (us : List SlotUse) (p : Plan) → held d (slotNumber a) ≡ some p → ReadsHeld d us → ReadsHeld d (reading a ∷ us)
+reading-held d a us p x rest u m e = by-place (List·Memᴰ·cases-cons m)
+  where
+    by-place : (u ≡ reading a) ⊎ List·Memᴰ u us → (q : Plan) × (held d (slotNumber (u .slot)) ≡ some q)
+    by-place (inl h) = (p, subst (λ v. held d (slotNumber (v .slot)) ≡ some p) (sym h) x)
+    by-place (inr k) = rest u k e
+
+abbrev IsTarget : Use → Type 0
+IsTarget reads = ⊥
+IsTarget target = Unit {0}
+
+writing-held : (d : Desk) (a : ℕ) (us : List SlotUse) → ReadsHeld d us → ReadsHeld d (writing a ∷ us)
+writing-held d a us rest u m e = by-place (List·Memᴰ·cases-cons m)
+  where
+    by-place : (u ≡ writing a) ⊎ List·Memᴰ u us → (q : Plan) × (held d (slotNumber (u .slot)) ≡ some q)
+    by-place (inl h) = absurd (subst IsTarget (sym (ap (λ v. v .does) h) ∙ e) tt)
+    by-place (inr k) = rest u k e
+
+job-reads : (d : Desk) (r : Record) → Passes (λ _. ReadsHeld d (slotsNamed r)) (job d r)
+unfolding job slotsNamed
+job-reads d (P a n r) = any-then _ (λ _. passes (writing-held d a [] (no-uses d)))
+job-reads d (M from to) = any-then _ (λ _. any-then _ (λ _. any-then _ (λ _. passes (no-uses d))))
+job-reads d E = any-then _ (λ _. any-then _ (λ _. passes (no-uses d)))
+job-reads d (F a b c) =
+    passes-then (plan-held d a) (λ p x. passes-then (plan-held d b) (λ q y. any-then _ (λ _. passes
+    (reading-held d a (reading b ∷ writing c ∷ []) p x (reading-held d b (writing c ∷ []) q y (writing-held d c [] (no-uses d)))))))
+job-reads d (I a c) =
+    passes-then (plan-held d a) (λ p x. any-then _ (λ _. passes (reading-held d a (writing c ∷ []) p x (writing-held d c [] (no-uses d)))))
+job-reads d (K a k c) =
+    any-then _ (λ _. passes-then (plan-held d a) (λ p x. any-then _ (λ _. passes
+    (reading-held d a (writing c ∷ []) p x (writing-held d c [] (no-uses d))))))
+job-reads d (S a b) =
+    passes-then (plan-held d a) (λ p x. passes-then (plan-held d b) (λ q y. any-then _ (λ _. passes
+    (reading-held d a (reading b ∷ []) p x (reading-held d b [] q y (no-uses d))))))
+job-reads d (W a code) = passes-then (plan-held d a) (λ p x. any-then _ (λ _. passes (reading-held d a [] p x (no-uses d))))
+job-reads d (L a) = passes-then (plan-held d a) (λ p x. passes (reading-held d a [] p x (no-uses d)))
+job-reads d (C a) = any-then _ (λ _. passes (writing-held d a [] (no-uses d)))
+job-reads d T = passes (no-uses d)
+job-reads d U = passes (no-uses d)
+
+-- slots other than the targets are as they were
+abbrev Spares : Desk → Record → Effect → Type 0
+Spares d r e =
+    needsOpen r ≡ false → (j : ℕ) → ((u : SlotUse) → List·Memᴰ u (slotsNamed r) → u .does ≡ target → slotNumber (u .slot) ≡ j → ⊥)
+    → held (e .0) j ≡ held d j
+
+job-spares : (d : Desk) (r : Record) → Passes (Spares d r) (job d r)
+unfolding job needsOpen slotsNamed withDraft
+job-spares d (P a n r) = any-then _ (λ _. passes (λ o j h. refl))
+job-spares d (M from to) = any-then _ (λ _. any-then _ (λ _. any-then _ (λ _. passes (λ o. absurd (clash refl o)))))
+job-spares d E = any-then _ (λ _. any-then _ (λ _. passes (λ o. absurd (clash refl o))))
+job-spares d (F a b c) =
+    any-then _ (λ _. any-then _ (λ _. any-then _ (λ r. passes (λ o j h. desk-parts .changed-elsewhere d (slotNumber c) j (some r)
+    (h (writing c) (List·Memᴰ·tail (List·Memᴰ·tail (List·Memᴰ·head refl))) refl)))))
+job-spares d (I a c) =
+    any-then _ (λ _. any-then _ (λ r. passes (λ o j h. desk-parts .changed-elsewhere d (slotNumber c) j (some r)
+    (h (writing c) (List·Memᴰ·tail (List·Memᴰ·head refl)) refl))))
+job-spares d (K a k c) =
+    any-then _ (λ _. any-then _ (λ _. any-then _ (λ r. passes (λ o j h. desk-parts .changed-elsewhere d (slotNumber c) j (some r)
+    (h (writing c) (List·Memᴰ·tail (List·Memᴰ·head refl)) refl)))))
+job-spares d (S a b) = any-then _ (λ _. any-then _ (λ _. any-then _ (λ _. passes (λ o j h. refl))))
+job-spares d (W a code) = any-then _ (λ _. any-then _ (λ _. passes (λ o j h. refl)))
+job-spares d (L a) = any-then _ (λ _. passes (λ o j h. refl))
+job-spares d (C a) =
+    any-then _ (λ _. passes (λ o j h. desk-parts .changed-elsewhere d (slotNumber a) j none (h (writing a) (List·Memᴰ·head refl) refl)))
+job-spares d T = passes (λ o j h. refl)
+job-spares d U = passes (λ o j h. refl)
+
+pub slots-used : SlotsUsed
+slots-used =
+    record {
+      reads-held = λ d r e h. passed (passes-operation d r (λ _. job-reads d r)) e h;
+      only-targets = λ d r e h. passed (passes-operation d r (λ _. job-spares d r)) e h;
     }

@@ -17,7 +17,8 @@ use Rattle.desk.specs.Limits.{maxLine}
 use Rattle.desk.specs.Desk.{Desk, dropped}
 use Rattle.desk.specs.Replies.{_>>=_, refuse, settle, recordOf, lineOperation, respondLine, run}
 use Rattle.desk.specs.Bytes.{Order, replyBytes}
-use Rattle.desk.specs.Session.{unended, State, idle, grown, effectOf, lineEnded, feedByte, feed, finish, linesFrom, repliesTo, fedWhole}
+use Rattle.desk.specs.Session.{unended, State, idle, grown, effectOf, lineEnded, feedByte, feed, finish, linesFrom, repliesTo}
+use Rattle.desk.specs.Session.{fedWhole}
 use Rattle.desk.specs.Session.{session}
 use Rattle.desk.specs.Theorems.{LinesExact, thenFed, LinesFed, feedBoth, feedPieces, FedInPieces, SessionFed}
 

@@ -52,10 +52,10 @@ lentCall order d work buffer =
       | false ↦ (d, lent buffer (refuse invalidValue none))
     ]
 
--- A call that works on a desk and is lent nothing: the reply is its value.
 abbrev pub replyOf : Outcome Effect → Outcome Reply
 replyOf o = o >>= λ e. pass (e .1)
 
+-- A call that works on a desk and is lent nothing: the reply is its value.
 unfoldable pub plainCall : Desk → Work → Desk × Outcome Reply
 plainCall d work = elim (isDesk d) [ true ↦ (settle d (work d) .0, replyOf (work d)) | false ↦ (d, refuse invalidValue none) ]
 

@@ -15,7 +15,7 @@ use Rattle.higman.specs.Words.{count, given, beginsProperly}
 use Rattle.higman.specs.Bases.{all, anyOf, overlap, gap}
 use Rattle.higman.specs.Tables.{froms, tos}
 use Rattle.higman.specs.Normal.{compose, power}
-use Rattle.higman.specs.Limits.{Plan, shapeInRange, granted, isCode, maxPairs, maxPower, slotCount, isPlanWord}
+use Rattle.higman.specs.Limits.{Plan, shapeInRange, granted, isCode, maxPairs, maxPower, slotCount, isPlanWord, powerInRange}
 use Rattle.higman.specs.Answers.{sameShape}
 use Rattle.higman.specs.Refusals.{wrongState, shapeOutside, badWord, pairsFull, wordsOverlap, rootUncovered, slotOutside, slotEmpty}
 use Rattle.higman.specs.Refusals.{shapesDiffer, limitBroken, powerOutside, codeTooShort, countFull, Letter}
@@ -99,7 +99,7 @@ conditions d (I a c) =
 conditions d (K a k c) =
     (wrongState if isOpen d) ∷
     (slotOutside if outsideOf (a ∷ c ∷ [])) ∷
-    (powerOutside if not (leb (natAbs k) maxPower)) ∷
+    (powerOutside if not (powerInRange k)) ∷
     (slotEmpty if isEmpty d a) ∷
     (limitBroken if ofPlan d a (λ p. anyOf (λ j. not (granted (power (p .shape) (p .rows) (pos j)))) (count 1 (natAbs k)))) ∷
     (countFull if atLimit d) ∷

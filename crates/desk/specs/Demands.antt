@@ -21,7 +21,8 @@ use Rattle.higman.specs.Refusals.{slotEmpty, shapesDiffer, limitBroken, powerOu
 use Rattle.higman.specs.Refusals.{countFull, Letter}
 use Rattle.desk.specs.Limits.{maxChanges, maxLine}
 use Rattle.desk.specs.Desk.{Draft, Desk, freshDesk, countOf, held, IsDesk, changed, withDraft, withPair, dropped}
-use Rattle.desk.specs.Records.{Record, P, M, E, F, I, K, S, W, L, C, T as Tᴿ, U, isChange, recordText, wellFormed}
+use Rattle.desk.specs.Records.{Record, P, M, E, F, I, K, S, W, L, C, T as Tᴿ, U, SlotUse, reads, target, needsOpen, slotsNamed}
+use Rattle.desk.specs.Records.{isChange, recordText, wellFormed}
 use Rattle.higman.specs.Listing.{slotNumber}
 use Rattle.desk.specs.Replies.{refuse, pass, Effect, silent, ok, okNumber, okWord, lists, surveys, refuses, heldFrom, operation}
 use Rattle.desk.specs.Replies.{lineOperation, respondLine, newDraft, closed}
@@ -122,6 +123,15 @@ pub record RepliesExact : Type 0 where
       → (e .0 .slots ≡ d .slots) × (countOf (e .0) ≡ countOf d)
   pub raises : (d : Desk) (r : Record) (e : Effect) → isChange r ≡ true → operation d r ≡ pass e → countOf (e .0) ≡ countOf d + 1
 
+-- What a record does to the slots that it names: what it reads is held, and of all slots only its targets change. (E writes to the slot
+-- of the open plan, which it does not name.)
+pub record SlotsUsed : Type 0 where
+  pub reads-held : (d : Desk) (r : Record) (e : Effect) → operation d r ≡ pass e
+      → (u : SlotUse) → List·Memᴰ u (slotsNamed r) → u .does ≡ reads → (p : Plan) × (held d (slotNumber (u .slot)) ≡ some p)
+  pub only-targets : (d : Desk) (r : Record) (e : Effect) → operation d r ≡ pass e → needsOpen r ≡ false
+      → (j : ℕ) → ((u : SlotUse) → List·Memᴰ u (slotsNamed r) → u .does ≡ target → slotNumber (u .slot) ≡ j → ⊥)
+      → held (e .0) j ≡ held d j
+
 -- E: what is kept is what was typed, reduced
 pub record KeptAsTyped (d : Desk) (o : Draft) (e : Effect) : Type 0 where
   pub effect : e ≡ (changed d (o .slot) (some (closed o)), okNumber (length (closed o .rows)))
@@ -155,6 +165,7 @@ pub record Demand2 : Type 0 where
       × ((e ≡ (d, okNumber 1)) ⊎ (e ≡ (d, okNumber 0))) × ((e ≡ (d, okNumber 1)) ↔ ActAlike p q)
   -- the other records, and what "changed" means
   pub replies : RepliesExact
+  pub slots-used : SlotsUsed
   pub desk-parts : DeskParts
   pub survey : SurveyExact
   -- what E judges is what was typed, in the order in which it was typed, and all of this from the typed lines on

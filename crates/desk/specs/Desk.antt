@@ -74,16 +74,18 @@ atCount d n = record { slots = d .slots; draft = d .draft; changes = n }
 abbrev pub withPair : Draft → Pair → Draft
 withPair o p = record { slot = o .slot; shape = o .shape; rows = o .rows ++ (p ∷ []) }
 
--- The same as `IsDraft` and `IsDesk`, as tests that compute.
+-- every plan in a slot is a kept one
 abbrev pub allHeld : List (Option Plan) → Bool
 allHeld [] = true
 allHeld (none ∷ l) = allHeld l
 allHeld (some p ∷ l) = isKept p && allHeld l
 
+-- the same as `IsDraft` of the open plan, if there is one, as a test that computes
 abbrev pub isDraft : Option Draft → Bool
 isDraft none = true
 isDraft (some o) = leb (o .slot + 1) slotCount && isTableOf (o .shape) (o .rows)
 
+-- the same as `IsDesk`
 unfoldable pub isDesk : Desk → Bool
 isDesk d = eqb (length (d .slots)) slotCount && allHeld (d .slots) && isDraft (d .draft) && leb (countOf d) maxChanges
 

@@ -40,11 +40,12 @@ pub data Record : Type 0 where
   -- U: the held slots
   U : Record
 
--- "fields parted by tabs": one more than there are tabs, and a line of no bytes is one empty field
+-- a byte in front of the first field
 abbrev pub inFront : ℕ → List Bytes → List Bytes
 inFront b [] = (b ∷ []) ∷ []
 inFront b (f ∷ fs) = (b ∷ f) ∷ fs
 
+-- "fields parted by tabs": one more than there are tabs, and a line of no bytes is one empty field
 abbrev pub fields : Bytes → List Bytes
 fields [] = [] ∷ []
 fields (b ∷ l) = elim (eqb b tab) [ true ↦ [] ∷ fields l | false ↦ inFront b (fields l) ]
@@ -142,12 +143,15 @@ signedDecimal (negsuc k) = byte "-" ∷ decimal (suc k)
 
 -- a record as it is typed: its letter and its fields
 abbrev pub recordFields : Record → List Bytes
+-- "P⇥slot⇥n⇥r opens a plan. M⇥from⇥to adds a pair. .. E closes"
 recordFields (P a n r) = bytes "P" ∷ (a ∷ []) ∷ decimal n ∷ decimal r ∷ []
 recordFields (M from to) = bytes "M" ∷ from ∷ to ∷ []
 recordFields E = bytes "E" ∷ []
+-- "F⇥a⇥b⇥c keeps *a then b* in c. I⇥a⇥c keeps the inverse. K⇥a⇥k⇥c keeps the power."
 recordFields (F a b c) = bytes "F" ∷ (a ∷ []) ∷ (b ∷ []) ∷ (c ∷ []) ∷ []
 recordFields (I a c) = bytes "I" ∷ (a ∷ []) ∷ (c ∷ []) ∷ []
 recordFields (K a k c) = bytes "K" ∷ (a ∷ []) ∷ signedDecimal k ∷ (c ∷ []) ∷ []
+-- "S⇥a⇥b", "W⇥a⇥code", "L⇥a", "C⇥a", "T", "U"
 recordFields (S a b) = bytes "S" ∷ (a ∷ []) ∷ (b ∷ []) ∷ []
 recordFields (W a code) = bytes "W" ∷ (a ∷ []) ∷ code ∷ []
 recordFields (L a) = bytes "L" ∷ (a ∷ []) ∷ []

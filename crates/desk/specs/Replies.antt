@@ -14,6 +14,7 @@ use Rattle.higman.specs.Bases.{all}
 use Rattle.higman.specs.Tables.{Table, row, φ, ψ}
 use Rattle.higman.specs.Normal.{joined, normal, normalForm, keep, compose, inverse}
 use Rattle.higman.specs.Limits.{Plan, shapeInRange, granted, isCode, maxPairs, maxDigits, maxCode, maxPower, slotCount, isPlanWord}
+use Rattle.higman.specs.Limits.{powerInRange}
 use Rattle.higman.specs.Answers.{Verdict, Accepted, InFrom, InTo, verdict, reasonNumber, Answer, Granted, Refused, refusalNumber}
 use Rattle.higman.specs.Answers.{followed, inverted, powered, Comparison, Alike, NotCompared, same, Route, Image, TooShort, NotRouted}
 use Rattle.higman.specs.Answers.{routeNumber, routed}
@@ -162,7 +163,7 @@ job d (I a c) = do
   pass (keepIn d (slotNumber c) r)
 job d (K a k c) = do
   -- 12, before the slot is looked into
-  _ ← powerOutside when not (leb (natAbs k) maxPower)
+  _ ← powerOutside when not (powerInRange k)
   -- 9
   p ← planIn d a
   -- 11

@@ -1,5 +1,5 @@
 -- The arguments, each file after those it leans on. The terms of the statements of specs/Theorems.antt and specs/Cases.antt are in
--- Columns (bases), Results (what is reduced), MinimalExpansion, Statements (normal form, group, answers), Demand3, Listing and Cases;
+-- Columns (bases), Results (what is reduced), MinimalExpansion, Statements (normal form, group, answers), Demand3, Listing, Decimals and Cases;
 -- that of specs/Automorphisms.antt is in Automorphisms, and the files from Codes on lead to it.
 pub mod Tests
 pub mod Text

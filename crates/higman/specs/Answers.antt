@@ -12,7 +12,7 @@ use Rattle.higman.specs.Bases.{all, overlap, gap}
 use Rattle.higman.specs.Tables.{Table, froms, tos, image, sameTable, row, φ, ψ}
 use Rattle.higman.specs.Normal.{joined, normal, normalForm, keep, compose, inverse, identity}
 use Rattle.higman.specs.Refusals.{badWord, wordsOverlap, rootUncovered, shapesDiffer, limitBroken, powerOutside, codeTooShort}
-use Rattle.higman.specs.Limits.{Plan, shapeInRange, granted, isCode, maxPairs, maxDigits, maxCode, maxPower}
+use Rattle.higman.specs.Limits.{Plan, shapeInRange, granted, isCode, maxPairs, maxDigits, maxCode, maxPower, powerInRange}
 
 -- "6, one word begins or equals another; 7, a belt isn't covered"
 pub data Reason : Type 0 where
@@ -38,7 +38,6 @@ unfoldable pub verdict : Shape → Table → Verdict
 verdict s t =
     elim (fault s (froms t)) [ some r ↦ InFrom r | none ↦ elim (fault s (tos t)) [ some r ↦ InTo r | none ↦ Accepted ] ]
 
--- The same as `Kept`, as a test that computes: words of a shape in range, within the limits, and a plan that E would keep just as it is.
 abbrev pub accepts : Verdict → Bool
 accepts Accepted = true
 accepts (InFrom r) = false
@@ -47,6 +46,7 @@ accepts (InTo r) = false
 abbrev pub isTableOf : Shape → Table → Bool
 isTableOf s t = shapeInRange s && granted t && all (isWord s) (froms t) && all (isWord s) (tos t)
 
+-- The same as `Kept`, as a test that computes: words of a shape in range, within the limits, and a plan that E would keep just as it is.
 unfoldable pub isKept : Plan → Bool
 isKept p = isTableOf (p .shape) (p .rows) && accepts (verdict (p .shape) (p .rows)) && sameTable (keep (p .shape) (p .rows)) (p .rows)
 
@@ -99,7 +99,7 @@ repeatable a (negsuc k) = inverse (a .shape) (a .rows)
 unfoldable pub powered : Plan → ℤ → Answer
 powered a k =
     elim
-    (leb (natAbs k) maxPower) [
+    (powerInRange k) [
       | true ↦ elim (raised (a .shape) (repeatable a k) (natAbs k)) [ some t ↦ Granted (record { shape = a .shape; rows = t }) | none ↦ Refused LimitBroken ]
       | false ↦ Refused PowerOutside
     ]

@@ -5,6 +5,7 @@ use mathlib.Core.Path.{_≡_, refl}
 use mathlib.Core.Bool.{Bool, true, false, _&&_}
 use mathlib.Core.List.{[], _∷_, map}
 use lib.Dec.{T, leb}
+use lib.IntN.{ℤ, natAbs}
 use lib.ListN.{length, replicate}
 use Rattle.higman.specs.Words.{Shape, Word, isWord, spell}
 use Rattle.higman.specs.Bases.{Basis, all}
@@ -30,6 +31,9 @@ maxCode = 1024
 -- "k outside −1,000 to 1,000"
 unfoldable pub maxPower : ℕ
 maxPower = 1000
+
+abbrev pub powerInRange : ℤ → Bool
+powerInRange k = leb (natAbs k) maxPower
 
 -- "The desk has slots A to H"
 unfoldable pub slotCount : ℕ

@@ -15,7 +15,7 @@ use Rattle.higman.specs.Text.{Bytes, digitByte, wordBytes, isNumeral, sp
 use Rattle.higman.specs.Bases.{Basis, Column, all}
 use Rattle.higman.specs.Tables.{Pair, Table, froms, tos, image, longEnough}
 use Rattle.higman.specs.Normal.{keep, andThen, times, compose, inverse, identity, repeated, power, Reduced, ordered, Joins}
-use Rattle.higman.specs.Limits.{Plan, Bases, Kept, shapeInRange, granted, isCode, maxPower, slotCount}
+use Rattle.higman.specs.Limits.{Plan, Bases, Kept, shapeInRange, granted, isCode, maxPower, slotCount, powerInRange}
 use Rattle.higman.specs.Answers.{verdict, Accepted, isKept, Granted, Refused, LimitBroken, followed, inverted, powered, repeatable}
 use Rattle.higman.specs.Answers.{identityPlan, same, Alike, routed, TooShort}
 use Rattle.higman.specs.Listing.{slotNumber, slotByte, isSlot, pairRecords, joinLines, listing}
@@ -98,7 +98,7 @@ pub record AnswersExact : Type 0 where
   -- the test that computes says whether a plan is a kept one
   pub kept-test : (p : Plan) → T (isKept p) ↔ Kept p
   -- 11 of a power: "some reduced power from 1 up to the size of k breaks a limit"
-  pub power-refused : (a : Plan) (k : ℤ) → (powered a k ≡ Refused LimitBroken) ↔ (T (leb (natAbs k) maxPower) × ((j : ℕ) × (1 ≤ j) × (j ≤ natAbs k) × (granted (repeated (a .shape) (repeatable a k) j) ≡ false)))
+  pub power-refused : (a : Plan) (k : ℤ) → (powered a k ≡ Refused LimitBroken) ↔ (T (powerInRange k) × ((j : ℕ) × (1 ≤ j) × (j ≤ natAbs k) × (granted (repeated (a .shape) (repeatable a k) j) ≡ false)))
   -- below zero: power −j is the inverse of power j, so it breaks a limit exactly where power j does
   pub power-below : (a : Plan) → Kept a → (j : ℕ) → granted (repeated (a .shape) (inverse (a .shape) (a .rows)) j) ≡ granted (repeated (a .shape) (a .rows) j)
   -- where a power is granted, it is the power
