@@ -21,4 +21,5 @@ pub mod Lists
 pub mod Handed
 pub mod Made
 pub mod ValueLaws
+pub mod CallsExact
 pub mod Theorems

@@ -24,6 +24,7 @@ use Rattle.plans.proofs.Lists.{listing-no-slot, listing-no-room, listin
 use Rattle.plans.proofs.Handed.{held-packed, words-pack, values-hold}
 use Rattle.plans.proofs.Made.{values-granted, values-act}
 use Rattle.plans.proofs.ValueLaws.{value-demand3}
+use Rattle.plans.proofs.CallsExact.{calls-exact}
 
 abbrev IsBytes : Listed → Type 0
 IsBytes (Bytes n) = Unit {0}
@@ -89,4 +90,5 @@ library-exact =
       acts = values-act;
       laws = value-demand3;
       listings = listings-exact;
+      calls = calls-exact;
     }

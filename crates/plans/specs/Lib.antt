@@ -4,6 +4,7 @@ pub mod Plans
 pub mod Answers
 pub mod Routing
 pub mod Listing
+pub mod CallsExact
 pub mod Theorems
 pub mod Keeping
 pub mod Filled

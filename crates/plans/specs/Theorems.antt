@@ -27,6 +27,7 @@ use Rattle.plans.specs.declared.Listed.the-variants.{Bytes}
 use Rattle.plans.specs.Plans.{shapeOf, planOf, inTable, isPlan, packed}
 use Rattle.plans.specs.Answers.{granting, following, inverting, raising, alike, value21}
 use Rattle.plans.specs.Listing.{listing, listedBuffer}
+use Rattle.plans.specs.CallsExact.{CallsExact}
 
 -- "A plan word packs into 64 bits, four bits a digit, its last digit lowest and zeros above."
 pub record WordsPack : Type 0 where
@@ -155,6 +156,8 @@ pub record LibraryExact : Type 0 where
   pub acts : ValuesAct
   pub laws : ValueDemand3
   pub listings : ListingsExact
+  -- the verdict, keeping, routes and matches, and the numbers of refusals
+  pub calls : CallsExact
 
 handed-example : Handed (value21 φ)
 unfolding packed isPlan inTable isKept shapeInRange granted maxPairs maxDigits verdict keep normalForm normal joined
