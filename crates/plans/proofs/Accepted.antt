@@ -20,19 +20,19 @@ use Rattle.higman.proofs.Elements.{element-swapped}
 use Rattle.higman.proofs.KeptPlans.{arity-of-range, element-of-bases, bases-of-element}
 use Rattle.higman.proofs.Statements.{table-of, answers-exact}
 use Rattle.words.specs.Packed.{unpack}
-use Rattle.plans.specs.declared.Plan.{Plan}
+use Rattle.operations.specs.declared.Plan.{Plan}
 use Rattle.plans.specs.declared.Judgement.{Judgement}
 use Rattle.plans.specs.declared.Judgement.the-variants.{NotADraft, Accepted, InFrom, InTo}
 use Rattle.plans.specs.declared.Keeping.{Keeping}
-use Rattle.plans.specs.declared.Answer.the-variants.{Granted}
-use Rattle.plans.specs.declared.Making.{Making}
+use Rattle.operations.specs.declared.Answer.the-variants.{Granted}
+use Rattle.operations.specs.declared.Making.{Making}
 use Rattle.columns.specs.Packed.{table, rows}
 use Rattle.tables.specs.Joining.{isNormal}
 use Rattle.tables.proofs.Joining.{normal-exactly}
-use Rattle.plans.specs.Plans.{shapeOf, rowsOf, planOf, inTable, isDraft, isPlan, packed, blank}
+use Rattle.operations.specs.Plans.{shapeOf, rowsOf, planOf, inTable, isDraft, isPlan, packed, blank}
 use Rattle.plans.specs.Answers.{judgementOf, judged, keptOf, keeping, noPlan, inverting}
 use Rattle.plans.proofs.Judgement.{the-type}
-use Rattle.plans.proofs.Values.{few-in-table}
+use Rattle.operations.proofs.Values.{few-in-table}
 
 abbrev IsAccepted : Judgement → Type 0
 IsAccepted NotADraft = ⊥

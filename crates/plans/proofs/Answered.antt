@@ -12,9 +12,10 @@ use Rattle.higman.specs.Answers.{sameShape, followed, same}
 use Rattle.higman.proofs.Tests.{passes, T-of, same-table}
 use Rattle.higman.proofs.Answers.{same-shape-refl}
 use Rattle.plans.specs.declared.Likeness.the-variants.{Alike, Refused}
-use Rattle.plans.specs.declared.Plan.{Plan}
-use Rattle.plans.specs.Plans.{shapeOf, rowsOf, planOf, isPlan}
-use Rattle.plans.specs.Answers.{noPlan, refusing, composing, following, likeness, alike}
+use Rattle.operations.specs.declared.Plan.{Plan}
+use Rattle.operations.specs.Plans.{shapeOf, rowsOf, planOf, isPlan}
+use Rattle.operations.specs.Answers.{refusing, composing}
+use Rattle.plans.specs.Answers.{noPlan, following, likeness, alike}
 
 pub arity-differs : (s u : Shape) → (s .arity ≡ u .arity → ⊥) → sameShape s u ≡ false
 arity-differs s u h = ap (λ x. x && eqb (s .roots) (u .roots)) (ne-eqb (s .arity) (u .arity) h)

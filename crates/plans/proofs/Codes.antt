@@ -25,12 +25,12 @@ use Rattle.tables.specs.declared.routing.Routed.{Routed}
 use Rattle.tables.specs.declared.routing.Routed.the-variants as Table
 use Rattle.columns.proofs.Rearranged.{froms-table}
 use Rattle.tables.proofs.Routes.{here}
-use Rattle.plans.specs.declared.Plan.{Plan}
+use Rattle.operations.specs.declared.Plan.{Plan}
 use Rattle.plans.specs.declared.Route.{Route}
 use Rattle.plans.specs.declared.Route.the-variants.{Image, TooShort, Refused}
-use Rattle.plans.specs.Plans.{shapeOf, rowsOf, planOf, isPlan}
+use Rattle.operations.specs.Plans.{shapeOf, rowsOf, planOf, isPlan}
 use Rattle.plans.specs.Routing.{matched, matching, routingIn, imageInto, routing, routedBuffer}
-use Rattle.plans.proofs.KeptValues.{kept, operand}
+use Rattle.operations.proofs.KeptValues.{kept, operand}
 
 pub code-limit : maxCode ≡ 1024
 unfolding maxCode

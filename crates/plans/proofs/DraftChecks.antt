@@ -16,13 +16,13 @@ use Rattle.higman.specs.Limits.{shapeInRange, granted, maxPairs, fits, pairFits
 use Rattle.higman.specs.Answers as Of
 use Rattle.higman.proofs.Tests.{passes, so, T-of, clash, and-left, and-right, and-intro, all-at, all-of}
 use Rattle.higman.proofs.Statements.{TableOf, table-of, test-table}
-use Rattle.plans.specs.declared.Plan.{Plan}
+use Rattle.operations.specs.declared.Plan.{Plan}
 use Rattle.plans.specs.declared.Fault.{Fault}
 use Rattle.plans.specs.declared.Fault.the-variants.{Sound, Faulty}
 use Rattle.plans.specs.declared.Judgement.{Judgement}
 use Rattle.plans.specs.declared.Judgement.the-variants.{NotADraft, Accepted, InFrom, InTo}
 use Rattle.columns.specs.Packed.{wordsOf}
-use Rattle.plans.specs.Plans.{shapeOf, rowsOf, zeros, isColumn, inTable, isDraft}
+use Rattle.operations.specs.Plans.{shapeOf, rowsOf, zeros, isColumn, inTable, isDraft}
 use Rattle.plans.specs.Answers.{faultOf, judgementOf, judged}
 use Rattle.columns.proofs.Rearranged.{froms-table, tos-table}
 use Rattle.columns.proofs.Rows.{table-length}

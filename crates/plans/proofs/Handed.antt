@@ -24,17 +24,17 @@ use Rattle.words.proofs.Packed.{packed-length, packed-pack}
 use Rattle.words.proofs.Sizes.{below-of-length}
 use Rattle.tables.specs.Spreading.{packedWords}
 use Rattle.tables.proofs.Lookup.{packed-at}
-use Rattle.plans.specs.declared.Plan.{Plan}
-use Rattle.plans.specs.Plans.{planOf, zeros, inTable, isPlan, column, packed}
-use Rattle.plans.specs.Filled.{filling}
-use Rattle.plans.specs.Theorems.{WordsPack, Handed, pairAt, ValuesHold}
-use Rattle.plans.proofs.Plan.{the-row}
-use Rattle.plans.proofs.Sizes.{from-long, to-long}
-use Rattle.plans.proofs.Values.{pairs-by-place}
+use Rattle.operations.specs.declared.Plan.{Plan}
+use Rattle.operations.specs.Plans.{planOf, pairAt, zeros, inTable, isPlan, column, packed}
+use Rattle.operations.specs.Filled.{filling}
+use Rattle.plans.specs.Theorems.{WordsPack, Handed, ValuesHold}
+use Rattle.operations.proofs.Plan.{the-row}
+use Rattle.operations.proofs.Sizes.{from-long, to-long}
+use Rattle.operations.proofs.Values.{pairs-by-place}
 use Rattle.plans.proofs.Accepted.{kept-plan}
-use Rattle.plans.proofs.Filled.{filled-packed}
-use Rattle.plans.proofs.KeptValues.{pair-limit, pairs-few, kept, plain}
-use Rattle.plans.proofs.Repacked.{holds, packed-is-plan}
+use Rattle.operations.proofs.Filled.{filled-packed}
+use Rattle.operations.proofs.KeptValues.{pair-limit, pairs-few, kept, plain}
+use Rattle.operations.proofs.Repacked.{holds, packed-is-plan}
 
 -- a number that holds a word of at most maxDigits digits has 64 bits
 packed-below : (x : ℕ) → T (isPacked x) → x < 2 ^ 64

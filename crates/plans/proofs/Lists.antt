@@ -14,9 +14,9 @@ use Rattle.higman.specs.Listing.{slotByte, isSlot, listing as linesOf}
 use Rattle.higman.specs.Buffers.{lentInto}
 use Rattle.higman.proofs.Buffers.{with-room, without-room, lent-written, lent-as-it-was}
 use Rattle.words.specs.Writing.{Wrote}
-use Rattle.plans.specs.declared.Plan.{Plan}
+use Rattle.operations.specs.declared.Plan.{Plan}
 use Rattle.plans.specs.declared.Listed.the-variants.{Bytes, Refused}
-use Rattle.plans.specs.Plans.{planOf, isPlan}
+use Rattle.operations.specs.Plans.{planOf, isPlan}
 use Rattle.plans.specs.Listing.{listingIn, listing, listedBuffer}
 
 pub slot-low : (b : ℕ) → b < byte "A" → false ≡ isSlot b

@@ -18,16 +18,17 @@ use Rattle.higman.proofs.KeptPlans.{arity-of-range}
 use Rattle.higman.proofs.Answers.{followed-is, grant-of, followed-cases, inverted-cases, powered-cases, Raised, raised-cases}
 use Rattle.higman.proofs.Demand3.{demand3}
 use Rattle.higman.proofs.Statements.{group-acts}
-use Rattle.plans.specs.declared.Plan.{Plan}
-use Rattle.plans.specs.declared.Making.{Making}
-use Rattle.plans.specs.declared.Answer.the-variants.{Granted}
-use Rattle.plans.specs.Plans.{shapeOf, rowsOf, planOf, packed}
-use Rattle.plans.specs.Answers.{making, granting, following, inverting, repeated, raising}
+use Rattle.operations.specs.declared.Plan.{Plan}
+use Rattle.operations.specs.declared.Making.{Making}
+use Rattle.operations.specs.declared.Answer.the-variants.{Granted}
+use Rattle.operations.specs.Plans.{shapeOf, rowsOf, planOf, packed}
+use Rattle.operations.specs.Answers.{making, granting, repeated}
+use Rattle.plans.specs.Answers.{following, inverting, raising}
 use Rattle.plans.specs.Theorems.{Handed, sends, SendsAs, PowerWithin, ValuesGranted, ValuesAct}
-use Rattle.plans.proofs.KeptValues.{kept}
+use Rattle.operations.proofs.KeptValues.{kept}
 use Rattle.plans.proofs.Answered.{both-plans}
-use Rattle.plans.proofs.Repacked.{holds}
-use Rattle.plans.proofs.Raised.{not-refused}
+use Rattle.operations.proofs.Repacked.{holds}
+use Rattle.operations.proofs.Raised.{not-refused}
 use Rattle.plans.proofs.Powered.{raising-plan, raising-outside, raising-within}
 use Rattle.plans.proofs.Handed.{packed-handed, held-packed}
 

@@ -18,12 +18,13 @@ use Rattle.higman.specs.Answers.{raised, powered, inverted, repeatable}
 use Rattle.higman.proofs.Group.{inverse-member}
 use Rattle.higman.proofs.KeptPlans.{arity-of-range, member-of-kept, kept-of-member}
 use Rattle.higman.proofs.Demand3.{inverse-granted}
-use Rattle.plans.specs.declared.Plan.{Plan}
-use Rattle.plans.specs.declared.Making.{Making}
-use Rattle.plans.specs.Plans.{shapeOf, rowsOf, planOf, isPlan, packed}
-use Rattle.plans.specs.Answers.{making, noPlan, refusing, repeated, repeating, inverting, raising}
-use Rattle.plans.proofs.KeptValues.{kept}
-use Rattle.plans.proofs.Repacked.{holds, packed-is-plan}
+use Rattle.operations.specs.declared.Plan.{Plan}
+use Rattle.operations.specs.declared.Making.{Making}
+use Rattle.operations.specs.Plans.{shapeOf, rowsOf, planOf, isPlan, packed}
+use Rattle.operations.specs.Answers.{making, refusing, repeated, repeating}
+use Rattle.plans.specs.Answers.{noPlan, inverting, raising}
+use Rattle.operations.proofs.KeptValues.{kept}
+use Rattle.operations.proofs.Repacked.{holds, packed-is-plan}
 
 pub power-limit : maxPower ≡ 1000
 unfolding maxPower

@@ -14,10 +14,10 @@ use Rattle.higman.specs.Listing.{listing as linesOf, isSlot}
 use Rattle.higman.proofs.Tests.{passes}
 use Rattle.higman.proofs.Listing.{listing-faithful}
 use Rattle.higman.specs.Buffers.{written}
-use Rattle.plans.specs.declared.Plan.{Plan}
+use Rattle.operations.specs.declared.Plan.{Plan}
 use Rattle.plans.specs.declared.Listed.{Listed}
 use Rattle.plans.specs.declared.Listed.the-variants.{Bytes, Refused}
-use Rattle.plans.specs.Plans.{planOf, packed}
+use Rattle.operations.specs.Plans.{planOf, packed}
 use Rattle.plans.specs.Listing.{listing, listedBuffer}
 use Rattle.plans.specs.Theorems.{Handed, Lists, ListingsExact, LibraryExact}
 use Rattle.plans.proofs.Lists.{listing-no-slot, listing-no-room, listing-written}

@@ -12,13 +12,14 @@ use Rattle.higman.specs.Theorems.{ActAlike}
 use Rattle.higman.proofs.Tests.{passes, so, T-of, clash, same-table, same-table-refl}
 use Rattle.higman.proofs.Demand3.{demand3, alike-rows}
 use Rattle.higman.proofs.Listing.{listing-faithful}
-use Rattle.plans.specs.declared.Plan.{Plan}
+use Rattle.operations.specs.declared.Plan.{Plan}
 use Rattle.plans.specs.declared.Likeness.the-variants.{Alike}
-use Rattle.plans.specs.Plans.{shapeOf, planOf, packed}
-use Rattle.plans.specs.Answers.{making, granting, following, inverting, raising, alike, likenessValue}
+use Rattle.operations.specs.Plans.{shapeOf, planOf, packed}
+use Rattle.operations.specs.Answers.{making, granting}
+use Rattle.plans.specs.Answers.{following, inverting, raising, alike, likenessValue}
 use Rattle.plans.specs.Theorems.{Handed, Compared, identityOf, ValueDemand3}
 use Rattle.plans.proofs.Answered.{both-compared, rows-compared}
-use Rattle.plans.proofs.Repacked.{holds}
+use Rattle.operations.proofs.Repacked.{holds}
 use Rattle.plans.proofs.Powered.{raising-plan}
 use Rattle.plans.proofs.Handed.{packed-handed, held-packed}
 use Rattle.plans.proofs.Made.{Made, granting-of, plan-kept, inverting-is, inverse-made, power-made, following-is, follow-made}

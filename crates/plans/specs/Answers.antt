@@ -6,15 +6,17 @@ use mathlib.Core.Bool.{Bool, true, false, _&&_}
 use mathlib.Core.List.{[], _∷_, map}
 use mathlib.Core.Option.{Option, none, some}
 use lib.IntN.{ℤ, pos}
-use Rattle.higman.specs.Words.{Shape}
-use Rattle.higman.specs.Tables.{Table, row, φ, ψ}
+use Rattle.higman.specs.Tables.{row, φ, ψ}
 use Rattle.higman.specs.Normal.{joined, normal, normalForm, keep, compose, inverse, identity}
-use Rattle.higman.specs.Limits.{Plan as PlanOf, shapeInRange, granted, maxPairs, maxDigits, maxPower}
+use Rattle.higman.specs.Limits.{shapeInRange, granted, maxPairs, maxDigits, maxPower}
 use Rattle.higman.specs.Refusals.{invalidValue, F, T, letterByte}
 use Rattle.higman.specs.Answers as Of
 use Rattle.words.specs.Packed.{packOn, pack, unpackIn, unpack}
 use Rattle.words.specs.Bytes.{shape}
-use Rattle.plans.specs.declared.Plan.{Plan}
+use Rattle.operations.specs.declared.Plan.{Plan}
+use Rattle.operations.specs.declared.Making.{Making}
+use Rattle.operations.specs.Plans.{shapeOf, rowsOf, planOf, inTable, isDraft, isPlan, packed, blank}
+use Rattle.operations.specs.Answers.{granting, refusing, making, composing, value21}
 use Rattle.plans.specs.declared.Reason.{Reason}
 use Rattle.plans.specs.declared.Reason.the-variants.{Overlap, Gap}
 use Rattle.plans.specs.declared.Fault.{Fault}
@@ -22,12 +24,8 @@ use Rattle.plans.specs.declared.Fault.the-variants.{Sound, Faulty}
 use Rattle.plans.specs.declared.Judgement.{Judgement}
 use Rattle.plans.specs.declared.Judgement.the-variants.{NotADraft, Accepted, InFrom, InTo}
 use Rattle.plans.specs.declared.Keeping.{Keeping}
-use Rattle.plans.specs.declared.Answer.{Answer}
-use Rattle.plans.specs.declared.Answer.the-variants.{Granted, Refused}
-use Rattle.plans.specs.declared.Making.{Making}
 use Rattle.plans.specs.declared.Likeness.{Likeness}
 use Rattle.plans.specs.declared.Likeness.the-variants as Like
-use Rattle.plans.specs.Plans.{shapeOf, rowsOf, planOf, inTable, isDraft, isPlan, packed, blank}
 
 abbrev pub reasonOf : Of.Reason → Reason
 reasonOf Of.Overlap = Overlap
@@ -75,28 +73,8 @@ keptOf p (InTo r) = blank
 unfoldable pub keeping : Plan → Keeping
 keeping p = record { judgement = judged p; plan = keptOf p (judged p) }
 
--- a granted plan, or the number of the refusal
-abbrev pub granting : Plan → Making
-granting p = record { answer = Granted; plan = p }
-
-abbrev pub refusing : ℕ → Making
-refusing number = record { answer = Refused number; plan = blank }
-
-abbrev pub making : Of.Answer → Making
-making (Of.Granted p) = granting (packed p)
-making (Of.Refused r) = refusing (Of.refusalNumber r)
-
--- the number of a refusal, 0 where a plan was made
-abbrev pub answerNumber : Answer → ℕ
-answerNumber Granted = 0
-answerNumber (Refused n) = n
-
 abbrev pub noPlan : Making
 noPlan = refusing invalidValue
-
--- two plans one after the other, where both are plans
-abbrev pub composing : Plan → Plan → Making
-composing a b = making (Of.followed (planOf a) (planOf b))
 
 -- F: 15, 10, 11
 unfoldable pub following : Plan → Plan → Making
@@ -105,15 +83,6 @@ following a b = elim (isPlan a && isPlan b) [ true ↦ composing a b | false ↦
 -- I: 15
 unfoldable pub inverting : Plan → Making
 inverting a = elim (isPlan a) [ true ↦ making (Of.inverted (planOf a)) | false ↦ noPlan ]
-
--- a power by its pairs, which are none where a limit is broken on the way
-abbrev pub repeated : Option Table → Shape → Making
-repeated (some t) s = making (Of.Granted (record { shape = s; rows = t }))
-repeated none s = making (Of.Refused Of.LimitBroken)
-
--- n times a plan in a row
-abbrev pub repeating : PlanOf → ℕ → Making
-repeating a n = repeated (Of.raised (a .shape) (a .rows) n) (a .shape)
 
 -- K: 15, 12, 11
 unfoldable pub raising : Plan → ℤ → Making
@@ -138,10 +107,6 @@ abbrev pub likenessValue : Likeness → Bool
 likenessValue (Like.Alike b) = b
 likenessValue (Like.Refused n) = false
 
--- the numbers of answers
-answerNumber-example : map answerNumber (Granted ∷ Refused 11 ∷ []) ≡ 0 ∷ 11 ∷ []
-answerNumber-example = refl
-
 likenessNumber-example : (map likenessNumber (Like.Alike true ∷ Like.Refused 10 ∷ []) ≡ 0 ∷ 10 ∷ []) × (map likenessValue (Like.Alike true ∷ Like.Refused 10 ∷ []) ≡ true ∷ false ∷ [])
 likenessNumber-example = (refl, refl)
 
@@ -151,10 +116,6 @@ judgementNumber-example = refl
 
 judgementColumn-example : map judgementColumn (Accepted ∷ InFrom Overlap ∷ InTo Gap ∷ NotADraft ∷ []) ≡ 0 ∷ 70 ∷ 84 ∷ 0 ∷ []
 judgementColumn-example = refl
-
--- a value of shape (2,1), for examples
-abbrev pub value21 : Table → Plan
-value21 t = packed (record { shape = shape 2 1; rows = t })
 
 -- "11→11, 12→12 is kept as 1→1, one pair"; "to column 1, 11: 6, T"; no draft
 keeping-example : map keeping (value21 (row 11 11 ∷ row 12 12 ∷ []) ∷ value21 (row 11 1 ∷ row 12 11 ∷ []) ∷ blank ∷ [])

@@ -15,10 +15,10 @@ use Rattle.higman.specs.Listing.{isSlot, listing as linesOf}
 use Rattle.words.specs.Packed.{packOn, pack, unpackIn, unpack}
 use Rattle.higman.specs.Buffers.{ifRoom, lentInto}
 use Rattle.words.specs.Bytes.{shape}
-use Rattle.plans.specs.declared.Plan.{Plan}
+use Rattle.operations.specs.declared.Plan.{Plan}
 use Rattle.plans.specs.declared.Listed.{Listed}
 use Rattle.plans.specs.declared.Listed.the-variants.{Bytes, Refused}
-use Rattle.plans.specs.Plans.{planOf, inTable, isPlan, packed, blank}
+use Rattle.operations.specs.Plans.{planOf, inTable, isPlan, packed, blank}
 
 -- "14 last: the lent buffer is shorter than the output"
 abbrev pub listingIn : List ℕ → ℕ → Listed

@@ -15,10 +15,10 @@ use Rattle.words.specs.Packed.{packOn, pack, unpackIn, unpack}
 use Rattle.higman.specs.Buffers.{ifRoom, lentInto}
 use Rattle.words.specs.Bytes.{shape}
 use Rattle.tables.specs.Routing.{matchedDigits}
-use Rattle.plans.specs.declared.Plan.{Plan}
+use Rattle.operations.specs.declared.Plan.{Plan}
 use Rattle.plans.specs.declared.Route.{Route}
 use Rattle.plans.specs.declared.Route.the-variants.{Image, TooShort, Refused}
-use Rattle.plans.specs.Plans.{shapeOf, rowsOf, planOf, inTable, isPlan, packed, blank}
+use Rattle.operations.specs.Plans.{shapeOf, rowsOf, planOf, inTable, isPlan, packed, blank}
 
 -- the digits of the from-word that begins a code; none where no from-word does, "or 15 or 4 applies"
 unfoldable pub matched : Plan → List ℕ → ℕ

@@ -12,7 +12,7 @@ use lib.Dec.{T, leb}
 use lib.ListN.{length, getD, take, drop, replicate}
 use lib.IntN.{ℤ, pos, negsuc, natAbs, _+ℤ_, _*ℤ_}
 use Rattle.higman.specs.Words.{Word, count, isWays, isWord, child, spell}
-use Rattle.higman.specs.Tables.{Pair, BlockMap, image, row, φ, ψ}
+use Rattle.higman.specs.Tables.{BlockMap, image, row, φ, ψ}
 use Rattle.higman.specs.Normal.{andThen, times, compose, repeated, identity, joined, normal, normalForm, keep}
 use Rattle.higman.specs.Limits.{Plan as PlanOf, Kept, fits, shapeInRange, granted, maxPairs, maxDigits, maxPower, slotCount}
 use Rattle.higman.specs.Answers.{verdict, isKept, repeatable, identityPlan}
@@ -20,12 +20,13 @@ use Rattle.higman.specs.Listing.{pairRecords, listing as linesOf, isSlot}
 use Rattle.higman.specs.Theorems.{ActAlike}
 use Rattle.words.specs.Packed.{packOn, pack, unpackIn, unpack}
 use Rattle.words.specs.Bytes.{shape}
-use Rattle.plans.specs.declared.Plan.{Plan}
-use Rattle.plans.specs.declared.Answer.the-variants.{Granted}
+use Rattle.operations.specs.declared.Plan.{Plan}
+use Rattle.operations.specs.declared.Answer.the-variants.{Granted}
 use Rattle.plans.specs.declared.Likeness.the-variants.{Alike}
 use Rattle.plans.specs.declared.Listed.the-variants.{Bytes}
-use Rattle.plans.specs.Plans.{shapeOf, planOf, inTable, isPlan, packed}
-use Rattle.plans.specs.Answers.{granting, following, inverting, raising, alike, value21}
+use Rattle.operations.specs.Plans.{shapeOf, planOf, pairAt, inTable, isPlan, packed}
+use Rattle.operations.specs.Answers.{granting, value21}
+use Rattle.plans.specs.Answers.{following, inverting, raising, alike}
 use Rattle.plans.specs.Listing.{listing, listedBuffer}
 use Rattle.plans.specs.CallsExact.{CallsExact}
 
@@ -43,10 +44,6 @@ pub record Handed (v : Plan) : Type 0 where
   pub from-places : length (v .from) ≡ maxPairs
   pub to-places : length (v .to) ≡ maxPairs
   pub taken : isPlan v ≡ true
-
--- the pair at a place: the from-word stands in the one column, the to-word in the other
-abbrev pub pairAt : Plan → ℕ → Pair
-pairAt v i = record { from = unpack (getD (v .from) i 0); to = unpack (getD (v .to) i 0) }
 
 -- A value and the plan that it holds.
 pub record ValuesHold : Type 0 where
@@ -163,11 +160,6 @@ handed-example : Handed (value21 φ)
 unfolding packed isPlan inTable isKept shapeInRange granted maxPairs maxDigits verdict keep normalForm normal joined
     pack packOn unpack unpackIn
 handed-example = record { from-places = refl; to-places = refl; taken = refl }
-
--- the third pair of ψ, 12 to 122, and what stands behind its pairs
-pairAt-example : map (pairAt (value21 ψ)) (2 ∷ 3 ∷ []) ≡ row 12 122 ∷ record { from = []; to = [] } ∷ []
-unfolding packed pack packOn unpack unpackIn maxPairs
-pairAt-example = refl
 
 sends-example : sends (value21 ψ) (spell 1122) ≡ some (spell 1212)
 unfolding packed pack packOn unpack unpackIn maxPairs

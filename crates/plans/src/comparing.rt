@@ -1,32 +1,11 @@
-// Comparing (document 01, "Records": "S .. if the plans act alike"): kept plans act alike exactly where their pairs are the same, so
-// the columns are compared place by place.
+// Comparing (document 01, "Records": "S .. if the plans act alike") of values: 15 and 10 first, and then pair by pair.
 ghost use mathlib.Core.Path.{_≡_};
-ghost use lib.ListN.{length};
-ghost use Rattle.higman.specs.Tables.{sameTable};
-ghost use Rattle.columns.specs.Packed.{table};
 ghost use Rattle.plans.specs.Answers.{alike};
 use crate::Likeness;
-use crate::Plan;
 use crate::kept;
-use crate::numbers;
-
-// Whether the pairs of two columns are those of two others, all of one length.
-fn same_pairs(a_from: &[u64], a_to: &[u64], b_from: &[u64], b_to: &[u64]) -> bool
-    requires { ⌜ (length (now «a_from») ≡ length (now «a_to»)) × (length (now «a_from») ≡ length (now «b_from»)) × (length (now «a_from») ≡ length (now «b_to»)) ⌝ }
-    ensures { λ r. ⌜ r ≡ sameTable (table (now («a_from» .entry)) (now («a_to» .entry))) (table (now («b_from» .entry)) (now («b_to» .entry))) ⌝ }
-{
-    let mut i = 0;
-    while i < a_from.len() {
-        if a_from[i] != b_from[i] {
-            return false;
-        }
-        if a_to[i] != b_to[i] {
-            return false;
-        }
-        i += 1;
-    }
-    true
-}
+use operations::Plan;
+use operations::comparing;
+use operations::numbers;
 
 // S: "if the plans act alike". 15, 10.
 pub fn same(a: Plan, b: Plan) -> Likeness
@@ -52,5 +31,5 @@ pub fn same(a: Plan, b: Plan) -> Likeness
     let a_to = a.to;
     let b_from = b.from;
     let b_to = b.to;
-    Likeness::Alike(same_pairs(&a_from[..n], &a_to[..n], &b_from[..n], &b_to[..n]))
+    Likeness::Alike(comparing::same_pairs(&a_from[..n], &a_to[..n], &b_from[..n], &b_to[..n]))
 }

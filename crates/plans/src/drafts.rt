@@ -2,10 +2,10 @@
 // draft stand in any order, so that a column is copied and sorted before it is checked; what is asked of it does not depend on the order.
 use crate::Fault;
 use crate::Judgement;
-use crate::MAX_PAIRS;
-use crate::Plan;
 use crate::Reason;
 use columns::sorting;
+use operations::MAX_PAIRS;
+use operations::Plan;
 ghost use mathlib.Core.Path.{_≡_};
 ghost use Prim.Native.Nat.{_≤_};
 ghost use lib.Dec.{T};
@@ -15,7 +15,7 @@ ghost use Rattle.higman.specs.Limits.{shapeInRange, maxPairs, isPlanWord};
 ghost use Rattle.higman.specs.Answers.{fault};
 ghost use Rattle.words.specs.Bytes.{shape};
 ghost use Rattle.columns.specs.Packed.{wordsOf};
-ghost use Rattle.plans.specs.Plans.{zeros, isColumn, isDraft};
+ghost use Rattle.operations.specs.Plans.{zeros, isColumn, isDraft};
 ghost use Rattle.plans.specs.Answers.{faultOf, judged};
 
 // The ways at a switch and the belts of a shape: `shapeInRange` of higman's Limits.antt.

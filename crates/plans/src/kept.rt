@@ -1,119 +1,16 @@
-// Keeping (document 01, "Plans"): "Kept plans are reduced, with from-words in order of the first digit that differs". A draft is kept
-// by sorting its pairs, reducing them into fresh columns and clearing what joins have left behind the pairs. A value is a kept plan
-// if it is accepted, its from-words are in order and no pairs of it join, and the inverse is what is kept of the columns exchanged.
+// Keeping (document 01, "Plans"): "Kept plans are reduced, with from-words in order of the first digit that differs". A draft is
+// kept where it is accepted. A value is a kept plan if it is accepted, its from-words are in order and no pairs of it join, and the
+// inverse is what is kept of the columns exchanged.
 ghost use mathlib.Core.Path.{_≡_};
-ghost use mathlib.Core.List.{_++_};
-ghost use Prim.Native.Nat.{_-_, _≤_};
-ghost use lib.Dec.{T};
-ghost use lib.ListN.{length, take, replicate};
-ghost use Rattle.higman.specs.Normal.{keep};
-ghost use Rattle.higman.specs.Limits.{Bases, shapeInRange, maxPairs};
-ghost use Rattle.words.specs.Bytes.{shape};
-ghost use Rattle.columns.specs.Packed.{table, rows};
-ghost use Rattle.plans.specs.Plans.{isPlan, packed, blank};
-ghost use Rattle.plans.specs.Answers.{keeping, refusing, granting, inverting};
-ghost use Rattle.plans.specs.Keeping.{KeptColumns};
-use crate::Answer;
+ghost use Rattle.operations.specs.Plans.{isPlan};
+ghost use Rattle.plans.specs.Answers.{keeping, inverting};
 use crate::Judgement;
 use crate::Keeping;
-use crate::MAX_PAIRS;
-use crate::Making;
-use crate::Plan;
-use crate::numbers;
-
-// Sets the numbers of a column to zero from a place on.
-fn clear(column: &mut [u64], place: usize)
-    requires { ⌜ place ≤ length (now column) ⌝ }
-    ensures { λ _. ⌜ now (column .exit) ≡ take place (now (column .entry)) ++ replicate (length (now (column .entry)) - place) 0 ⌝ }
-{
-    let mut i = place;
-    while i < column.len() {
-        column[i] = 0;
-        i += 1;
-    }
-}
-
-// Writes what is kept of the pairs of two columns into the lent columns, with zeros behind, and returns the number of its pairs. The
-// pairs that came are left sorted.
-fn keep_into(
-    keys: &mut [u64],
-    values: &mut [u64],
-    out_from: &mut [u64],
-    out_to: &mut [u64],
-    arity: u8,
-    roots: u8,
-) -> usize
-    requires { ⌜ (length (now keys) ≡ length (now values)) × (length (now keys) ≤ length (now «out_from»)) × (length (now keys) ≤ length (now «out_to»))
-        × T (shapeInRange (shape arity roots)) × Bases (shape arity roots) (table (now keys) (now values)) × (length (now keys) ≤ maxPairs) ⌝ }
-    ensures { λ r. ⌜ KeptColumns (shape arity roots) (table (now (keys .entry)) (now (values .entry))) (now («out_from» .entry)) (now («out_to» .entry))
-        (now («out_from» .exit)) (now («out_to» .exit)) r ⌝ }
-{
-    columns::sorting::sort(keys, values);
-    let pairs = tables::reduce::reduce(keys, values, out_from, out_to, arity, roots);
-    clear(out_from, pairs);
-    clear(out_to, pairs);
-    pairs
-}
-
-// The plan kept of the first n pairs of two columns, both bases.
-fn kept(from: [u64; MAX_PAIRS], to: [u64; MAX_PAIRS], n: usize, arity: u8, roots: u8) -> Plan
-    requires { ⌜ (n ≤ maxPairs) × T (shapeInRange (shape arity roots)) × Bases (shape arity roots) (rows n from to) ⌝ }
-    ensures { λ r. ⌜ r ≡ packed (record { shape = shape arity roots; rows = keep (shape arity roots) (rows n from to) }) ⌝ }
-{
-    let mut keys = from;
-    let mut values = to;
-    let mut out_from = [0u64; MAX_PAIRS];
-    let mut out_to = [0u64; MAX_PAIRS];
-    let pairs = keep_into(
-        &mut keys[..n],
-        &mut values[..n],
-        &mut out_from,
-        &mut out_to,
-        arity,
-        roots,
-    );
-    Plan {
-        arity: arity,
-        roots: roots,
-        pairs: pairs,
-        from: out_from,
-        to: out_to,
-    }
-}
-
-// No plan: what a call that refuses hands back.
-fn blank() -> Plan
-    ensures { λ r. ⌜ r ≡ blank ⌝ }
-{
-    Plan {
-        arity: 0,
-        roots: 0,
-        pairs: 0,
-        from: [0u64; MAX_PAIRS],
-        to: [0u64; MAX_PAIRS],
-    }
-}
-
-// The answer that refuses with a number.
-pub fn refused(number: u8) -> Making
-    ensures { λ r. ⌜ r ≡ refusing number ⌝ }
-{
-    let plan = blank();
-    Making {
-        answer: Answer::Refused(number),
-        plan: plan,
-    }
-}
-
-// The answer that grants a plan.
-pub fn granted(plan: Plan) -> Making
-    ensures { λ r. ⌜ r ≡ granting plan ⌝ }
-{
-    Making {
-        answer: Answer::Granted,
-        plan: plan,
-    }
-}
+use operations::Making;
+use operations::Plan;
+use operations::answers;
+use operations::keeping;
+use operations::numbers;
 
 // The verdict on a draft and, where it is Accepted, the plan kept of it.
 pub fn keep(draft: Plan) -> Keeping
@@ -124,14 +21,14 @@ pub fn keep(draft: Plan) -> Keeping
         Judgement::Accepted => {
             let from = draft.from;
             let to = draft.to;
-            let reduced = kept(from, to, draft.pairs, draft.arity, draft.roots);
+            let reduced = keeping::keep(from, to, draft.pairs, draft.arity, draft.roots);
             Keeping {
                 judgement: judgement,
                 plan: reduced,
             }
         }
         _ => {
-            let plan = blank();
+            let plan = answers::blank();
             Keeping {
                 judgement: judgement,
                 plan: plan,
@@ -161,9 +58,9 @@ pub fn inverse(a: Plan) -> Making
     ensures { λ r. ⌜ r ≡ inverting a ⌝ }
 {
     if !is_plan(a) {
-        return refused(numbers::INVALID_VALUE);
+        return answers::refused(numbers::INVALID_VALUE);
     }
     let from = a.from;
     let to = a.to;
-    granted(kept(to, from, a.pairs, a.arity, a.roots))
+    answers::granted(keeping::keep(to, from, a.pairs, a.arity, a.roots))
 }

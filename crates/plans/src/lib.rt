@@ -6,22 +6,11 @@ pub mod drafts;
 pub mod following;
 pub mod kept;
 pub mod listing;
-pub mod numbers;
 pub mod routing;
 
-// The pairs that a plan has at most: `maxPairs` of higman's Limits.antt.
-pub const MAX_PAIRS: usize = 128;
-
-// A shape and the pairs of a plan, or of a draft of one, at the first places of two columns; the other places are zero. Programs in C
-// and Rust hold it too (the crate `plans_c`).
-#[repr(C)]
-pub struct Plan {
-    pub arity: u8,
-    pub roots: u8,
-    pub pairs: usize,
-    pub from: [u64; MAX_PAIRS],
-    pub to: [u64; MAX_PAIRS],
-}
+pub use operations::Answer;
+pub use operations::Making;
+pub use operations::Plan;
 
 // What is wrong with a column.
 pub enum Reason {
@@ -49,18 +38,6 @@ pub enum Judgement {
 // A judgement and the plan that is kept where it is Accepted.
 pub struct Keeping {
     pub judgement: Judgement,
-    pub plan: Plan,
-}
-
-// Whether a plan was made, or the number of the refusal.
-pub enum Answer {
-    Granted,
-    Refused(u8),
-}
-
-// An answer and the plan that was made where it is Granted.
-pub struct Making {
-    pub answer: Answer,
     pub plan: Plan,
 }
 

@@ -4,9 +4,9 @@ ghost use lib.ListN.{length};
 ghost use Rattle.higman.specs.Listing.{isSlot};
 ghost use Rattle.plans.specs.Listing.{listing, listedBuffer};
 use crate::Listed;
-use crate::Plan;
 use crate::kept;
-use crate::numbers;
+use operations::Plan;
+use operations::numbers;
 
 // Whether a byte names a slot, A to H.
 pub fn is_slot(slot: u8) -> bool

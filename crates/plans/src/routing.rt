@@ -7,10 +7,10 @@ ghost use Rattle.higman.specs.Text.{wordOf};
 ghost use Rattle.words.specs.Bytes.{shape};
 ghost use Rattle.tables.specs.Routing.{further};
 ghost use Rattle.plans.specs.Routing.{matched, matching, routing, routedBuffer};
-use crate::Plan;
 use crate::Route;
 use crate::kept;
-use crate::numbers;
+use operations::Plan;
+use operations::numbers;
 use tables::routing::Routed;
 
 // The digits that a routed code has at most: `maxCode` of higman's Limits.antt.

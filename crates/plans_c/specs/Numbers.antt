@@ -4,17 +4,18 @@ use mathlib.Core.Bool.{true, false}
 use Rattle.plans.specs.declared.Judgement.{Judgement}
 use Rattle.plans.specs.declared.Judgement.the-variants.{InTo}
 use Rattle.plans.specs.declared.Reason.the-variants.{Gap}
-use Rattle.plans.specs.declared.Plan.{Plan}
+use Rattle.operations.specs.declared.Plan.{Plan}
 use Rattle.plans.specs.declared.Keeping.{Keeping}
-use Rattle.plans.specs.declared.Answer.the-variants as Answer
-use Rattle.plans.specs.declared.Making.{Making}
+use Rattle.operations.specs.declared.Answer.the-variants as Answer
+use Rattle.operations.specs.declared.Making.{Making}
 use Rattle.plans.specs.declared.Likeness.{Likeness}
 use Rattle.plans.specs.declared.Likeness.the-variants as Likeness
 use Rattle.plans.specs.declared.Route.{Route}
 use Rattle.plans.specs.declared.Route.the-variants.{Image, TooShort}
 use Rattle.plans.specs.declared.Listed.{Listed}
 use Rattle.plans.specs.declared.Listed.the-variants as Listed
-use Rattle.plans.specs.Answers.{judgementNumber, judgementColumn, answerNumber, likenessNumber, likenessValue}
+use Rattle.operations.specs.Answers.{answerNumber}
+use Rattle.plans.specs.Answers.{judgementNumber, judgementColumn, likenessNumber, likenessValue}
 use Rattle.plans.specs.Routing.{routingNumber, routingLength}
 use Rattle.plans.specs.Listing.{listedNumber, listedLength}
 use Rattle.plans_c.specs.declared.Verdict.{Verdict}

@@ -1,5 +1,6 @@
 // The library of plans for programs in C and Rust: the calls of the crate `plans` under names of their own, with numbers in the place of
 // enums. Number 0 stands for a job done, and a refusal has document 01's number. A slice is passed as a pointer and a length.
+use operations::numbers;
 use plans::Answer;
 use plans::Judgement;
 use plans::Keeping;
@@ -9,11 +10,11 @@ use plans::Making;
 use plans::Plan;
 use plans::Reason;
 use plans::Route;
-use plans::numbers;
 ghost use mathlib.Core.Path.{_≡_};
 ghost use lib.ListN.{length};
-ghost use Rattle.plans.specs.Plans.{isPlan};
-ghost use Rattle.plans.specs.Answers.{reasonNumber, answerNumber, judged, keeping, following, inverting, raising, alike};
+ghost use Rattle.operations.specs.Plans.{isPlan};
+ghost use Rattle.operations.specs.Answers.{answerNumber};
+ghost use Rattle.plans.specs.Answers.{reasonNumber, judged, keeping, following, inverting, raising, alike};
 ghost use Rattle.plans.specs.Routing.{matching, routing, routedBuffer};
 ghost use Rattle.plans.specs.Listing.{listing, listedBuffer};
 ghost use Rattle.plans_c.specs.Numbers.{verdictOf, keptOf, madeOf, comparedOf, routedOf, listedOf};

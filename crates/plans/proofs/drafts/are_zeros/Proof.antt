@@ -6,7 +6,7 @@ use borrow.Author.Tests.{eq-eqb, ne-eqb}
 use native.Mathlib.Omega.{arith}
 use lib.Dec.{eqb}
 use lib.ListN.{length, drop}
-use Rattle.plans.specs.Plans.{zeros}
+use Rattle.operations.specs.Plans.{zeros}
 use Rattle.plans.proofs.Checks.{check-fails, check-passes, check-done}
 use Rattle.plans.proofs.drafts.are_zeros.Statement.{statement}
 use Rattle.plans.proofs.drafts.are_zeros.Tie as tie

@@ -14,7 +14,7 @@ use Rattle.higman.specs.Bases.{all}
 use Rattle.higman.specs.Limits.{isPlanWord}
 use Rattle.words.specs.Bytes.{shape}
 use Rattle.columns.specs.Packed.{wordsOf}
-use Rattle.plans.specs.Plans.{zeros, isColumn}
+use Rattle.operations.specs.Plans.{zeros, isColumn}
 use Rattle.plans.proofs.drafts.is_column.Statement.{statement}
 use Rattle.plans.proofs.drafts.is_column.Tie as tie
 

@@ -6,9 +6,9 @@ use borrow.Author.Tests.{not-true, not-false}
 use native.Mathlib.Omega.{arith}
 use Rattle.higman.specs.Limits.{shapeInRange, maxPairs}
 use Rattle.higman.proofs.Tests.{so, T-of, clash}
-use Rattle.plans.specs.Plans.{shapeOf, isColumn}
+use Rattle.operations.specs.Plans.{shapeOf, isColumn}
 use Rattle.plans.proofs.DraftChecks.{no-draft, draft-by-to}
-use Rattle.plans.proofs.Sizes.{from-long, to-long, columns-even}
+use Rattle.operations.proofs.Sizes.{from-long, to-long, columns-even}
 use Rattle.plans.proofs.drafts.is_draft.Statement.{statement}
 use Rattle.plans.proofs.drafts.is_draft.Tie as tie
 

@@ -10,10 +10,10 @@ use Rattle.higman.proofs.Tests.{T-of}
 use Rattle.plans.specs.declared.Fault.{Fault}
 use Rattle.plans.specs.declared.Fault.the-variants.{Sound}
 use Rattle.columns.specs.Packed.{wordsOf}
-use Rattle.plans.specs.Plans.{shapeOf, isDraft}
+use Rattle.operations.specs.Plans.{shapeOf, isDraft}
 use Rattle.plans.specs.Answers.{faultOf, judged}
 use Rattle.plans.proofs.DraftChecks.{Draft, draft-of, judgement, judged-none, judged-draft}
-use Rattle.plans.proofs.Sizes.{columns-even}
+use Rattle.operations.proofs.Sizes.{columns-even}
 use Rattle.plans.proofs.drafts.verdict.Statement.{statement}
 use Rattle.plans.proofs.drafts.verdict.Tie as tie
 

@@ -3,7 +3,7 @@ use mathlib.Core.Path.{_≡_, sym, _∙_}
 use mathlib.Core.Bool.{true}
 use borrow.Author.Needs.{needs}
 use borrow.Author.Tests.{not-true, not-false}
-use Rattle.plans.specs.Plans.{shapeOf, isPlan}
+use Rattle.operations.specs.Plans.{shapeOf, isPlan}
 use Rattle.plans.proofs.Answered.{first-no-plan, second-no-plan, both-plans, shapes-differ, arity-differs, roots-differ}
 use Rattle.plans.proofs.following.follow.Statement.{statement}
 use Rattle.plans.proofs.following.follow.Tie as tie

@@ -10,8 +10,8 @@ use lib.Signed.{_<ℤ_, _≤ℤ_, yes-nonNeg}
 use mir.Syntax.{w32}
 use mir.Val.{Fits, SFits}
 use Rattle.higman.specs.Limits.{maxPower}
-use Rattle.plans.specs.Plans.{planOf, isPlan}
-use Rattle.plans.specs.Answers.{repeating}
+use Rattle.operations.specs.Plans.{planOf, isPlan}
+use Rattle.operations.specs.Answers.{repeating}
 use Rattle.plans.proofs.Signs.{is-less, is-not-less, read, read-is, size-low, size-high, size-within, cast-fits, opposite-fits, opposite-size, opposite-cast}
 use Rattle.plans.proofs.Powered.{power-limit, raising-no-plan, raising-outside, raising-forward, inverse-plan, raising-back}
 use Rattle.plans.proofs.following.power.Statement.{statement}

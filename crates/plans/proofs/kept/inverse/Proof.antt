@@ -11,8 +11,8 @@ returns c =
     let i = c .before .before in
     c .refused .ensures ∙ inverting-none (i .before .args .a) (sym (i .is-plan .ensures) ∙ not-true (i .is-plan .result) (c .before .if1 .taken))
 
-kept-requires : tie.Need-kept-requires
-kept-requires c κs =
+keep-requires : tie.Need-keep-requires
+keep-requires c κs =
     let i = c .before .before .before in
     let a = i .before .args .a in
     let e = sym (i .is-plan .ensures) ∙ not-false (i .is-plan .result) (c .before .before .if1 .left) in
@@ -23,7 +23,7 @@ returns-2 c =
     let k = c .before in
     let i = k .before .before .before .before in
     let a = i .before .args .a in
-    c .granted .ensures ∙ inverting-plan a (sym (i .is-plan .ensures) ∙ not-false (i .is-plan .result) (k .before .before .before .if1 .left)) (k .kept .result) (k .kept .ensures)
+    c .granted .ensures ∙ inverting-plan a (sym (i .is-plan .ensures) ∙ not-false (i .is-plan .result) (k .before .before .before .if1 .left)) (k .keep .result) (k .keep .ensures)
 
 pub inverse-spec : {M : Type 1} → statement M
-inverse-spec = tie.close (tie.spec (λ c κs. search needs) (λ c κs. search needs) returns kept-requires (λ c κs. search needs) returns-2)
+inverse-spec = tie.close (tie.spec (λ c κs. search needs) (λ c κs. search needs) returns keep-requires (λ c κs. search needs) returns-2)

@@ -14,9 +14,9 @@ use Rattle.higman.proofs.Columns.{column-is-basis}
 use Rattle.columns.proofs.Rearranged.{froms-table}
 use Rattle.higman.proofs.KeptPlans.{arity-of-range, in-range}
 use Rattle.plans.specs.declared.Judgement.the-variants.{Accepted}
-use Rattle.plans.specs.Plans.{shapeOf, rowsOf}
+use Rattle.operations.specs.Plans.{shapeOf, rowsOf}
 use Rattle.plans.specs.Answers.{judged}
-use Rattle.plans.proofs.Sizes.{from-long, to-long}
+use Rattle.operations.proofs.Sizes.{from-long, to-long}
 use Rattle.plans.proofs.Accepted.{not-accepted, approved, no-plan, plan-normal}
 use Rattle.plans.proofs.kept.is_plan.Statement.{statement}
 use Rattle.plans.proofs.kept.is_plan.Tie as tie

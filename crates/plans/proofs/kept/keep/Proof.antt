@@ -6,8 +6,8 @@ use Rattle.plans.proofs.Accepted.{not-accepted, approved, keeping-of, n
 use Rattle.plans.proofs.kept.keep.Statement.{statement}
 use Rattle.plans.proofs.kept.keep.Tie as tie
 
-kept-requires : tie.Need-kept-requires
-kept-requires c κs =
+keep-requires : tie.Need-keep-requires
+keep-requires c κs =
     let v = c .before .before .before .before in
     let p = v .before .args .draft in
     let a = approved p (sym (v .verdict .ensures) ∙ c .before .before .enum-told .given .1) in
@@ -17,8 +17,8 @@ returns : tie.Need-returns
 returns c =
     let v = c .before .before .before .before .before in
     let p = v .before .args .draft in
-    keeping-of p (v .verdict .result) (c .kept .result) (v .verdict .ensures)
-    (c .kept .ensures ∙ ap (keptOf p) (sym (c .before .before .before .enum-told .given .1)))
+    keeping-of p (v .verdict .result) (c .keep .result) (v .verdict .ensures)
+    (c .keep .ensures ∙ ap (keptOf p) (sym (c .before .before .before .enum-told .given .1)))
 
 returns-2 : tie.Need-returns-2
 returns-2 c =
@@ -28,4 +28,4 @@ returns-2 c =
     (c .blank .ensures ∙ none-kept p (v .verdict .result) (not-accepted (v .verdict .result) (c .before .match .keys2)))
 
 pub keep-spec : {M : Type 1} → statement M
-keep-spec = tie.close (tie.spec (λ c κs. search needs) (λ c. search needs) kept-requires (λ c κs. search needs) returns returns-2)
+keep-spec = tie.close (tie.spec (λ c κs. search needs) (λ c. search needs) keep-requires (λ c κs. search needs) returns returns-2)

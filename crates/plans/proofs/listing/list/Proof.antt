@@ -9,9 +9,9 @@ use lib.ListN.{length}
 use lib.Seq.{length-take-le}
 use Rattle.higman.specs.Listing.{isSlot, listing}
 use Rattle.higman.proofs.KeptPlans.{in-range}
-use Rattle.plans.specs.Plans.{shapeOf, planOf, isPlan}
-use Rattle.plans.proofs.KeptValues as K
-use Rattle.plans.proofs.KeptValues.{pairs-few, kept, plain}
+use Rattle.operations.specs.Plans.{shapeOf, planOf, isPlan}
+use Rattle.operations.proofs.KeptValues as K
+use Rattle.operations.proofs.KeptValues.{pairs-few, kept, plain}
 use Rattle.plans.proofs.Lists.{listing-no-plan, listing-no-slot, listing-no-room, listing-written}
 use Rattle.plans.proofs.listing.list.Statement.{statement}
 use Rattle.plans.proofs.listing.list.Tie as tie

@@ -9,10 +9,10 @@ use lib.ListN.{length}
 use lib.Seq.{length-take-le}
 use Rattle.higman.specs.Limits.{isCode}
 use Rattle.higman.specs.Text.{wordOf}
-use Rattle.plans.specs.Plans.{shapeOf, isPlan}
+use Rattle.operations.specs.Plans.{shapeOf, isPlan}
 use Rattle.plans.specs.Routing.{routing, routedBuffer}
-use Rattle.plans.proofs.KeptValues as K
-use Rattle.plans.proofs.KeptValues.{operand}
+use Rattle.operations.proofs.KeptValues as K
+use Rattle.operations.proofs.KeptValues.{operand}
 use Rattle.plans.proofs.Codes.{routing-no-plan, routing-no-code, code-digits, replied, routing-found}
 use Rattle.plans.proofs.routing.route.Statement.{statement}
 use Rattle.plans.proofs.routing.route.Tie as tie

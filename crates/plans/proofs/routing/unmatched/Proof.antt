@@ -10,8 +10,8 @@ use lib.Seq.{length-take-le}
 use Rattle.higman.specs.Limits.{isCode}
 use Rattle.higman.specs.Text.{wordOf}
 use Rattle.tables.specs.Routing.{further}
-use Rattle.plans.specs.Plans.{shapeOf, isPlan}
-use Rattle.plans.proofs.KeptValues as K
+use Rattle.operations.specs.Plans.{shapeOf, isPlan}
+use Rattle.operations.proofs.KeptValues as K
 use Rattle.plans.proofs.Codes.{matched-no-plan, matched-no-code, whole-code, code-digits, searchable, matched-found}
 use Rattle.plans.proofs.routing.unmatched.Statement.{statement}
 use Rattle.plans.proofs.routing.unmatched.Tie as tie

@@ -1,0 +1,11 @@
+-- The laws of what is done with plans, each file after those it leans on; the proofs of the functions cite them, and so may other crates.
+pub mod Sizes
+pub mod Reordered
+pub mod Values
+pub mod Filled
+pub mod KeptValues
+pub mod Composed
+pub mod SamePairs
+pub mod Identity
+pub mod Repacked
+pub mod Raised

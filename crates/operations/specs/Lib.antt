@@ -1,0 +1,6 @@
+-- The definitions that the contracts of this crate cite: values and the plans that they hold; what is answered where a plan is made; what
+-- keeping writes.
+pub mod Plans
+pub mod Answers
+pub mod Keeping
+pub mod Filled

@@ -1,0 +1,34 @@
+// What is done with plans that are known to be plans (document 01, "Plans"). The desk's slots hold plans and nothing else, so that these
+// functions ask for plans and check none; the crate `plans` makes the check for everyone else. Each promise is an equality with an
+// answer of the crate `higman`, through the words that the packed numbers hold.
+pub mod answers;
+pub mod comparing;
+pub mod following;
+pub mod keeping;
+pub mod numbers;
+
+// The pairs that a plan has at most: `maxPairs` of higman's Limits.antt.
+pub const MAX_PAIRS: usize = 128;
+
+// A shape and the pairs of a plan, or of a draft of one, at the first places of two columns; the other places are zero. Programs in C
+// and Rust hold it too (the crate `plans_c`).
+#[repr(C)]
+pub struct Plan {
+    pub arity: u8,
+    pub roots: u8,
+    pub pairs: usize,
+    pub from: [u64; MAX_PAIRS],
+    pub to: [u64; MAX_PAIRS],
+}
+
+// Whether a plan was made, or the number of the refusal.
+pub enum Answer {
+    Granted,
+    Refused(u8),
+}
+
+// An answer and the plan that was made where it is Granted.
+pub struct Making {
+    pub answer: Answer,
+    pub plan: Plan,
+}
