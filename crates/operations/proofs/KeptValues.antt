@@ -40,17 +40,17 @@ pub pair-limit : maxPairs ≡ 128
 unfolding maxPairs
 pair-limit = refl
 
-module _ (p : Plan) (h : isPlan p ≡ true) where
-  few : T (inTable p)
-  unfolding isPlan
-  few = and-left (inTable p) (isKept (planOf p)) (T-of h)
+-- a kept plan is a value in a table that holds one
+pub kept-plan : (p : Plan) → T (isPlan p) → T (inTable p) × Kept (planOf p)
+unfolding isPlan
+kept-plan p h = (and-left (inTable p) (isKept (planOf p)) h, answers-exact .kept-test (planOf p) .0 (and-right (inTable p) (isKept (planOf p)) h))
 
+module _ (p : Plan) (h : isPlan p ≡ true) where
   pub pairs-few : p .pairs ≤ maxPairs
-  pairs-few = few-in-table p few
+  pairs-few = few-in-table p (kept-plan p (T-of h) .0)
 
   pub kept : Kept (planOf p)
-  unfolding isPlan
-  kept = answers-exact .kept-test (planOf p) .0 (and-right (inTable p) (isKept (planOf p)) (T-of h))
+  kept = kept-plan p (T-of h) .1
 
   -- the pairs of a plan that is passed by value stand within its columns
   module _ (values : List Val) (good : Is the-row p values) where

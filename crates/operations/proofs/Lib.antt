@@ -4,8 +4,12 @@ pub mod Reordered
 pub mod Values
 pub mod Filled
 pub mod KeptValues
+pub mod Shapes
 pub mod Composed
+pub mod Exchanged
 pub mod SamePairs
 pub mod Identity
 pub mod Repacked
 pub mod Raised
+pub mod Signs
+pub mod Powered

@@ -8,18 +8,24 @@ ghost use Prim.Native.Nat.{_≤_};
 ghost use lib.Dec.{T};
 ghost use lib.ListN.{length};
 ghost use Rattle.higman.specs.Limits.{shapeInRange, maxPairs};
-ghost use Rattle.higman.specs.Answers.{identityPlan};
+ghost use Rattle.higman.specs.Answers.{identityPlan, inverted, powered};
 ghost use Rattle.words.specs.Bytes.{shape};
 ghost use Rattle.operations.specs.Plans.{planOf, shapeOf, isPlan, packed};
-ghost use Rattle.operations.specs.Answers.{composing, repeating};
+ghost use Rattle.operations.specs.Answers.{making, composing, repeating};
 ghost use Rattle.operations.specs.Filled.{filling, filledPlan};
 use crate::Answer;
 use crate::MAX_PAIRS;
 use crate::Making;
 use crate::Plan;
 use crate::answers;
+use crate::keeping;
 use crate::numbers;
 use tables::spreading::Spread;
+
+// The size that a power has at most: `maxPower` of higman's Limits.antt.
+const MAX_POWER: i32 = 1000;
+
+const MIN_POWER: i32 = -MAX_POWER;
 
 // The pairs that two plans give at most, before they are reduced.
 const MAX_SPREAD: usize = 2 * MAX_PAIRS;
@@ -55,7 +61,7 @@ fn filled(from: &[u64], to: &[u64], n: usize, arity: u8, roots: u8) -> Plan
 }
 
 // Two plans of one shape, one after the other.
-pub fn composed(a: Plan, b: Plan) -> Making
+fn composed(a: Plan, b: Plan) -> Making
     requires { ⌜ (isPlan a ≡ true) × (isPlan b ≡ true) × (shapeOf a ≡ shapeOf b) ⌝ }
     ensures { λ r. ⌜ r ≡ composing a b ⌝ }
 {
@@ -93,6 +99,30 @@ pub fn composed(a: Plan, b: Plan) -> Making
     answers::granted(filled(&out_from, &out_to, pairs, a.arity, a.roots))
 }
 
+// *a then b*, "a first". 10, 11.
+pub fn compose(a: Plan, b: Plan) -> Making
+    requires { ⌜ (isPlan a ≡ true) × (isPlan b ≡ true) ⌝ }
+    ensures { λ r. ⌜ r ≡ composing a b ⌝ }
+{
+    if a.arity != b.arity {
+        return answers::refused(numbers::SHAPES_DIFFER);
+    }
+    if a.roots != b.roots {
+        return answers::refused(numbers::SHAPES_DIFFER);
+    }
+    composed(a, b)
+}
+
+// The inverse: what is kept of the columns exchanged.
+pub fn inverse(a: Plan) -> Making
+    requires { ⌜ isPlan a ≡ true ⌝ }
+    ensures { λ r. ⌜ r ≡ making (inverted (planOf a)) ⌝ }
+{
+    let from = a.from;
+    let to = a.to;
+    answers::granted(keeping::keep(to, from, a.pairs, a.arity, a.roots))
+}
+
 // The plan that moves nothing: each belt to itself.
 fn identity(arity: u8, roots: u8) -> Plan
     requires { ⌜ T (shapeInRange (shape arity roots)) ⌝ }
@@ -104,7 +134,7 @@ fn identity(arity: u8, roots: u8) -> Plan
 }
 
 // A plan n times in a row.
-pub fn repeat(a: Plan, n: u32) -> Making
+fn repeat(a: Plan, n: u32) -> Making
     requires { ⌜ isPlan a ≡ true ⌝ }
     ensures { λ r. ⌜ r ≡ repeating (planOf a) n ⌝ }
 {
@@ -122,4 +152,23 @@ pub fn repeat(a: Plan, n: u32) -> Making
         i += 1;
     }
     answers::granted(power)
+}
+
+// A power; "below zero, the power −k of the inverse". 12, 11.
+pub fn power(a: Plan, k: i32) -> Making
+    requires { ⌜ isPlan a ≡ true ⌝ }
+    ensures { λ r. ⌜ r ≡ making (powered (planOf a) k) ⌝ }
+{
+    if k < MIN_POWER {
+        return answers::refused(numbers::POWER_OUTSIDE);
+    }
+    if MAX_POWER < k {
+        return answers::refused(numbers::POWER_OUTSIDE);
+    }
+    if k < 0 {
+        let back = inverse(a);
+        let plan = back.plan;
+        return repeat(plan, (-k) as u32);
+    }
+    repeat(a, k as u32)
 }

@@ -1,38 +1,32 @@
 -- What an accepted draft is, what is kept of it, and when a value is a kept plan: exactly when it is accepted, reduced and in order.
--- What I makes of a plan is what is kept of its columns exchanged.
 use Prim.Native.Nat.{ℕ, _≤_}
 use mathlib.Core.Path.{_≡_, refl, sym, _∙_, ap, subst}
 use mathlib.Core.Logic.{_↔_, _⊎_, inl, inr}
 use mathlib.Core.Bool.{Bool, true, false, _&&_}
-use mathlib.Core.List.{List, [], _∷_}
+use mathlib.Core.List.{[], _∷_}
 use native.Mathlib.Omega.{arith}
 use lib.Dec.{T}
-use lib.ListN.{take}
 use types.Run.{OneOf}
 use denote.Enum.Declared.{tagOf}
 use Rattle.higman.specs.Words.{Shape}
-use Rattle.higman.specs.Tables.{Table, froms, swapped, sameTable}
+use Rattle.higman.specs.Tables.{Table, froms, sameTable}
 use Rattle.higman.specs.Normal.{keep, Reduced, ordered}
 use Rattle.higman.specs.Limits.{Bases, Kept, maxPairs, shapeInRange}
 use Rattle.higman.specs.Answers as Of
 use Rattle.higman.proofs.Tests.{passes, so, T-of, and-left, and-right, and-intro}
-use Rattle.higman.proofs.Elements.{element-swapped}
-use Rattle.higman.proofs.KeptPlans.{arity-of-range, element-of-bases, bases-of-element}
+use Rattle.higman.proofs.KeptPlans.{arity-of-range}
 use Rattle.higman.proofs.Statements.{table-of, answers-exact}
-use Rattle.words.specs.Packed.{unpack}
 use Rattle.operations.specs.declared.Plan.{Plan}
 use Rattle.plans.specs.declared.Judgement.{Judgement}
 use Rattle.plans.specs.declared.Judgement.the-variants.{NotADraft, Accepted, InFrom, InTo}
 use Rattle.plans.specs.declared.Keeping.{Keeping}
-use Rattle.operations.specs.declared.Answer.the-variants.{Granted}
-use Rattle.operations.specs.declared.Making.{Making}
-use Rattle.columns.specs.Packed.{table, rows}
 use Rattle.tables.specs.Joining.{isNormal}
 use Rattle.tables.proofs.Joining.{normal-exactly}
-use Rattle.operations.specs.Plans.{shapeOf, rowsOf, planOf, inTable, isDraft, isPlan, packed, blank}
-use Rattle.plans.specs.Answers.{judgementOf, judged, keptOf, keeping, noPlan, inverting}
+use Rattle.operations.specs.Plans.{shapeOf, rowsOf, planOf, inTable, isDraft, isPlan, blank}
+use Rattle.plans.specs.Answers.{judgementOf, judged, keptOf, keeping}
 use Rattle.plans.proofs.Judgement.{the-type}
 use Rattle.operations.proofs.Values.{few-in-table}
+use Rattle.operations.proofs.KeptValues.{kept-plan}
 
 abbrev IsAccepted : Judgement → Type 0
 IsAccepted NotADraft = ⊥
@@ -104,11 +98,6 @@ none-kept p Accepted h = absurd (h refl)
 none-kept p (InFrom r) h = refl
 none-kept p (InTo r) h = refl
 
--- a kept plan is a value in a table that holds one
-pub kept-plan : (p : Plan) → T (isPlan p) → T (inTable p) × Kept (planOf p)
-unfolding isPlan
-kept-plan p h = (and-left (inTable p) (Of.isKept (planOf p)) h, answers-exact .kept-test (planOf p) .0 (and-right (inTable p) (Of.isKept (planOf p)) h))
-
 judged-plan : (p : Plan) → T (isPlan p) → judged p ≡ Accepted
 unfolding isPlan Rattle.higman.specs.Answers.isKept
 judged-plan p h =
@@ -160,39 +149,3 @@ plan-normal p e = same-test (isNormal (p .arity) (rowsOf p)) (isPlan p) to from
 
     from : T (isPlan p) → T (isNormal (p .arity) (rowsOf p))
     from h = let k = kept-plan p h .1 in normal .1 (k .reduced, k .in-order)
-
--- the table of two columns exchanged
-table-swapped : (f t : List ℕ) → table t f ≡ swapped (table f t)
-table-swapped [] [] = refl
-table-swapped [] (y ∷ t) = refl
-table-swapped (x ∷ f) [] = refl
-table-swapped (x ∷ f) (y ∷ t) = ap (λ l. record { from = unpack y; to = unpack x } ∷ l) (table-swapped f t)
-
--- the columns of a plan, exchanged
-module _ (a : Plan) (e : isPlan a ≡ true) where
-  exchanged : rows (a .pairs) (a .to) (a .from) ≡ swapped (rowsOf a)
-  exchanged = table-swapped (take (a .pairs) (a .from)) (take (a .pairs) (a .to))
-
-  pub plan-few : a .pairs ≤ maxPairs
-  plan-few = few-in-table a (kept-plan a (T-of e) .0)
-
-  pub plan-in-range : T (shapeInRange (shapeOf a))
-  plan-in-range = kept-plan a (T-of e) .1 .in-range
-
-  pub exchanged-bases : Bases (shapeOf a) (rows (a .pairs) (a .to) (a .from))
-  exchanged-bases =
-      let s = shapeOf a in
-      let n = arity-of-range s plan-in-range in
-      let E = element-of-bases s (rowsOf a) n (kept-plan a (T-of e) .1 .bases) in
-      subst (Bases s) (sym exchanged) (bases-of-element s (swapped (rowsOf a)) n (element-swapped s (rowsOf a) E))
-
-  pub inverting-plan : (q : Plan) → q ≡ packed (record { shape = shapeOf a; rows = keep (shapeOf a) (rows (a .pairs) (a .to) (a .from)) })
-      → _≡_ {A = Making} (record { answer = Granted; plan = q }) (inverting a)
-  unfolding inverting Rattle.higman.specs.Answers.inverted Rattle.higman.specs.Normal.inverse
-  inverting-plan q h =
-      rw (e, inverting)
-      (ap {B = Making} (λ x. record { answer = Granted; plan = x }) (h ∙ ap (λ u. packed (record { shape = shapeOf a; rows = keep (shapeOf a) u })) exchanged))
-
-pub inverting-none : (a : Plan) → isPlan a ≡ false → noPlan ≡ inverting a
-unfolding inverting
-inverting-none a e = rw (e, inverting)

@@ -4,7 +4,6 @@ pub mod Checks
 pub mod DraftChecks
 pub mod Accepted
 pub mod Answered
-pub mod Signs
 pub mod Powered
 pub mod Codes
 pub mod Lists

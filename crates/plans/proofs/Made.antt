@@ -29,7 +29,7 @@ use Rattle.operations.proofs.KeptValues.{kept}
 use Rattle.plans.proofs.Answered.{both-plans}
 use Rattle.operations.proofs.Repacked.{holds}
 use Rattle.operations.proofs.Raised.{not-refused}
-use Rattle.plans.proofs.Powered.{raising-plan, raising-outside, raising-within}
+use Rattle.plans.proofs.Powered.{inverting-plan, raising-plan, raising-outside, raising-within}
 use Rattle.plans.proofs.Handed.{packed-handed, held-packed}
 
 -- an answer that grants the plan that a value holds
@@ -61,8 +61,7 @@ module _ (v : Plan) (h : Handed v) where
   arity-low = arity-of-range (shapeOf v) (plan-kept .in-range)
 
   pub inverting-is : inverting v ≡ making (Of.inverted (planOf v))
-  unfolding inverting
-  inverting-is = rw (h .taken, inverting)
+  inverting-is = inverting-plan v (h .taken)
 
   pub inverse-made : (u : Plan) → inverting v ≡ granting u → Made (Of.inverted (planOf v)) u
   inverse-made u e = made (Of.inverted (planOf v)) u (λ c. demand3 .inverted-kept (planOf v) c plan-kept) (sym inverting-is ∙ e)

@@ -1,16 +1,13 @@
 // Keeping (document 01, "Plans"): "Kept plans are reduced, with from-words in order of the first digit that differs". A draft is
-// kept where it is accepted. A value is a kept plan if it is accepted, its from-words are in order and no pairs of it join, and the
-// inverse is what is kept of the columns exchanged.
+// kept where it is accepted. A value is a kept plan if it is accepted, its from-words are in order and no pairs of it join.
 ghost use mathlib.Core.Path.{_≡_};
 ghost use Rattle.operations.specs.Plans.{isPlan};
-ghost use Rattle.plans.specs.Answers.{keeping, inverting};
+ghost use Rattle.plans.specs.Answers.{keeping};
 use crate::Judgement;
 use crate::Keeping;
-use operations::Making;
 use operations::Plan;
 use operations::answers;
 use operations::keeping;
-use operations::numbers;
 
 // The verdict on a draft and, where it is Accepted, the plan kept of it.
 pub fn keep(draft: Plan) -> Keeping
@@ -51,16 +48,4 @@ pub fn is_plan(p: Plan) -> bool
         }
         _ => false,
     }
-}
-
-// I: the inverse of a plan. 15.
-pub fn inverse(a: Plan) -> Making
-    ensures { λ r. ⌜ r ≡ inverting a ⌝ }
-{
-    if !is_plan(a) {
-        return answers::refused(numbers::INVALID_VALUE);
-    }
-    let from = a.from;
-    let to = a.to;
-    answers::granted(keeping::keep(to, from, a.pairs, a.arity, a.roots))
 }

@@ -213,7 +213,7 @@ pub extern "C" fn plans_follow(a: Plan, b: Plan) -> Made
 pub extern "C" fn plans_inverse(a: Plan) -> Made
     ensures { λ r. ⌜ r ≡ madeOf (inverting a) ⌝ }
 {
-    made_of(plans::kept::inverse(a))
+    made_of(plans::following::inverse(a))
 }
 
 // K: a power.

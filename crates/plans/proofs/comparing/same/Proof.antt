@@ -13,7 +13,8 @@ use Rattle.columns.proofs.Rows.{rows-length}
 use Rattle.plans.specs.declared.Likeness.the-variants.{Alike}
 use Rattle.operations.specs.Plans.{shapeOf, rowsOf, isPlan}
 use Rattle.operations.proofs.KeptValues.{from-room, to-room}
-use Rattle.plans.proofs.Answered.{first-not-alike, second-not-alike, both-compared, not-compared, rows-compared, lengths-differ, arity-differs, roots-differ}
+use Rattle.operations.proofs.Shapes.{arity-differs, roots-differ}
+use Rattle.plans.proofs.Answered.{first-not-alike, second-not-alike, both-compared, not-compared, rows-compared, lengths-differ}
 use Rattle.plans.proofs.comparing.same.Statement.{statement}
 use Rattle.plans.proofs.comparing.same.Tie as tie
 

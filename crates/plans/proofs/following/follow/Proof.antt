@@ -1,10 +1,10 @@
--- `plans::following::follow` meets its contract: 15, 10, and then what `composed` answers.
+-- `plans::following::follow` meets its contract: 15, and then what `compose` answers.
 use mathlib.Core.Path.{_≡_, sym, _∙_}
 use mathlib.Core.Bool.{true}
 use borrow.Author.Needs.{needs}
 use borrow.Author.Tests.{not-true, not-false}
-use Rattle.operations.specs.Plans.{shapeOf, isPlan}
-use Rattle.plans.proofs.Answered.{first-no-plan, second-no-plan, both-plans, shapes-differ, arity-differs, roots-differ}
+use Rattle.operations.specs.Plans.{isPlan}
+use Rattle.plans.proofs.Answered.{first-no-plan, second-no-plan, both-plans}
 use Rattle.plans.proofs.following.follow.Statement.{statement}
 use Rattle.plans.proofs.following.follow.Tie as tie
 
@@ -45,41 +45,11 @@ returns-2 c =
     (sym (p .is-plan .ensures) ∙ not-false (p .is-plan .result) (q .before .if1 .left))
     (sym (q .is-plan2 .ensures) ∙ not-true (q .is-plan2 .result) (c .before .if2 .taken))
 
-refused-requires-3 : tie.Need-refused-requires-3
-refused-requires-3 c κs = search needs
+compose-requires : tie.Need-compose-requires
+compose-requires c κs = (first c, second c)
 
 returns-3 : tie.Need-returns-3
-returns-3 c =
-    let e = c .before .before .before .before in
-    let a = asked e .args .a in
-    let b = asked e .args .b in
-    c .refused3 .ensures
-    ∙ shapes-differ a b (arity-differs (shapeOf a) (shapeOf b) (c .before .if3 .taken))
-    ∙ both-plans a b (first e) (second e)
-
-refused-requires-4 : tie.Need-refused-requires-4
-refused-requires-4 c κs = search needs
-
-returns-4 : tie.Need-returns-4
-returns-4 c =
-    let e = c .before .before .before .before .before .before .before in
-    let a = asked e .args .a in
-    let b = asked e .args .b in
-    c .refused4 .ensures
-    ∙ shapes-differ a b (roots-differ (shapeOf a) (shapeOf b) (c .before .if4 .taken))
-    ∙ both-plans a b (first e) (second e)
-
-composed-requires : tie.Need-composed-requires
-composed-requires c κs =
-    let e = c .before .before .before .before .before .before in
-    let arity = c .before .before .before .if3 .left in
-    let roots = c .if4 .left in
-    (first e, second e, λ i. record { arity = arity i; roots = roots i })
-
-returns-5 : tie.Need-returns-5
-returns-5 c =
-    let e = c .before .before .before .before .before .before .before in
-    c .composed .ensures ∙ both-plans (asked e .args .a) (asked e .args .b) (first e) (second e)
+returns-3 c = let e = c .before in c .compose .ensures ∙ both-plans (asked e .args .a) (asked e .args .b) (first e) (second e)
 
 pub follow-spec : {M : Type 1} → statement M
 follow-spec =
@@ -91,9 +61,5 @@ follow-spec =
     is-plan-requires-2
     refused-requires-2
     returns-2
-    refused-requires-3
-    returns-3
-    refused-requires-4
-    returns-4
-    composed-requires
-    returns-5)
+    compose-requires
+    returns-3)
