@@ -8,6 +8,7 @@ pub mod Shapes
 pub mod Composed
 pub mod Exchanged
 pub mod SamePairs
+pub mod Compared
 pub mod Identity
 pub mod Repacked
 pub mod Raised

@@ -1,7 +1,8 @@
--- What is answered where a plan is made: the answers of higman, as a plan beside the number of a refusal. Where it is refused, the plan
--- is the blank one. Read Keeping.antt next.
+-- What is answered where a plan is made or two are compared: the answers of higman, with the numbers of the refusals. A plan stands
+-- beside the answer that makes one; where it is refused, that is the blank one. Read Keeping.antt next.
 use Prim.Native.Nat.{ℕ}
 use mathlib.Core.Path.{_≡_, refl}
+use mathlib.Core.Bool.{Bool, true, false}
 use mathlib.Core.List.{[], _∷_, map}
 use mathlib.Core.Option.{Option, none, some}
 use Rattle.higman.specs.Words.{Shape}
@@ -15,6 +16,8 @@ use Rattle.operations.specs.declared.Plan.{Plan}
 use Rattle.operations.specs.declared.Answer.{Answer}
 use Rattle.operations.specs.declared.Answer.the-variants.{Granted, Refused}
 use Rattle.operations.specs.declared.Making.{Making}
+use Rattle.operations.specs.declared.Likeness.{Likeness}
+use Rattle.operations.specs.declared.Likeness.the-variants as Like
 use Rattle.operations.specs.Plans.{planOf, packed, blank}
 
 -- a granted plan, or the number of the refusal
@@ -46,8 +49,26 @@ repeated none s = making (Of.Refused Of.LimitBroken)
 abbrev pub repeating : PlanOf → ℕ → Making
 repeating a n = repeated (Of.raised (a .shape) (a .rows) n) (a .shape)
 
+-- whether two plans act alike, or the number of the refusal
+abbrev pub likeness : Of.Comparison → Likeness
+likeness (Of.Alike b) = Like.Alike b
+likeness (Of.NotCompared r) = Like.Refused (Of.refusalNumber r)
+
+-- the number of a refusal, 0 where plans were compared, and what the comparison found
+abbrev pub likenessNumber : Likeness → ℕ
+likenessNumber (Like.Alike b) = 0
+likenessNumber (Like.Refused n) = n
+
+abbrev pub likenessValue : Likeness → Bool
+likenessValue (Like.Alike b) = b
+likenessValue (Like.Refused n) = false
+
 answerNumber-example : map answerNumber (Granted ∷ Refused 11 ∷ []) ≡ 0 ∷ 11 ∷ []
 answerNumber-example = refl
+
+likenessNumber-example : (map likenessNumber (Like.Alike true ∷ Like.Refused 10 ∷ []) ≡ 0 ∷ 10 ∷ [])
+    × (map likenessValue (Like.Alike true ∷ Like.Refused 10 ∷ []) ≡ true ∷ false ∷ [])
+likenessNumber-example = (refl, refl)
 
 -- a value of shape (2,1), for examples
 abbrev pub value21 : Table → Plan

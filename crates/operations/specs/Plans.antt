@@ -10,12 +10,13 @@ use Rattle.higman.specs.Words.{Shape, Word}
 use Rattle.higman.specs.Bases.{all}
 use Rattle.higman.specs.Tables.{Pair, Table, froms, tos, row, φ, ψ}
 use Rattle.higman.specs.Normal.{joined, normal, normalForm, keep}
-use Rattle.higman.specs.Limits.{Plan as PlanOf, shapeInRange, granted, maxPairs, maxDigits, isPlanWord}
+use Rattle.higman.specs.Limits.{Plan as PlanOf, Kept, shapeInRange, granted, maxPairs, maxDigits, isPlanWord}
 use Rattle.higman.specs.Answers.{verdict, isTableOf, isKept}
 use Rattle.words.specs.Packed.{packOn, pack, unpackIn, unpack}
 use Rattle.words.specs.Bytes.{shape}
 use Rattle.operations.specs.declared.Plan.{Plan}
 use Rattle.columns.specs.Packed.{wordsOf, rows}
+use Rattle.tables.specs.Lines.{planOf as planIn}
 
 abbrev pub shapeOf : Plan → Shape
 shapeOf p = shape (p .arity) (p .roots)
@@ -50,6 +51,11 @@ isDraft p = inTable p && isTableOf (shapeOf p) (rowsOf p)
 -- "15 .. a plan or desk handed in isn't one as described above": what is not this
 unfoldable pub isPlan : Plan → Bool
 isPlan p = inTable p && isKept (planOf p)
+
+-- two lent columns that hold a kept plan, as the first places of a plan's columns do
+pub record LentPlan (arity roots : ℕ) (from to : List ℕ) : Type 0 where
+  pub paired : length from ≡ length to
+  pub kept : Kept (planIn arity roots from to)
 
 -- a packed column with zeros behind
 abbrev pub column : List Word → List ℕ

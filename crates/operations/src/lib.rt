@@ -32,3 +32,9 @@ pub struct Making {
     pub answer: Answer,
     pub plan: Plan,
 }
+
+// Whether two plans act alike, or the number of the refusal.
+pub enum Likeness {
+    Alike(bool),
+    Refused(u8),
+}

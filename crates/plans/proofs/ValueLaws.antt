@@ -13,12 +13,13 @@ use Rattle.higman.proofs.Tests.{passes, so, T-of, clash, same-table, same-table
 use Rattle.higman.proofs.Demand3.{demand3, alike-rows}
 use Rattle.higman.proofs.Listing.{listing-faithful}
 use Rattle.operations.specs.declared.Plan.{Plan}
-use Rattle.plans.specs.declared.Likeness.the-variants.{Alike}
+use Rattle.operations.specs.declared.Likeness.the-variants.{Alike}
 use Rattle.operations.specs.Plans.{shapeOf, planOf, packed}
-use Rattle.operations.specs.Answers.{making, granting}
-use Rattle.plans.specs.Answers.{following, inverting, raising, alike, likenessValue}
+use Rattle.operations.specs.Answers.{making, granting, likenessValue}
+use Rattle.plans.specs.Answers.{following, inverting, raising, alike}
 use Rattle.plans.specs.Theorems.{Handed, Compared, identityOf, ValueDemand3}
-use Rattle.plans.proofs.Answered.{both-compared, rows-compared}
+use Rattle.operations.proofs.Compared.{rows-compared}
+use Rattle.plans.proofs.Answered.{both-compared}
 use Rattle.operations.proofs.Repacked.{holds}
 use Rattle.plans.proofs.Powered.{raising-plan}
 use Rattle.plans.proofs.Handed.{packed-handed, held-packed}
@@ -110,7 +111,7 @@ module _ (v w : Plan) (h : Handed v) (k : Handed w) (e : shapeOf v ≡ shapeOf w
   test = sameTable (planOf v .rows) (planOf w .rows)
 
   alike-is : alike v w ≡ Alike test
-  alike-is = sym (rows-compared v w e ∙ both-compared v w (h .taken) (k .taken))
+  alike-is = sym (rows-compared (planOf v) (planOf w) e ∙ both-compared v w (h .taken) (k .taken))
 
   says : (b : Bool) → (alike v w ≡ Alike b) ↔ (test ≡ b)
   says b = (λ a. ap likenessValue (sym alike-is ∙ a), λ t. alike-is ∙ ap Alike t)

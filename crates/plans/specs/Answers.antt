@@ -15,8 +15,10 @@ use Rattle.words.specs.Packed.{packOn, pack, unpackIn, unpack}
 use Rattle.words.specs.Bytes.{shape}
 use Rattle.operations.specs.declared.Plan.{Plan}
 use Rattle.operations.specs.declared.Making.{Making}
+use Rattle.operations.specs.declared.Likeness.{Likeness}
+use Rattle.operations.specs.declared.Likeness.the-variants as Like
 use Rattle.operations.specs.Plans.{shapeOf, rowsOf, planOf, inTable, isDraft, isPlan, packed, blank}
-use Rattle.operations.specs.Answers.{granting, refusing, making, composing, value21}
+use Rattle.operations.specs.Answers.{granting, refusing, making, composing, likeness, value21}
 use Rattle.plans.specs.declared.Reason.{Reason}
 use Rattle.plans.specs.declared.Reason.the-variants.{Overlap, Gap}
 use Rattle.plans.specs.declared.Fault.{Fault}
@@ -24,8 +26,6 @@ use Rattle.plans.specs.declared.Fault.the-variants.{Sound, Faulty}
 use Rattle.plans.specs.declared.Judgement.{Judgement}
 use Rattle.plans.specs.declared.Judgement.the-variants.{NotADraft, Accepted, InFrom, InTo}
 use Rattle.plans.specs.declared.Keeping.{Keeping}
-use Rattle.plans.specs.declared.Likeness.{Likeness}
-use Rattle.plans.specs.declared.Likeness.the-variants as Like
 
 abbrev pub reasonOf : Of.Reason → Reason
 reasonOf Of.Overlap = Overlap
@@ -88,27 +88,10 @@ inverting a = elim (isPlan a) [ true ↦ making (Of.inverted (planOf a)) | false
 unfoldable pub raising : Plan → ℤ → Making
 raising a k = elim (isPlan a) [ true ↦ making (Of.powered (planOf a) k) | false ↦ noPlan ]
 
--- whether two plans act alike, or the number of the refusal
-abbrev pub likeness : Of.Comparison → Likeness
-likeness (Of.Alike b) = Like.Alike b
-likeness (Of.NotCompared r) = Like.Refused (Of.refusalNumber r)
-
 -- S: 15, 10
 unfoldable pub alike : Plan → Plan → Likeness
 alike a b =
     elim (isPlan a && isPlan b) [ true ↦ likeness (Of.same (planOf a) (planOf b)) | false ↦ Like.Refused invalidValue ]
-
--- the number of a refusal, 0 where plans were compared, and what the comparison found
-abbrev pub likenessNumber : Likeness → ℕ
-likenessNumber (Like.Alike b) = 0
-likenessNumber (Like.Refused n) = n
-
-abbrev pub likenessValue : Likeness → Bool
-likenessValue (Like.Alike b) = b
-likenessValue (Like.Refused n) = false
-
-likenessNumber-example : (map likenessNumber (Like.Alike true ∷ Like.Refused 10 ∷ []) ≡ 0 ∷ 10 ∷ []) × (map likenessValue (Like.Alike true ∷ Like.Refused 10 ∷ []) ≡ true ∷ false ∷ [])
-likenessNumber-example = (refl, refl)
 
 -- "6, one word begins or equals another; 7, a belt isn't covered", with the column's letter
 judgementNumber-example : map judgementNumber (Accepted ∷ InFrom Overlap ∷ InTo Gap ∷ NotADraft ∷ []) ≡ 0 ∷ 6 ∷ 7 ∷ 15 ∷ []

@@ -1,8 +1,8 @@
-// Comparing (document 01, "Records": "S .. if the plans act alike") of values: 15 and 10 first, and then pair by pair.
+// Comparing (document 01, "Records": "S .. if the plans act alike") of values: 15, and then what the crate `operations` finds of plans.
 ghost use mathlib.Core.Path.{_≡_};
 ghost use Rattle.plans.specs.Answers.{alike};
-use crate::Likeness;
 use crate::kept;
+use operations::Likeness;
 use operations::Plan;
 use operations::comparing;
 use operations::numbers;
@@ -17,19 +17,20 @@ pub fn same(a: Plan, b: Plan) -> Likeness
     if !kept::is_plan(b) {
         return Likeness::Refused(numbers::INVALID_VALUE);
     }
-    if a.arity != b.arity {
-        return Likeness::Refused(numbers::SHAPES_DIFFER);
-    }
-    if a.roots != b.roots {
-        return Likeness::Refused(numbers::SHAPES_DIFFER);
-    }
-    let n = a.pairs;
-    if n != b.pairs {
-        return Likeness::Alike(false);
-    }
+    let first = a.pairs;
     let a_from = a.from;
     let a_to = a.to;
+    let second = b.pairs;
     let b_from = b.from;
     let b_to = b.to;
-    Likeness::Alike(comparing::same_pairs(&a_from[..n], &a_to[..n], &b_from[..n], &b_to[..n]))
+    comparing::same(
+        a.arity,
+        a.roots,
+        &a_from[..first],
+        &a_to[..first],
+        b.arity,
+        b.roots,
+        &b_from[..second],
+        &b_to[..second],
+    )
 }

@@ -9,6 +9,7 @@ pub mod listing;
 pub mod routing;
 
 pub use operations::Answer;
+pub use operations::Likeness;
 pub use operations::Making;
 pub use operations::Plan;
 
@@ -39,12 +40,6 @@ pub enum Judgement {
 pub struct Keeping {
     pub judgement: Judgement,
     pub plan: Plan,
-}
-
-// Whether two plans act alike, or the number of the refusal.
-pub enum Likeness {
-    Alike(bool),
-    Refused(u8),
 }
 
 // "A route replies with an image, a code too short, or another refusal."
