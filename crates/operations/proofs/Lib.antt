@@ -14,3 +14,4 @@ pub mod Repacked
 pub mod Raised
 pub mod Signs
 pub mod Powered
+pub mod Codes

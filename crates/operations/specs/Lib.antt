@@ -1,6 +1,7 @@
--- The definitions that the contracts of this crate cite: values and the plans that they hold; what is answered where a plan is made; what
--- keeping writes.
+-- The definitions that the contracts of this crate cite: values and the plans that they hold; what is answered where a plan is made;
+-- codes under a plan; what keeping writes.
 pub mod Plans
 pub mod Answers
+pub mod Routing
 pub mod Keeping
 pub mod Filled

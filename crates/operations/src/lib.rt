@@ -6,6 +6,7 @@ pub mod comparing;
 pub mod following;
 pub mod keeping;
 pub mod numbers;
+pub mod routing;
 
 // The pairs that a plan has at most: `maxPairs` of higman's Limits.antt.
 pub const MAX_PAIRS: usize = 128;
@@ -36,5 +37,15 @@ pub struct Making {
 // Whether two plans act alike, or the number of the refusal.
 pub enum Likeness {
     Alike(bool),
+    Refused(u8),
+}
+
+// "A route replies with an image, a code too short, or another refusal."
+pub enum Route {
+    // the number of bytes of the image, which stand at the front of the buffer
+    Image(usize),
+    // the code is a proper beginning of a from-word: 13
+    TooShort,
+    // the number of another refusal
     Refused(u8),
 }

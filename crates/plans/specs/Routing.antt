@@ -1,49 +1,33 @@
 -- Codes under a plan: what the library's match hands back, and what a route replies and leaves in the lent buffer. The images are those
--- of higman; 15 comes before all other refusals, and 14 after them. Read Listing.antt next.
+-- of higman; 15 comes before all other refusals. Read Listing.antt next.
 use Prim.Native.Nat.{ℕ}
 use mathlib.Core.Path.{_≡_, refl}
 use mathlib.Core.Bool.{true, false}
 use mathlib.Core.List.{List, [], _∷_, map}
-use lib.ListN.{length, drop}
+use lib.ListN.{drop}
 use Rattle.higman.specs.Tables.{froms, ψ}
 use Rattle.higman.specs.Normal.{joined, normal, normalForm, keep}
 use Rattle.higman.specs.Limits.{shapeInRange, granted, isCode, maxPairs, maxDigits, maxCode}
-use Rattle.higman.specs.Refusals.{codeTooShort, bufferTooShort, invalidValue}
+use Rattle.higman.specs.Refusals.{invalidValue}
 use Rattle.higman.specs.Answers as Of
-use Rattle.higman.specs.Text.{wordBytes, digitOf, wordOf}
+use Rattle.higman.specs.Text.{digitOf, wordOf}
 use Rattle.words.specs.Packed.{packOn, pack, unpackIn, unpack}
-use Rattle.higman.specs.Buffers.{ifRoom, lentInto}
 use Rattle.words.specs.Bytes.{shape}
 use Rattle.tables.specs.Routing.{matchedDigits}
 use Rattle.operations.specs.declared.Plan.{Plan}
-use Rattle.plans.specs.declared.Route.{Route}
-use Rattle.plans.specs.declared.Route.the-variants.{Image, TooShort, Refused}
+use Rattle.operations.specs.declared.Route.{Route}
+use Rattle.operations.specs.declared.Route.the-variants.{Image, TooShort, Refused}
 use Rattle.operations.specs.Plans.{shapeOf, rowsOf, planOf, inTable, isPlan, packed, blank}
+use Rattle.operations.specs.Routing.{matchedIn, routingIn, imageInto}
 
 -- the digits of the from-word that begins a code; none where no from-word does, "or 15 or 4 applies"
 unfoldable pub matched : Plan → List ℕ → ℕ
 matched p code =
-    elim
-    (isPlan p) [
-      | true ↦ elim (isCode (shapeOf p) (wordOf code)) [ true ↦ matchedDigits (froms (rowsOf p)) (wordOf code) | false ↦ 0 ]
-      | false ↦ 0
-    ]
+    elim (isPlan p) [ true ↦ matchedIn (shapeOf p) (froms (rowsOf p)) code | false ↦ 0 ]
 
 -- "The library's match hands back the unmatched tail as a part of the parcel's code.": its bytes; where it starts is `further`.
 abbrev pub matching : Plan → List ℕ → List ℕ
 matching p code = drop (matched p code) code
-
--- "14 last: the lent buffer is shorter than the output"
-abbrev pub routingIn : Of.Route → ℕ → Route
-routingIn (Of.Image v) room = ifRoom (length (wordBytes v)) room (Image (length (wordBytes v))) (Refused bufferTooShort)
-routingIn Of.TooShort room = TooShort
-routingIn (Of.NotRouted r) room = Refused (Of.refusalNumber r)
-
--- what the buffer then holds: the image is the output
-abbrev pub imageInto : Of.Route → List ℕ → List ℕ
-imageInto (Of.Image v) out = lentInto (wordBytes v) out
-imageInto Of.TooShort out = out
-imageInto (Of.NotRouted r) out = out
 
 -- W: 15, 4, 13, 14
 unfoldable pub routing : Plan → List ℕ → ℕ → Route
@@ -52,18 +36,6 @@ routing p code room = elim (isPlan p) [ true ↦ routingIn (Of.routed (planOf p)
 -- what the buffer then holds
 unfoldable pub routedBuffer : Plan → List ℕ → List ℕ → List ℕ
 routedBuffer p code out = elim (isPlan p) [ true ↦ imageInto (Of.routed (planOf p) (wordOf code)) out | false ↦ out ]
-
--- the number of a route's refusal; 0 for an image
-abbrev pub routingNumber : Route → ℕ
-routingNumber (Image n) = 0
-routingNumber TooShort = codeTooShort
-routingNumber (Refused n) = n
-
--- the number of bytes written, 0 where there is a refusal
-abbrev pub routingLength : Route → ℕ
-routingLength (Image n) = n
-routingLength TooShort = 0
-routingLength (Refused n) = 0
 
 -- ψ, for examples
 abbrev value : Plan

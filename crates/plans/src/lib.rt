@@ -12,6 +12,7 @@ pub use operations::Answer;
 pub use operations::Likeness;
 pub use operations::Making;
 pub use operations::Plan;
+pub use operations::Route;
 
 // What is wrong with a column.
 pub enum Reason {
@@ -40,16 +41,6 @@ pub enum Judgement {
 pub struct Keeping {
     pub judgement: Judgement,
     pub plan: Plan,
-}
-
-// "A route replies with an image, a code too short, or another refusal."
-pub enum Route {
-    // the number of bytes of the image, which stand at the front of the buffer
-    Image(usize),
-    // the code is a proper beginning of a from-word: 13
-    TooShort,
-    // the number of another refusal
-    Refused(u8),
 }
 
 // How many bytes a listing has, which stand at the front of the buffer, or the number of the refusal.

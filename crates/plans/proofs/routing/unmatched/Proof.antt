@@ -1,49 +1,41 @@
--- `plans::routing::unmatched` meets its contract: the whole code where 15 or 4 applies, and otherwise what the search in the from-words
--- leaves.
+-- `plans::routing::unmatched` meets its contract: the whole code where 15 applies, and otherwise what is left by the from-words that a
+-- plan lends.
 use Prim.Native.Nat.{_≤_}
 use mathlib.Core.Path.{_≡_, sym, _∙_, ap}
 use mathlib.Core.Bool.{true}
 use borrow.Author.Needs.{needs}
 use borrow.Author.Tests.{not-true, not-false}
-use lib.ListN.{length, drop}
+use lib.ListN.{length, take, drop}
 use lib.Seq.{length-take-le}
-use Rattle.higman.specs.Limits.{isCode}
-use Rattle.higman.specs.Text.{wordOf}
 use Rattle.tables.specs.Routing.{further}
-use Rattle.operations.specs.Plans.{shapeOf, isPlan}
+use Rattle.operations.specs.Plans.{isPlan}
 use Rattle.operations.proofs.KeptValues as K
-use Rattle.plans.proofs.Codes.{matched-no-plan, matched-no-code, whole-code, code-digits, searchable, matched-found}
+use Rattle.operations.proofs.KeptValues.{lent}
+use Rattle.operations.proofs.Codes.{whole-code}
+use Rattle.plans.specs.Routing.{matched}
+use Rattle.plans.proofs.Codes.{matched-no-plan, matched-plan}
 use Rattle.plans.proofs.routing.unmatched.Statement.{statement}
 use Rattle.plans.proofs.routing.unmatched.Tie as tie
 
--- where the value is a plan, and the code one that it routes
-plan : (c : tie.Else1) → isPlan (c .before .before .before .args .p) ≡ true
+-- where the value is a plan
+abbrev called : tie.Else1 → tie.Start
+called c = c .before .before .before
+
+plan : (c : tie.Else1) → isPlan (called c .args .p) ≡ true
 plan c = sym (c .before .is-plan .ensures) ∙ not-false (c .before .is-plan .result) (c .if1 .left)
 
-abbrev called : tie.Else2 → tie.Start
-called c = c .before .before .before .before .before
+from-room : (c : tie.Else1) → called c .args .p .pairs ≤ length (called c .args .p .from)
+from-room c = K.from-room (called c .args .p) (plan c) _ (called c .good .0)
 
-code : (c : tie.Else2) → isCode (shapeOf (called c .args .p)) (wordOf (called c .args .code .now)) ≡ true
-code c = sym (c .before .is-code .ensures) ∙ not-false (c .before .is-code .result) (c .if2 .left)
-
-from-room : (c : tie.Else2) → called c .args .p .pairs ≤ length (called c .args .p .from)
-from-room c = let s = called c in K.from-room (s .args .p) (plan (c .before .before)) _ (s .good .0)
-
-to-room : (c : tie.Else2) → called c .args .p .pairs ≤ length (called c .args .p .to)
-to-room c = let s = called c in K.to-room (s .args .p) (plan (c .before .before)) _ (s .good .0)
+to-room : (c : tie.Else1) → called c .args .p .pairs ≤ length (called c .args .p .to)
+to-room c = K.to-room (called c .args .p) (plan c) _ (called c .good .0)
 
 returns : tie.Need-returns
 returns c =
     let i = c .before in
     let a = i .before .before .args in
-    whole-code (a .p) (a .code .now) (a .code .ptr) (matched-no-plan (a .p) (a .code .now) (sym (i .is-plan .ensures) ∙ not-true (i .is-plan .result) (c .if1 .taken)))
-
-returns-2 : tie.Need-returns-2
-returns-2 c =
-    let i = c .before in
-    let a = i .before .before .before .before .args in
-    whole-code (a .p) (a .code .now) (a .code .ptr)
-    (matched-no-code (a .p) (a .code .now) (plan (i .before)) (sym (i .is-code .ensures) ∙ not-true (i .is-code .result) (c .if2 .taken)))
+    whole-code (matched (a .p) (a .code .now)) (a .code .now) (a .code .ptr)
+    (matched-no-plan (a .p) (a .code .now) (sym (i .is-plan .ensures) ∙ not-true (i .is-plan .result) (c .if1 .taken)))
 
 array-share-prefix-from : tie.Need-array-share-prefix-from
 array-share-prefix-from c = from-room (c .before)
@@ -57,15 +49,14 @@ slice-aggregate-unmatched c =
 unmatched-requires : tie.Need-unmatched-requires
 unmatched-requires c κs =
     let e = c .before .before in
-    let a = called e .args in
-    let h = plan (e .before .before) in
-    (searchable (a .p) (a .code .now) h (code e) (from-room e) (to-room e), code-digits (a .p) (a .code .now) h (code e))
+    let p = called e .args .p in
+    (take (p .pairs) (p .to), lent p (plan e) (from-room e) (to-room e))
 
-returns-3 : tie.Need-returns-3
-returns-3 c =
+returns-2 : tie.Need-returns-2
+returns-2 c =
     let e = c .before .before .before in
     let a = called e .args in
-    let found = matched-found (a .p) (a .code .now) (plan (e .before .before)) (code e) (from-room e) (to-room e) in
+    let found = matched-plan (a .p) (a .code .now) (plan e) (from-room e) (to-room e) in
     (c .unmatched .ensures .0 ∙ ap (λ n. drop n (a .code .now)) found, c .unmatched .ensures .1 ∙ ap (λ n. further n (a .code .ptr)) found)
 
 pub unmatched-spec : {M : Type 1} → statement M
@@ -74,9 +65,7 @@ unmatched-spec =
     (tie.spec
     (λ c κs. search needs)
     returns
-    (λ c κs. search needs)
-    returns-2
     array-share-prefix-from
     slice-aggregate-unmatched
     unmatched-requires
-    returns-3)
+    returns-2)

@@ -1,11 +1,11 @@
--- `plans::routing::is_code` meets its contract.
+-- `operations::routing::is_code` meets its contract.
 use mathlib.Core.Path.{_∙_}
 use borrow.Author.Needs.{needs}
 use native.Mathlib.Omega.{arith}
 use Rattle.words.specs.Bytes.{shape}
-use Rattle.plans.proofs.Codes.{code-limit, code-long, code-short}
-use Rattle.plans.proofs.routing.is_code.Statement.{statement}
-use Rattle.plans.proofs.routing.is_code.Tie as tie
+use Rattle.operations.proofs.Codes.{code-limit, code-long, code-short}
+use Rattle.operations.proofs.routing.is_code.Statement.{statement}
+use Rattle.operations.proofs.routing.is_code.Tie as tie
 
 returns : tie.Need-returns
 returns c =
