@@ -15,3 +15,4 @@ pub mod Raised
 pub mod Signs
 pub mod Powered
 pub mod Codes
+pub mod Lists

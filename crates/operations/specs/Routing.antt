@@ -1,5 +1,5 @@
 -- Codes under a plan: how many digits of a code are matched, and what a route replies and leaves in the lent buffer. The images are
--- those of higman; 14 comes after all other refusals. Read Keeping.antt next.
+-- those of higman; 14 comes after all other refusals. Read Listing.antt next.
 use Prim.Native.Nat.{ℕ}
 use mathlib.Core.Path.{_≡_, refl}
 use mathlib.Core.Bool.{true, false}

@@ -5,6 +5,7 @@ pub mod answers;
 pub mod comparing;
 pub mod following;
 pub mod keeping;
+pub mod listing;
 pub mod numbers;
 pub mod routing;
 
@@ -47,5 +48,11 @@ pub enum Route {
     // the code is a proper beginning of a from-word: 13
     TooShort,
     // the number of another refusal
+    Refused(u8),
+}
+
+// How many bytes a listing has, which stand at the front of the buffer, or the number of the refusal.
+pub enum Listed {
+    Bytes(usize),
     Refused(u8),
 }

@@ -1,31 +1,19 @@
--- What L answers, case by case: 15, 8, 14 by the length of the listing, and the listing.
-use Prim.Native.Nat.{ℕ, suc, _≤_, _<_}
-use mathlib.Core.Path.{_≡_, sym, _∙_, ap}
-use mathlib.Core.Bool.{true, false, _&&_}
+-- What L answers of values: 15, and then the listing of the plan; in it 8, 14 by the length of the listing, and the listing.
+use Prim.Native.Nat.{ℕ, _≤_, _<_}
+use mathlib.Core.Path.{_≡_, sym, _∙_}
+use mathlib.Core.Bool.{true, false}
 use mathlib.Core.List.{List}
-use native.Mathlib.Nat.{zero-add}
-use borrow.Author.Tests.{le-leb, lt-leb}
-use lib.Dec.{leb, leb·suc-suc}
 use lib.ListN.{length}
-use Rattle.higman.specs.Text.{byte}
-use Rattle.higman.specs.Limits.{slotCount}
 use Rattle.higman.specs.Refusals.{slotOutside, bufferTooShort, invalidValue}
-use Rattle.higman.specs.Listing.{slotByte, isSlot, listing as linesOf}
-use Rattle.higman.specs.Buffers.{lentInto}
-use Rattle.higman.proofs.Buffers.{with-room, without-room, lent-written, lent-as-it-was}
+use Rattle.higman.specs.Listing.{isSlot, listing as linesOf}
 use Rattle.words.specs.Writing.{Wrote}
 use Rattle.operations.specs.declared.Plan.{Plan}
-use Rattle.plans.specs.declared.Listed.the-variants.{Bytes, Refused}
+use Rattle.operations.specs.declared.Listed.{Listed}
+use Rattle.operations.specs.declared.Listed.the-variants.{Bytes, Refused}
 use Rattle.operations.specs.Plans.{planOf, isPlan}
-use Rattle.plans.specs.Listing.{listingIn, listing, listedBuffer}
-
-pub slot-low : (b : ℕ) → b < byte "A" → false ≡ isSlot b
-slot-low b h = sym (ap (λ t. t && leb (suc b) (slotByte slotCount)) (lt-leb (byte "A") b h))
-
-pub slot-high : (b : ℕ) → byte "A" ≤ b → leb b (byte "H") ≡ isSlot b
-unfolding slotCount
-slot-high b h =
-    sym (ap (λ t. t && leb (suc b) (slotByte slotCount)) (le-leb (byte "A") b h) ∙ leb·suc-suc b (byte "H"))
+use Rattle.operations.specs.Listing.{listingFor, listedFor}
+use Rattle.operations.proofs.Lists.{list-no-slot, list-no-room, list-written}
+use Rattle.plans.specs.Listing.{listing, listedBuffer}
 
 module _ (p : Plan) (slot : ℕ) (out : List ℕ) where
   pub listing-no-plan : isPlan p ≡ false → (Refused invalidValue ≡ listing p slot (length out)) × (out ≡ listedBuffer p slot out)
@@ -33,33 +21,28 @@ module _ (p : Plan) (slot : ℕ) (out : List ℕ) where
   listing-no-plan h = (sym (rw (h, listing)), sym (rw (h, listedBuffer)))
 
   module _ (h : isPlan p ≡ true) where
+    listing-is : listingFor slot (planOf p) (length out) ≡ listing p slot (length out)
+    unfolding listing
+    listing-is = sym (rw (h, listing))
+
+    buffer-is : listedFor slot (planOf p) out ≡ listedBuffer p slot out
+    unfolding listedBuffer
+    buffer-is = sym (rw (h, listedBuffer))
+
+    pub listing-plan : (r : Listed) (out′ : List ℕ)
+        → (r ≡ listingFor slot (planOf p) (length out)) × (out′ ≡ listedFor slot (planOf p) out)
+        → (r ≡ listing p slot (length out)) × (out′ ≡ listedBuffer p slot out)
+    listing-plan r out′ (e, f) = (e ∙ listing-is, f ∙ buffer-is)
+
     pub listing-no-slot : isSlot slot ≡ false → (Refused slotOutside ≡ listing p slot (length out)) × (out ≡ listedBuffer p slot out)
-    unfolding listing listedBuffer
-    listing-no-slot k = (sym (rw (h, k, listing)), sym (rw (h, k, listedBuffer)))
+    listing-no-slot k = listing-plan (Refused slotOutside) out (list-no-slot (planOf p) slot out k)
 
     module _ (k : isSlot slot ≡ true) where
-      abbrev lines : List ℕ
-      lines = linesOf slot (planOf p)
-
-      listing-is : listing p slot (length out) ≡ listingIn lines (length out)
-      unfolding listing
-      listing-is = rw (h, k, listing)
-
-      buffer-is : listedBuffer p slot out ≡ lentInto lines out
-      unfolding listedBuffer
-      buffer-is = rw (h, k, listedBuffer)
-
-      pub listing-no-room : length out < length lines
+      pub listing-no-room : length out < length (linesOf slot (planOf p))
           → (Refused bufferTooShort ≡ listing p slot (length out)) × (out ≡ listedBuffer p slot out)
-      listing-no-room l = (
-        sym (listing-is ∙ without-room (length lines) (length out) (Bytes (length lines)) (Refused bufferTooShort) l),
-        sym (buffer-is ∙ lent-as-it-was lines out l),
-      )
+      listing-no-room l = listing-plan (Refused bufferTooShort) out (list-no-room (planOf p) slot out k l)
 
-      pub listing-written : length lines ≤ length out → (r : ℕ) (out′ : List ℕ) → Wrote lines out 0 out′ r
+      pub listing-written : length (linesOf slot (planOf p)) ≤ length out → (r : ℕ) (out′ : List ℕ)
+          → Wrote (linesOf slot (planOf p)) out 0 out′ r
           → (Bytes r ≡ listing p slot (length out)) × (out′ ≡ listedBuffer p slot out)
-      listing-written l r out′ w = (
-        ap Bytes (w .place ∙ zero-add (length lines))
-            ∙ sym (listing-is ∙ with-room (length lines) (length out) (Bytes (length lines)) (Refused bufferTooShort) l),
-        w .contents ∙ sym (buffer-is ∙ lent-written lines out l),
-      )
+      listing-written l r out′ w = listing-plan (Bytes r) out′ (list-written (planOf p) slot out k l r out′ w)

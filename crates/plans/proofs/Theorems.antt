@@ -15,8 +15,8 @@ use Rattle.higman.proofs.Tests.{passes}
 use Rattle.higman.proofs.Listing.{listing-faithful}
 use Rattle.higman.specs.Buffers.{written}
 use Rattle.operations.specs.declared.Plan.{Plan}
-use Rattle.plans.specs.declared.Listed.{Listed}
-use Rattle.plans.specs.declared.Listed.the-variants.{Bytes, Refused}
+use Rattle.operations.specs.declared.Listed.{Listed}
+use Rattle.operations.specs.declared.Listed.the-variants.{Bytes, Refused}
 use Rattle.operations.specs.Plans.{planOf, packed}
 use Rattle.plans.specs.Listing.{listing, listedBuffer}
 use Rattle.plans.specs.Theorems.{Handed, Lists, ListingsExact, LibraryExact}

@@ -1,51 +1,33 @@
--- The listing of a plan for a slot: what the call answers and leaves in the lent buffer. 15 comes first, and 14 last. Read
+-- The listing of a plan for a slot: what the call answers and leaves in the lent buffer. 15 comes first. Read
 -- Theorems.antt next.
 use Prim.Native.Nat.{ℕ}
 use mathlib.Core.Path.{_≡_, refl}
 use mathlib.Core.Bool.{true, false}
 use mathlib.Core.List.{List, [], _∷_, _++_, map}
-use lib.ListN.{length, replicate}
+use lib.ListN.{replicate}
 use Rattle.higman.specs.Text.{bytes}
 use Rattle.higman.specs.Tables.{row}
 use Rattle.higman.specs.Normal.{joined, normal, normalForm, keep}
 use Rattle.higman.specs.Limits.{shapeInRange, granted, maxPairs, maxDigits, slotCount}
-use Rattle.higman.specs.Refusals.{slotOutside, bufferTooShort, invalidValue}
+use Rattle.higman.specs.Refusals.{invalidValue}
 use Rattle.higman.specs.Answers.{verdict, isKept}
-use Rattle.higman.specs.Listing.{isSlot, listing as linesOf}
 use Rattle.words.specs.Packed.{packOn, pack, unpackIn, unpack}
-use Rattle.higman.specs.Buffers.{ifRoom, lentInto}
 use Rattle.words.specs.Bytes.{shape}
 use Rattle.operations.specs.declared.Plan.{Plan}
-use Rattle.plans.specs.declared.Listed.{Listed}
-use Rattle.plans.specs.declared.Listed.the-variants.{Bytes, Refused}
+use Rattle.operations.specs.declared.Listed.{Listed}
+use Rattle.operations.specs.declared.Listed.the-variants.{Bytes, Refused}
 use Rattle.operations.specs.Plans.{planOf, inTable, isPlan, packed, blank}
-
--- "14 last: the lent buffer is shorter than the output"
-abbrev pub listingIn : List ℕ → ℕ → Listed
-listingIn l room = ifRoom (length l) room (Bytes (length l)) (Refused bufferTooShort)
+use Rattle.operations.specs.Listing.{listingFor, listedFor}
 
 -- L: 15, 8, 14
 unfoldable pub listing : Plan → ℕ → ℕ → Listed
 listing p slot room =
-    elim
-    (isPlan p) [
-      | true ↦ elim (isSlot slot) [ true ↦ listingIn (linesOf slot (planOf p)) room | false ↦ Refused slotOutside ]
-      | false ↦ Refused invalidValue
-    ]
+    elim (isPlan p) [ true ↦ listingFor slot (planOf p) room | false ↦ Refused invalidValue ]
 
 -- what the buffer then holds
 unfoldable pub listedBuffer : Plan → ℕ → List ℕ → List ℕ
 listedBuffer p slot out =
-    elim (isPlan p) [ true ↦ elim (isSlot slot) [ true ↦ lentInto (linesOf slot (planOf p)) out | false ↦ out ] | false ↦ out ]
-
--- the number of a refusal, 0 where the listing was written, and the number of bytes written
-abbrev pub listedNumber : Listed → ℕ
-listedNumber (Bytes n) = 0
-listedNumber (Refused n) = n
-
-abbrev pub listedLength : Listed → ℕ
-listedLength (Bytes n) = n
-listedLength (Refused n) = 0
+    elim (isPlan p) [ true ↦ listedFor slot (planOf p) out | false ↦ out ]
 
 -- 1→1 in slot B: with room for its 16 bytes and for 15, in a slot that is none, and what is no plan
 abbrev value : Plan
@@ -61,6 +43,3 @@ listedBuffer-example : map (listedBuffer value 66) (replicate 17 7 ∷ replicate
 unfolding listedBuffer slotCount isPlan inTable isKept shapeInRange granted maxPairs maxDigits verdict keep normalForm normal joined
     packed pack packOn unpack unpackIn
 listedBuffer-example = refl
-
-listedNumber-example : (map listedNumber (Bytes 16 ∷ Refused 14 ∷ []) ≡ 0 ∷ 14 ∷ []) × (map listedLength (Bytes 16 ∷ Refused 14 ∷ []) ≡ 16 ∷ 0 ∷ [])
-listedNumber-example = (refl, refl)

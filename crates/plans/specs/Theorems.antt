@@ -23,7 +23,7 @@ use Rattle.words.specs.Bytes.{shape}
 use Rattle.operations.specs.declared.Plan.{Plan}
 use Rattle.operations.specs.declared.Answer.the-variants.{Granted}
 use Rattle.operations.specs.declared.Likeness.the-variants.{Alike}
-use Rattle.plans.specs.declared.Listed.the-variants.{Bytes}
+use Rattle.operations.specs.declared.Listed.the-variants.{Bytes}
 use Rattle.operations.specs.Plans.{shapeOf, planOf, pairAt, inTable, isPlan, packed}
 use Rattle.operations.specs.Answers.{granting, value21}
 use Rattle.plans.specs.Answers.{following, inverting, raising, alike}

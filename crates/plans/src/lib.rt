@@ -10,6 +10,7 @@ pub mod routing;
 
 pub use operations::Answer;
 pub use operations::Likeness;
+pub use operations::Listed;
 pub use operations::Making;
 pub use operations::Plan;
 pub use operations::Route;
@@ -41,10 +42,4 @@ pub enum Judgement {
 pub struct Keeping {
     pub judgement: Judgement,
     pub plan: Plan,
-}
-
-// How many bytes a listing has, which stand at the front of the buffer, or the number of the refusal.
-pub enum Listed {
-    Bytes(usize),
-    Refused(u8),
 }

@@ -12,12 +12,12 @@ use Rattle.operations.specs.declared.Likeness.{Likeness}
 use Rattle.operations.specs.declared.Likeness.the-variants as Likeness
 use Rattle.operations.specs.declared.Route.{Route}
 use Rattle.operations.specs.declared.Route.the-variants.{Image, TooShort}
-use Rattle.plans.specs.declared.Listed.{Listed}
-use Rattle.plans.specs.declared.Listed.the-variants as Listed
+use Rattle.operations.specs.declared.Listed.{Listed}
+use Rattle.operations.specs.declared.Listed.the-variants as Listed
 use Rattle.operations.specs.Answers.{answerNumber, likenessNumber, likenessValue}
 use Rattle.plans.specs.Answers.{judgementNumber, judgementColumn}
 use Rattle.operations.specs.Routing.{routingNumber, routingLength}
-use Rattle.plans.specs.Listing.{listedNumber, listedLength}
+use Rattle.operations.specs.Listing.{listedNumber, listedLength}
 use Rattle.plans_c.specs.declared.Verdict.{Verdict}
 use Rattle.plans_c.specs.declared.Kept.{Kept}
 use Rattle.plans_c.specs.declared.Made.{Made}

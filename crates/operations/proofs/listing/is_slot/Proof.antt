@@ -1,8 +1,8 @@
--- `plans::listing::is_slot` meets its contract.
+-- `operations::listing::is_slot` meets its contract.
 use native.Mathlib.Omega.{arith}
-use Rattle.plans.proofs.Lists.{slot-low, slot-high}
-use Rattle.plans.proofs.listing.is_slot.Statement.{statement}
-use Rattle.plans.proofs.listing.is_slot.Tie as tie
+use Rattle.operations.proofs.Lists.{slot-low, slot-high}
+use Rattle.operations.proofs.listing.is_slot.Statement.{statement}
+use Rattle.operations.proofs.listing.is_slot.Tie as tie
 
 returns : tie.Need-returns
 returns c = slot-low (c .before .args .slot) (omega arith)
