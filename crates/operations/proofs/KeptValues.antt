@@ -45,7 +45,10 @@ pair-limit = refl
 -- a kept plan is a value in a table that holds one
 pub kept-plan : (p : Plan) → T (isPlan p) → T (inTable p) × Kept (planOf p)
 unfolding isPlan
-kept-plan p h = (and-left (inTable p) (isKept (planOf p)) h, answers-exact .kept-test (planOf p) .0 (and-right (inTable p) (isKept (planOf p)) h))
+kept-plan p h = (
+  and-left (inTable p) (isKept (planOf p)) h,
+  answers-exact .kept-test (planOf p) .0 (and-right (inTable p) (isKept (planOf p)) h),
+)
 
 -- what is lent of a kept plan: words of the shape, packed and in order
 module _ (arity roots : ℕ) (from to : List ℕ) (lent : LentPlan arity roots from to) where

@@ -34,7 +34,8 @@ fn is_code(code: &[u8], arity: u8, roots: u8) -> bool
 pub fn unmatched<'a>(arity: u8, roots: u8, from: &[u64], code: &'a [u8]) -> &'a [u8]
     requires { ⌜ ((to : List ℕ) × LentPlan arity roots (now from) to) ⌝ }
     ensures { λ r. ⌜ now r ≡ drop (matchedIn (shape arity roots) (wordsOf (now (from .entry))) (now (code .entry))) (now (code .entry)) ⌝ }
-    ensures { λ r. ⌜ r .ptr ≡ further (matchedIn (shape arity roots) (wordsOf (now (from .entry))) (now (code .entry))) ((code .entry) .ptr) ⌝ }
+    ensures { λ r. ⌜ r .ptr ≡ further (matchedIn (shape arity roots) (wordsOf (now (from .entry))) (now (code .entry)))
+        ((code .entry) .ptr) ⌝ }
 {
     if !is_code(code, arity, roots) {
         return code;
@@ -47,8 +48,8 @@ pub fn route(arity: u8, roots: u8, from: &[u64], to: &[u64], code: &[u8], out: &
     requires { ⌜ LentPlan arity roots (now from) (now to) ⌝ }
     ensures { λ r. ⌜ r ≡ routingIn (routed (planOf arity roots (now (from .entry)) (now (to .entry))) (wordOf (now (code .entry))))
         (length (now (out .entry))) ⌝ }
-    ensures { λ _. ⌜ now (out .exit) ≡ imageInto (routed (planOf arity roots (now (from .entry)) (now (to .entry))) (wordOf (now (code .entry))))
-        (now (out .entry)) ⌝ }
+    ensures { λ _. ⌜ now (out .exit) ≡ imageInto (routed (planOf arity roots (now (from .entry)) (now (to .entry)))
+        (wordOf (now (code .entry)))) (now (out .entry)) ⌝ }
 {
     if !is_code(code, arity, roots) {
         return Route::Refused(numbers::BAD_WORD);

@@ -1,5 +1,5 @@
--- `operations::keeping::clear` meets its contract. The invariant: up to i the column is what it was before the place and zeros from there on.
--- The measure is what is left of the column.
+-- `operations::keeping::clear` meets its contract. The invariant: up to i the column is what it was before the place and zeros from
+-- there on. The measure is what is left of the column.
 use Prim.Native.Nat.{_-_, _≤_}
 use mathlib.Core.Path.{_≡_, refl, sym, _∙_, ap}
 use mathlib.Core.List.{_++_}

@@ -1,5 +1,5 @@
--- `operations::keeping::keep` meets its contract: the first n numbers of each column are lent, and what `keep_into` leaves in the fresh columns
--- is the value of the kept plan.
+-- `operations::keeping::keep` meets its contract: the first n numbers of each column are lent, and what `keep_into` leaves in the fresh
+-- columns is the value of the kept plan.
 use Prim.Native.Nat.{_≤_}
 use mathlib.Core.Path.{_≡_, refl, sym, _∙_}
 use borrow.Author.Needs.{needs}

@@ -1,5 +1,5 @@
--- `operations::keeping::keep_into` meets its contract: sorted pairs may be reduced, what is kept of them is what is kept of the pairs that came,
--- and zeros stand behind once the columns are cleared.
+-- `operations::keeping::keep_into` meets its contract: sorted pairs may be reduced, what is kept of them is what is kept of the pairs
+-- that came, and zeros stand behind once the columns are cleared.
 use Prim.Native.Nat.{_≤_}
 use mathlib.Core.Path.{_≡_, _∙_}
 use borrow.Author.Needs.{needs}

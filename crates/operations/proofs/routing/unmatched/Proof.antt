@@ -29,7 +29,8 @@ returns c =
     let i = c .before in
     let a = start i .args in
     let s = shape (a .arity) (a .roots) in
-    let none = matched-no-code s (wordsOf (a .from .now)) (a .code .now) (sym (i .is-code .ensures) ∙ not-true (i .is-code .result) (c .if1 .taken)) in
+    let refused = sym (i .is-code .ensures) ∙ not-true (i .is-code .result) (c .if1 .taken) in
+    let none = matched-no-code s (wordsOf (a .from .now)) (a .code .now) refused in
     whole-code (matchedIn s (wordsOf (a .from .now)) (a .code .now)) (a .code .now) (a .code .ptr) none
 
 unmatched-requires : tie.Need-unmatched-requires
