@@ -1,0 +1,191 @@
+-- What the rules of the grammar read behind a letter and its tab, by the tests of the code at its places of the line. Rules of the same
+-- form share a law.
+use Prim.Native.Nat.{ℕ, suc, _+_, _-_, _≤_, _<_}
+use mathlib.Core.Path.{_≡_, refl, _∙_, ap, ap₂}
+use mathlib.Core.Bool.{true, false}
+use mathlib.Core.List.{List, [], _∷_}
+use mathlib.Core.Option.{Option, none, some}
+use native.Mathlib.Omega.{arith}
+use lib.IntN.{ℤ}
+use lib.ListN.{length, getD, drop, length-drop}
+use Rattle.higman.specs.Text.{Bytes, isNumeral}
+use Rattle.desk.specs.Limits.{maxNumeral}
+use Rattle.desk.specs.Records.{Record, P, M, K, W, Form, slotField, anyField, numberField, signedField, fields, field, noMore, noTab}
+use Rattle.records.specs.declared.Record.the-variants.{Pair, Route}
+use Rattle.records.specs.Reading.{placed}
+use Rattle.records.specs.Fields.{singleThen, singleLast, singles, firstField}
+use Rattle.records.proofs.fields.Forms.{field-some, field-none, field-nothing}
+use Rattle.records.proofs.fields.Ends.{fields-only, fields-then, fields-last, fields-two}
+use Rattle.records.proofs.fields.OneByte.{SingleForm, slot-single, then-fails, last-fails}
+use Rattle.records.proofs.fields.OneByte.{slot-then, slot-last, digit-then, digit-last, not-digit-then, not-digit-last}
+use Rattle.records.proofs.fields.OneByte.{singles-first, singles-behind, singles-length, singles-fail}
+
+-- a line with so many fields of one byte each behind its letter
+pub singles-end : (line : Bytes) (k : ℕ) → singles (suc k) (drop 2 line) ≡ true → length line ≡ k + k + 3
+singles-end line k t = omega (arith, length-drop 2 line, singles-length k (drop 2 line) t)
+
+-- L and C, one slot
+module _ (make : ℕ → Record) (line : Bytes) where
+  pub one-slot-missing : singles 1 (drop 2 line) ≡ false → field slotField (λ a. noMore (make a)) (fields (drop 2 line)) ≡ none
+  one-slot-missing t = last-fails slot-single _ (drop 2 line) (λ a f fs. refl) t
+
+  pub one-slot-read : singles 1 (drop 2 line) ≡ true
+      → field slotField (λ a. noMore (make a)) (fields (drop 2 line)) ≡ some (make (getD line 2 0))
+  one-slot-read t = slot-last line 2 _ t
+
+-- I and S, two
+module _ (make : ℕ → ℕ → Record) (line : Bytes) where
+  abbrev twoSlots : Option Record
+  twoSlots = field slotField (λ a. field slotField (λ b. noMore (make a b))) (fields (drop 2 line))
+
+  pub two-slots-missing : singles 2 (drop 2 line) ≡ false → twoSlots ≡ none
+  two-slots-missing t =
+      singles-fail slot-single _ 0 (drop 2 line) (λ a. refl) (λ a. last-fails slot-single _ (drop 2 (drop 2 line)) (λ b f fs. refl)) t
+
+  pub two-slots-read : singles 2 (drop 2 line) ≡ true → twoSlots ≡ some (make (getD line 2 0) (getD line 4 0))
+  two-slots-read t = slot-then line 2 _ (singles-first 0 (drop 2 line) t) ∙ slot-last line 4 _ (singles-behind line 2 0 t)
+
+-- P and F, three of two forms
+module _ {A B C : Type 0} {first : Form A} {second : Form B} {third : Form C} (make : A → B → C → Record) (line : Bytes)
+    (one : SingleForm first) (two : SingleForm second) (three : SingleForm third) where
+  pub three-missing : singles 3 (drop 2 line) ≡ false
+      → field first (λ a. field second (λ b. field third (λ c. noMore (make a b c)))) (fields (drop 2 line)) ≡ none
+  three-missing t = singles-fail one _ 1 (drop 2 line) (λ a. refl) second-missing t
+    where
+      second-missing : (a : A) → singles 2 (drop 2 (drop 2 line)) ≡ false
+          → field second (λ b. field third (λ c. noMore (make a b c))) (fields (drop 2 (drop 2 line))) ≡ none
+      second-missing a e =
+          let l = drop 2 (drop 2 line) in
+          singles-fail two _ 0 l (λ b. refl) (λ b. last-fails three _ (drop 2 l) (λ c f fs. refl)) e
+
+-- the tests of three fields, one by one
+module _ (line : Bytes) (t : singles 3 (drop 2 line) ≡ true) where
+  first-of-three : singleThen (drop 2 line) ≡ true
+  first-of-three = singles-first 1 (drop 2 line) t
+
+  second-of-three : singleThen (drop 4 line) ≡ true
+  second-of-three = singles-first 0 (drop 4 line) (singles-behind line 2 1 t)
+
+  third-of-three : singleLast (drop 6 line) ≡ true
+  third-of-three = singles-behind line 4 0 (singles-behind line 2 1 t)
+
+  pub three-slots-read : (make : ℕ → ℕ → ℕ → Record)
+      → field slotField (λ a. field slotField (λ b. field slotField (λ c. noMore (make a b c)))) (fields (drop 2 line))
+      ≡ some (make (getD line 2 0) (getD line 4 0) (getD line 6 0))
+  three-slots-read make = slot-then line 2 _ first-of-three ∙ slot-then line 4 _ second-of-three ∙ slot-last line 6 _ third-of-three
+
+  abbrev asOpen : Option Record
+  asOpen = field slotField (λ a. field (numberField 1) (λ n. field (numberField 1) (λ r. noMore (P a n r)))) (fields (drop 2 line))
+
+  pub open-wrong-arity : isNumeral (getD line 4 0) ≡ false → asOpen ≡ none
+  open-wrong-arity n = slot-then line 2 _ first-of-three ∙ not-digit-then line 4 _ second-of-three n
+
+  module _ (n : isNumeral (getD line 4 0) ≡ true) where
+    pub open-wrong-roots : isNumeral (getD line 6 0) ≡ false → asOpen ≡ none
+    open-wrong-roots r =
+        slot-then line 2 _ first-of-three ∙ digit-then line 4 _ second-of-three n ∙ not-digit-last line 6 _ third-of-three r
+
+    pub open-read : isNumeral (getD line 6 0) ≡ true → asOpen ≡ some (P (getD line 2 0) (getD line 4 0 - 48) (getD line 6 0 - 48))
+    open-read r = slot-then line 2 _ first-of-three ∙ digit-then line 4 _ second-of-three n ∙ digit-last line 6 _ third-of-three r
+
+-- M, by the end of its first word
+module _ (line : Bytes) (end : ℕ) (ends : end ≡ 2 + length (firstField (drop 2 line))) where
+  abbrev asPair : Option Record
+  asPair = field anyField (λ from. field anyField (λ to. noMore (M from to))) (fields (drop 2 line))
+
+  pub pair-no-second : length line ≤ end → asPair ≡ none
+  pair-no-second h = ap (field anyField (λ from. field anyField (λ to. noMore (M from to)))) (fields-only line 2 end ends h)
+
+  module _ (h : end < length line) where
+    -- its first word is read
+    abbrev asSecondWord : List Bytes → Option Record
+    asSecondWord = field anyField (λ to. noMore (M (firstField (drop 2 line)) to))
+
+    pair-second : asPair ≡ asSecondWord (fields (drop (end + 1) line))
+    pair-second = ap (field anyField (λ from. field anyField (λ to. noMore (M from to)))) (fields-then line 2 end ends h)
+
+    pub pair-third : noTab (drop (end + 1) line) ≡ false → asPair ≡ none
+    pair-third t = pair-second ∙ fields-two (λ fs. asSecondWord fs ≡ none) (λ f g gs. refl) (drop (end + 1) line) t
+
+    pub pair-read : noTab (drop (end + 1) line) ≡ true → asPair ≡ some (M (firstField (drop 2 line)) (drop (end + 1) line))
+    pair-read t = pair-second ∙ ap asSecondWord (fields-last (drop (end + 1) line) t)
+
+    -- where its words stand
+    pub pair-placed : Pair (record { start = 2; end = end }) (record { start = end + 1; end = length line })
+        ≡ placed (M (firstField (drop 2 line)) (drop (end + 1) line))
+    pair-placed =
+        let size = length (firstField (drop 2 line)) in
+        let start : end + 1 ≡ 2 + size + 1 = omega arith in
+        let stop : length line ≡ 2 + size + 1 + length (drop (end + 1) line) = omega (arith, length-drop (end + 1) line) in
+        ap₂ (λ e p. Pair (record { start = 2; end = e }) p) ends (ap₂ (λ s e. record { start = s; end = e }) start stop)
+
+-- W: a slot, and the rest of the line
+module _ (line : Bytes) where
+  abbrev asRoute : Option Record
+  asRoute = field slotField (λ a. field anyField (λ code. noMore (W a code))) (fields (drop 2 line))
+
+  pub route-no-code : singleThen (drop 2 line) ≡ false → asRoute ≡ none
+  route-no-code t = then-fails slot-single _ (drop 2 line) (λ a. refl) t
+
+  module _ (t : singleThen (drop 2 line) ≡ true) where
+    abbrev asCode : List Bytes → Option Record
+    asCode = field anyField (λ code. noMore (W (getD line 2 0) code))
+
+    route-code : asRoute ≡ asCode (fields (drop 4 line))
+    route-code = slot-then line 2 _ t
+
+    pub route-more : noTab (drop 4 line) ≡ false → asRoute ≡ none
+    route-more e = route-code ∙ fields-two (λ fs. asCode fs ≡ none) (λ f g gs. refl) (drop 4 line) e
+
+    pub route-read : noTab (drop 4 line) ≡ true → asRoute ≡ some (W (getD line 2 0) (drop 4 line))
+    route-read e = route-code ∙ ap asCode (fields-last (drop 4 line) e)
+
+    pub route-placed : (a : ℕ) → 4 ≤ length line → Route a (record { start = 4; end = length line }) ≡ placed (W a (drop 4 line))
+    route-placed a h =
+        let stop : length line ≡ 4 + length (drop 4 line) = omega (arith, length-drop 4 line) in
+        ap (λ e. Route a (record { start = 4; end = e })) stop
+
+-- K: a slot, a number up to `end`, and a slot behind it
+module _ (line : Bytes) where
+  abbrev signedForm : Form ℤ
+  signedForm = signedField maxNumeral
+
+  abbrev asPower : Option Record
+  asPower = field slotField (λ a. field signedForm (λ k. field slotField (λ c. noMore (K a k c)))) (fields (drop 2 line))
+
+  pub power-no-number : singleThen (drop 2 line) ≡ false → asPower ≡ none
+  power-no-number t = then-fails slot-single _ (drop 2 line) (λ a. refl) t
+
+  module _ (t : singleThen (drop 2 line) ≡ true) (end : ℕ) (ends : end ≡ 4 + length (firstField (drop 4 line))) where
+    abbrev asTarget : ℤ → List Bytes → Option Record
+    asTarget k = field slotField (λ c. noMore (K (getD line 2 0) k c))
+
+    power-number : asPower ≡ field signedForm asTarget (fields (drop 4 line))
+    power-number = slot-then line 2 _ t
+
+    pub power-no-target : length line ≤ end → asPower ≡ none
+    power-no-target h =
+        power-number
+        ∙ ap (field signedForm asTarget) (fields-only line 4 end ends h)
+        ∙ field-nothing signedForm asTarget (firstField (drop 4 line)) [] (λ k. refl)
+
+    module _ (h : end < length line) where
+      abbrev behindNumber : List Bytes
+      behindNumber = fields (drop (end + 1) line)
+
+      power-behind : asPower ≡ field signedForm asTarget (firstField (drop 4 line) ∷ behindNumber)
+      power-behind = power-number ∙ ap (field signedForm asTarget) (fields-then line 4 end ends h)
+
+      pub power-wrong-target : singleLast (drop (end + 1) line) ≡ false → asPower ≡ none
+      power-wrong-target e =
+          power-behind
+          ∙ field-nothing signedForm asTarget (firstField (drop 4 line)) behindNumber
+          (λ k. last-fails slot-single _ (drop (end + 1) line) (λ c f fs. refl) e)
+
+      pub power-wrong-number : signedForm (firstField (drop 4 line)) ≡ none → asPower ≡ none
+      power-wrong-number e = power-behind ∙ field-none signedForm asTarget (firstField (drop 4 line)) behindNumber e
+
+      pub power-read : (k : ℤ) → signedForm (firstField (drop 4 line)) ≡ some k → singleLast (drop (end + 1) line) ≡ true
+          → asPower ≡ some (K (getD line 2 0) k (getD line (end + 1) 0))
+      power-read k e c =
+          power-behind ∙ field-some signedForm asTarget (firstField (drop 4 line)) behindNumber k e ∙ slot-last line (end + 1) _ c

@@ -1,0 +1,124 @@
+-- `records::read_fields` meets its contract: each letter has its reader, and a letter without one has no fields or is none.
+use mathlib.Core.Path.{sym, _∙_, ap}
+use borrow.Author.Needs.{needs}
+use lib.ListN.{drop}
+use Rattle.records.specs.Fields.{behindLetter}
+use Rattle.records.proofs.Lines.{OtherLetter, other-behind}
+use Rattle.records.proofs.read_fields.Statement.{statement}
+use Rattle.records.proofs.read_fields.Tie as tie
+
+read-open-requires : tie.Need-read-open-requires
+read-open-requires c κs = search needs
+
+read-pair-requires : tie.Need-read-pair-requires
+read-pair-requires c κs = search needs
+
+read-follow-requires : tie.Need-read-follow-requires
+read-follow-requires c κs = search needs
+
+read-invert-requires : tie.Need-read-invert-requires
+read-invert-requires c κs = search needs
+
+read-power-requires : tie.Need-read-power-requires
+read-power-requires c κs = search needs
+
+read-same-requires : tie.Need-read-same-requires
+read-same-requires c κs = search needs
+
+read-route-requires : tie.Need-read-route-requires
+read-route-requires c κs = search needs
+
+read-list-requires : tie.Need-read-list-requires
+read-list-requires c κs = search needs
+
+read-empty-requires : tie.Need-read-empty-requires
+read-empty-requires c κs = search needs
+
+returns : tie.Need-returns
+returns c =
+    let m = c .before in
+    c .read-open .ensures ∙ ap (λ b. behindLetter b (drop 2 (m .before .before .args .line .now))) (sym (m .match .keys1))
+
+returns-2 : tie.Need-returns-2
+returns-2 c =
+    let m = c .before in
+    c .read-pair .ensures ∙ ap (λ b. behindLetter b (drop 2 (m .before .before .args .line .now))) (sym (m .match .keys2))
+
+returns-3 : tie.Need-returns-3
+returns-3 c =
+    let m = c .before in
+    c .read-follow .ensures ∙ ap (λ b. behindLetter b (drop 2 (m .before .before .args .line .now))) (sym (m .match .keys3))
+
+returns-4 : tie.Need-returns-4
+returns-4 c =
+    let m = c .before in
+    c .read-invert .ensures ∙ ap (λ b. behindLetter b (drop 2 (m .before .before .args .line .now))) (sym (m .match .keys4))
+
+returns-5 : tie.Need-returns-5
+returns-5 c =
+    let m = c .before in
+    c .read-power .ensures ∙ ap (λ b. behindLetter b (drop 2 (m .before .before .args .line .now))) (sym (m .match .keys5))
+
+returns-6 : tie.Need-returns-6
+returns-6 c =
+    let m = c .before in
+    c .read-same .ensures ∙ ap (λ b. behindLetter b (drop 2 (m .before .before .args .line .now))) (sym (m .match .keys6))
+
+returns-7 : tie.Need-returns-7
+returns-7 c =
+    let m = c .before in
+    c .read-route .ensures ∙ ap (λ b. behindLetter b (drop 2 (m .before .before .args .line .now))) (sym (m .match .keys7))
+
+returns-8 : tie.Need-returns-8
+returns-8 c =
+    let m = c .before in
+    c .read-list .ensures ∙ ap (λ b. behindLetter b (drop 2 (m .before .before .args .line .now))) (sym (m .match .keys8))
+
+returns-9 : tie.Need-returns-9
+returns-9 c =
+    let m = c .before in
+    c .read-empty .ensures ∙ ap (λ b. behindLetter b (drop 2 (m .before .before .args .line .now))) (sym (m .match .keys9))
+
+returns-10 : tie.Need-returns-10
+returns-10 c =
+    let a = c .before .before .args in
+    other-behind (a .letter) other (drop 2 (a .line .now))
+  where
+    other : OtherLetter (c .before .before .args .letter)
+    other =
+        let r = c .match .rest in
+        record {
+          not-P = r .0 .0 .0 .0 .0 .0 .0 .0 .1;
+          not-M = r .0 .0 .0 .0 .0 .0 .0 .1;
+          not-F = r .0 .0 .0 .0 .0 .0 .1;
+          not-I = r .0 .0 .0 .0 .0 .1;
+          not-K = r .0 .0 .0 .0 .1;
+          not-S = r .0 .0 .0 .1;
+          not-W = r .0 .0 .1;
+          not-L = r .0 .1;
+          not-C = r .1;
+        }
+
+pub read-fields-spec : {M : Type 1} → statement M
+read-fields-spec =
+    tie.close
+    (tie.spec
+    read-open-requires
+    read-pair-requires
+    read-follow-requires
+    read-invert-requires
+    read-power-requires
+    read-same-requires
+    read-route-requires
+    read-list-requires
+    read-empty-requires
+    returns
+    returns-2
+    returns-3
+    returns-4
+    returns-5
+    returns-6
+    returns-7
+    returns-8
+    returns-9
+    returns-10)
