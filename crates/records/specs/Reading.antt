@@ -1,10 +1,13 @@
 -- What a line of bytes is read as (document 01, "Records"): the record that desk's Replies.antt gives, its numbers as they are and each
--- word or code by the places between which it stands in the line.
-use Prim.Native.Nat.{ℕ, _+_}
+-- word or code by the places between which it stands in the line. Behind it the way back, from what was read to the record, and what a
+-- caller has to know of both.
+use Prim.Native.Nat.{ℕ, _+_, _-_, _^_, _≤_, _<_}
 use mathlib.Core.Path.{_≡_, refl}
 use mathlib.Core.List.{[], _∷_, _++_, map}
-use lib.IntN.{negsuc}
-use lib.ListN.{length, replicate}
+use mathlib.Core.Option.{none}
+use lib.IntN.{negsuc, natAbs}
+use lib.ListN.{length, take, drop, replicate}
+use Rattle.higman.specs.Refusals.{noRecord}
 use Rattle.higman.specs.Text.{Bytes, byte, bytes}
 use Rattle.desk.specs.Limits.{maxLine, maxNumeral}
 use Rattle.desk.specs.Records.{Record as DeskRecord, P, M, E, F, I, K, S, W, L, C, T, U, grammar, parse}
@@ -42,6 +45,52 @@ placedBy (pass r) = placed r
 unfoldable pub readLine : Bytes → Record
 readLine line = placedBy (recordOf line)
 
+-- the bytes of a line between two places
+abbrev pub bytesOf : Bytes → Part → Bytes
+bytesOf line p = take (p .end - p .start) (drop (p .start) line)
+
+-- what is meant by what was read of a line, with the words and the code that stand there
+abbrev pub meant : Bytes → Record → Outcome DeskRecord
+meant line (Open a n r) = pass (P a n r)
+meant line (Pair from to) = pass (M (bytesOf line from) (bytesOf line to))
+meant line Close = pass E
+meant line (Follow a b c) = pass (F a b c)
+meant line (Invert a c) = pass (I a c)
+meant line (Power a k c) = pass (K a k c)
+meant line (Same a b) = pass (S a b)
+meant line (Route a code) = pass (W a (bytesOf line code))
+meant line (List a) = pass (L a)
+meant line (Empty a) = pass (C a)
+meant line Count = pass T
+meant line Survey = pass U
+meant line NoRecord = refuse noRecord none
+
+-- a part that can be lent: it stands within the line
+pub record Within (line : Bytes) (p : Part) : Type 0 where
+  pub ordered : p .start ≤ p .end
+  pub inside : p .end ≤ length line
+
+-- the parts stand within the line; "n and r one digit 0 to 9", "k an optional minus and one to four digits"
+abbrev pub InBounds : Bytes → Record → Type 0
+InBounds line (Open a n r) = (n ≤ 9) × (r ≤ 9)
+InBounds line (Pair from to) = Within line from × Within line to
+InBounds line Close = Unit {0}
+InBounds line (Follow a b c) = Unit {0}
+InBounds line (Invert a c) = Unit {0}
+InBounds line (Power a k c) = natAbs k < 10 ^ maxNumeral
+InBounds line (Same a b) = Unit {0}
+InBounds line (Route a code) = Within line code
+InBounds line (List a) = Unit {0}
+InBounds line (Empty a) = Unit {0}
+InBounds line Count = Unit {0}
+InBounds line Survey = Unit {0}
+InBounds line NoRecord = Unit {0}
+
+-- What is read of a line means the record that the definitions give, refusal 1 included, and is in bounds.
+pub record ReadExact : Type 0 where
+  pub means : (line : Bytes) → meant line (readLine line) ≡ recordOf line
+  pub in-bounds : (line : Bytes) → InBounds line (readLine line)
+
 -- the numbers of P, the places of M's words, one of them empty, K's number, and the place of W's code
 readLine-example : map (λ l. readLine (bytes l)) ("P\tA\t2\t1" ∷ "M\t11\t" ∷ "K\tA\t-2\tz" ∷ "W\tA\t1122" ∷ "L\tAB" ∷ [])
     ≡ Open (byte "A") 2 1
@@ -58,3 +107,10 @@ readLine-limit : map (λ k. readLine (bytes "W\tA\t" ++ replicate k (byte "1")))
     ≡ Route (byte "A") (part 4 1_096) ∷ NoRecord ∷ []
 unfolding readLine parse grammar maxLine
 readLine-limit = refl
+
+bytesOf-example : map (bytesOf (bytes "M\t11\t122")) (part 2 2 ∷ part 5 3 ∷ part 8 0 ∷ []) ≡ bytes "11" ∷ bytes "122" ∷ [] ∷ []
+bytesOf-example = refl
+
+meant-example : map (meant (bytes "M\t11\t122")) (Pair (part 2 2) (part 5 3) ∷ NoRecord ∷ [])
+    ≡ pass (M (bytes "11") (bytes "122")) ∷ refuse 1 none ∷ []
+meant-example = refl
