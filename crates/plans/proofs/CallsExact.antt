@@ -36,29 +36,36 @@ use Rattle.words.specs.Packed.{unpack}
 use Rattle.words.proofs.Codes.{digits-drop, after-drop}
 use Rattle.columns.specs.Packed.{wordsOf}
 use Rattle.tables.specs.Routing.{matchedDigits}
-use Rattle.plans.specs.declared.Plan.{Plan}
+use Rattle.operations.specs.declared.Plan.{Plan}
 use Rattle.plans.specs.declared.Reason.the-variants.{Overlap, Gap}
 use Rattle.plans.specs.declared.Judgement.{Judgement}
 use Rattle.plans.specs.declared.Judgement.the-variants.{NotADraft, Accepted, InFrom, InTo}
-use Rattle.plans.specs.declared.Likeness.the-variants as Like
-use Rattle.plans.specs.declared.Route.the-variants as Reply
-use Rattle.plans.specs.Plans.{shapeOf, rowsOf, planOf, zeros, isColumn, inTable, isDraft, isPlan, packed, blank}
-use Rattle.plans.specs.Answers.{judgementOf, judged, keeping, refusing, making, following, raising, alike}
-use Rattle.plans.specs.Routing.{matched, matching, routingIn, imageInto, routing, routedBuffer}
+use Rattle.operations.specs.declared.Likeness.the-variants as Like
+use Rattle.operations.specs.declared.Route.the-variants as Reply
+use Rattle.operations.specs.Plans.{shapeOf, rowsOf, planOf, zeros, isColumn, inTable, isDraft, isPlan, packed, blank}
+use Rattle.plans.specs.Answers.{judgementOf, judged, keeping, following, raising, alike}
+use Rattle.operations.specs.Answers.{refusing, making}
+use Rattle.plans.specs.Routing.{matched, matching, routing, routedBuffer}
+use Rattle.operations.specs.Routing.{matchedIn, routingIn, imageInto}
 use Rattle.plans.specs.CallsExact.{ColumnFilled, DraftByPlace, fromColumn, toColumn, DraftJudged, DraftKept, KeepingExact}
 use Rattle.plans.specs.CallsExact.{RoutesTo, RouteRefused, ProperBeginning, CodeTaken, RoutingExact}
 use Rattle.plans.specs.CallsExact.{MatchedBy, NotMatched, MatchingExact}
 use Rattle.plans.specs.CallsExact.{ListRefused, TwoShapes, FollowBreaks, PowerBreaks, AnswersNumbered, NumbersExact, CallsExact}
 use Rattle.plans.proofs.Checks.{check-map}
 use Rattle.plans.proofs.DraftChecks.{draft-of, test-draft, judged-none}
-use Rattle.plans.proofs.Values.{pairs-by-place}
-use Rattle.plans.proofs.Accepted.{keeping-of, inverting-none, none-kept as not-kept}
-use Rattle.plans.proofs.KeptValues.{pair-limit, kept}
-use Rattle.plans.proofs.Answered.{first-no-plan, second-no-plan, both-plans, shapes-differ}
-use Rattle.plans.proofs.Answered.{first-not-alike, second-not-alike, both-compared, not-compared}
-use Rattle.plans.proofs.Powered.{power-limit, raising-no-plan, raising-plan, raising-outside}
-use Rattle.plans.proofs.Codes.{code-limit, matched-no-plan, matched-no-code, routing-no-plan, routing-no-code}
-use Rattle.plans.proofs.Lists.{slot-low, slot-high, listing-no-plan, listing-no-slot, listing-no-room}
+use Rattle.operations.proofs.Values.{pairs-by-place}
+use Rattle.plans.proofs.Accepted.{keeping-of, none-kept as not-kept}
+use Rattle.operations.proofs.KeptValues.{pair-limit, kept}
+use Rattle.plans.proofs.Answered.{first-no-plan, second-no-plan, both-plans}
+use Rattle.operations.proofs.Shapes.{shapes-differ}
+use Rattle.plans.proofs.Answered.{first-not-alike, second-not-alike, both-compared}
+use Rattle.operations.proofs.Compared.{not-compared}
+use Rattle.operations.proofs.Powered.{power-limit}
+use Rattle.plans.proofs.Powered.{inverting-no-plan, raising-no-plan, raising-plan, raising-outside}
+use Rattle.operations.proofs.Codes.{code-limit}
+use Rattle.plans.proofs.Codes.{matched-no-code, matched-no-plan, routing-no-plan, routing-no-code}
+use Rattle.operations.proofs.Lists.{slot-low, slot-high}
+use Rattle.plans.proofs.Lists.{listing-no-plan, listing-no-slot, listing-no-room}
 
 -- a test with a limit beside it, and what the limit is
 within-exactly : (b : Bool) (n m limit : ℕ) → m ≡ limit → T (b && leb n m) ↔ (T b × (n ≤ limit))
@@ -416,7 +423,7 @@ whole-code v code e = record { digits = e; part = ap (λ n. drop n code) e }
 module _ (v : Plan) (code : List ℕ) (y : CodeTaken v code) where
   matched-by : (o : Option ℕ) → firstDigits (fromColumn v) (wordOf code) ≡ o → matched v code ≡ Option·getD o 0
   unfolding matched matchedDigits
-  matched-by o e = rw (y .plan, y .code-taken, matched) (ap (λ z. Option·getD z 0) e)
+  matched-by o e = rw (y .plan, matched, y .code-taken, matchedIn) (ap (λ z. Option·getD z 0) e)
 
   matches : (p : Pair) → List·Memᴰ p (rowsOf v) → begins (p .from) (wordOf code) ≡ true → MatchedBy v code (p .from)
   matches p m b =
@@ -473,7 +480,7 @@ module _ (v w : Plan) where
   follow-shapes d = sym (shapes-differ v w (shape-test d) ∙ both-plans v w (d .first) (d .second))
 
   alike-shapes : TwoShapes v w → alike v w ≡ Like.Refused 10
-  alike-shapes d = sym (not-compared v w (shape-test d) ∙ both-compared v w (d .first) (d .second))
+  alike-shapes d = sym (not-compared (planOf v) (planOf w) (shape-test d) ∙ both-compared v w (d .first) (d .second))
 
   follow-limit : FollowBreaks v w → following v w ≡ refusing 11
   follow-limit b =
@@ -535,7 +542,7 @@ numbers-exact =
     record {
       follow-first = λ v w h. sym (first-no-plan v w h);
       follow-second = follow-second;
-      no-inverse = λ v h. sym (inverting-none v h);
+      no-inverse = λ v h. sym (inverting-no-plan v h);
       no-power = λ v k h. sym (raising-no-plan v k h);
       alike-first = λ v w h. sym (first-not-alike v w h);
       alike-second = alike-second;

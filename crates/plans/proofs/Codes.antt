@@ -5,7 +5,8 @@ use mathlib.Core.Bool.{true, false}
 use mathlib.Core.List.{List}
 use lib.ListN.{length, take}
 use lib.Seq.{length-take-le}
-use Rattle.higman.specs.Refusals.{invalidValue}
+use Rattle.higman.specs.Refusals.{badWord, invalidValue}
+use Rattle.higman.specs.Limits.{isCode}
 use Rattle.higman.specs.Answers.{routed}
 use Rattle.higman.specs.Text.{wordOf}
 use Rattle.columns.specs.Packed.{wordsOf}
@@ -34,6 +35,15 @@ module _ (p : Plan) (code : List ℕ) where
     pub buffer-plan : (out : List ℕ) → imageInto (routed (planOf p) (wordOf code)) out ≡ routedBuffer p code out
     unfolding routedBuffer
     buffer-plan out = sym (rw (h, routedBuffer))
+
+    pub routing-no-code : (out : List ℕ) → isCode (shapeOf p) (wordOf code) ≡ false
+        → (Refused badWord ≡ routing p code (length out)) × (out ≡ routedBuffer p code out)
+    unfolding routing routedBuffer routed
+    routing-no-code out k = (sym (rw (h, k, routing, routed)), sym (rw (h, k, routedBuffer, routed)))
+
+    pub matched-no-code : isCode (shapeOf p) (wordOf code) ≡ false → matched p code ≡ 0
+    unfolding matched
+    matched-no-code k = rw (h, matched, k, matchedIn)
 
     pub matched-plan : p .pairs ≤ length (p .from) → p .pairs ≤ length (p .to)
         → matchedIn (shapeOf p) (wordsOf (take (p .pairs) (p .from))) code ≡ matched p code

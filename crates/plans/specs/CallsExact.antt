@@ -20,19 +20,23 @@ use Rattle.higman.specs.Text.{byte, bytes, wordBytes, wordOf, digitOf}
 use Rattle.higman.specs.Listing.{listing as linesOf}
 use Rattle.words.specs.Packed.{packOn, pack, unpackIn, unpack}
 use Rattle.tables.specs.Routing.{matchedDigits}
-use Rattle.plans.specs.declared.Plan.{Plan}
+use Rattle.operations.specs.declared.Plan.{Plan}
 use Rattle.plans.specs.declared.Reason.the-variants.{Overlap, Gap}
 use Rattle.plans.specs.declared.Judgement.the-variants.{NotADraft, Accepted, InFrom, InTo}
-use Rattle.plans.specs.declared.Answer.the-variants as Made
-use Rattle.plans.specs.declared.Likeness.the-variants as Like
-use Rattle.plans.specs.declared.Listed.the-variants as Listed
-use Rattle.plans.specs.declared.Route.{Route}
-use Rattle.plans.specs.declared.Route.the-variants as Reply
-use Rattle.plans.specs.Plans.{shapeOf, rowsOf, planOf, inTable, isDraft, isPlan, packed, blank}
-use Rattle.plans.specs.Answers.{judged, keeping, refusing, following, inverting, raising, alike, value21}
-use Rattle.plans.specs.Answers.{judgementNumber, judgementColumn, answerNumber, likenessNumber, likenessValue}
-use Rattle.plans.specs.Routing.{matched, matching, routing, routedBuffer, routingNumber, routingLength}
-use Rattle.plans.specs.Listing.{listing, listedBuffer, listedNumber, listedLength}
+use Rattle.operations.specs.declared.Answer.the-variants as Made
+use Rattle.operations.specs.declared.Likeness.the-variants as Like
+use Rattle.operations.specs.declared.Listed.the-variants as Listed
+use Rattle.operations.specs.declared.Route.{Route}
+use Rattle.operations.specs.declared.Route.the-variants as Reply
+use Rattle.operations.specs.Plans.{shapeOf, rowsOf, planOf, inTable, isDraft, isPlan, packed, blank}
+use Rattle.plans.specs.Answers.{judged, keeping, following, inverting, raising, alike}
+use Rattle.operations.specs.Answers.{refusing, value21}
+use Rattle.plans.specs.Answers.{judgementNumber, judgementColumn}
+use Rattle.operations.specs.Answers.{answerNumber, likenessNumber, likenessValue}
+use Rattle.plans.specs.Routing.{matched, matching, routing, routedBuffer}
+use Rattle.operations.specs.Routing.{routingNumber, routingLength}
+use Rattle.plans.specs.Listing.{listing, listedBuffer}
+use Rattle.operations.specs.Listing.{listedNumber, listedLength}
 
 -- A column of a draft: at the first n places words that M takes, not one "that is empty, too long or has a wrong digit", and "its unused
 -- places zero".
