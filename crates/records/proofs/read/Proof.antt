@@ -31,20 +31,11 @@ returns-2 c =
     let line = c .before .before .before .args .line .now in
     read-too-long line (omega (arith, line-limit, c .if2 .taken))
 
-shared-slice-read-read-alone : tie.Need-shared-slice-read-read-alone
-shared-slice-read-read-alone c = search needs
-
-read-alone-requires : tie.Need-read-alone-requires
-read-alone-requires c κs = search needs
-
 returns-3 : tie.Need-returns-3
 returns-3 c =
     let t = c .before .before in
     let line = t .before .before .before .before .args .line .now in
     c .read-alone .ensures ∙ sym (reads-as-parsed (t .before) ∙ parse-alone line (t .if3 .taken))
-
-shared-slice-read-if4 : tie.Need-shared-slice-read-if4
-shared-slice-read-if4 c = search needs
 
 returns-4 : tie.Need-returns-4
 returns-4 c =
@@ -52,12 +43,6 @@ returns-4 c =
     let line = e .before .before .before .before .args .line .now in
     let several : 1 < length line = omega (arith, e .before .before .if1 .left, e .if3 .left) in
     sym (reads-as-parsed (e .before) ∙ ap placedIf (parse-long-letter line several (c .if4 .taken)))
-
-shared-slice-read-read-fields : tie.Need-shared-slice-read-read-fields
-shared-slice-read-read-fields c = search needs
-
-read-fields-requires : tie.Need-read-fields-requires
-read-fields-requires c κs = search needs
 
 returns-5 : tie.Need-returns-5
 returns-5 c =
@@ -73,11 +58,11 @@ read-spec =
     (tie.spec
     returns
     returns-2
-    shared-slice-read-read-alone
-    read-alone-requires
+    (λ c. search needs)
+    (λ c κs. search needs)
     returns-3
-    shared-slice-read-if4
+    (λ c. search needs)
     returns-4
-    shared-slice-read-read-fields
-    read-fields-requires
+    (λ c. search needs)
+    (λ c κs. search needs)
     returns-5)

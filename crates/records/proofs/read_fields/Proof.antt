@@ -7,33 +7,6 @@ use Rattle.records.proofs.Lines.{OtherLetter, other-behind}
 use Rattle.records.proofs.read_fields.Statement.{statement}
 use Rattle.records.proofs.read_fields.Tie as tie
 
-read-open-requires : tie.Need-read-open-requires
-read-open-requires c κs = search needs
-
-read-pair-requires : tie.Need-read-pair-requires
-read-pair-requires c κs = search needs
-
-read-follow-requires : tie.Need-read-follow-requires
-read-follow-requires c κs = search needs
-
-read-invert-requires : tie.Need-read-invert-requires
-read-invert-requires c κs = search needs
-
-read-power-requires : tie.Need-read-power-requires
-read-power-requires c κs = search needs
-
-read-same-requires : tie.Need-read-same-requires
-read-same-requires c κs = search needs
-
-read-route-requires : tie.Need-read-route-requires
-read-route-requires c κs = search needs
-
-read-list-requires : tie.Need-read-list-requires
-read-list-requires c κs = search needs
-
-read-empty-requires : tie.Need-read-empty-requires
-read-empty-requires c κs = search needs
-
 returns : tie.Need-returns
 returns c =
     let m = c .before in
@@ -103,15 +76,15 @@ pub read-fields-spec : {M : Type 1} → statement M
 read-fields-spec =
     tie.close
     (tie.spec
-    read-open-requires
-    read-pair-requires
-    read-follow-requires
-    read-invert-requires
-    read-power-requires
-    read-same-requires
-    read-route-requires
-    read-list-requires
-    read-empty-requires
+    (λ c κs. search needs)
+    (λ c κs. search needs)
+    (λ c κs. search needs)
+    (λ c κs. search needs)
+    (λ c κs. search needs)
+    (λ c κs. search needs)
+    (λ c κs. search needs)
+    (λ c κs. search needs)
+    (λ c κs. search needs)
     returns
     returns-2
     returns-3

@@ -15,9 +15,6 @@ use Rattle.records.proofs.read_follow.Tie as tie
 slots-found : (c : tie.Else1) → singles 3 (drop 2 (c .before .before .before .args .line .now)) ≡ true
 slots-found c = sym (c .before .singles .ensures) ∙ not-false (c .before .singles .result) (c .if1 .left)
 
-singles-requires : tie.Need-singles-requires
-singles-requires c κs = search needs
-
 returns : tie.Need-returns
 unfolding behindLetter grammar
 returns c =
@@ -50,4 +47,4 @@ returns-2 c =
 
 pub read-follow-spec : {M : Type 1} → statement M
 read-follow-spec =
-    tie.close (tie.spec singles-requires returns shared-slice-read-t5 shared-slice-read-t7 shared-slice-read-t9 returns-2)
+    tie.close (tie.spec (λ c κs. search needs) returns shared-slice-read-t5 shared-slice-read-t7 shared-slice-read-t9 returns-2)

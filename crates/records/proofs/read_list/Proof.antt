@@ -14,9 +14,6 @@ use Rattle.records.proofs.read_list.Tie as tie
 slot-found : (c : tie.Else1) → singles 1 (drop 2 (c .before .before .before .args .line .now)) ≡ true
 slot-found c = sym (c .before .singles .ensures) ∙ not-false (c .before .singles .result) (c .if1 .left)
 
-singles-requires : tie.Need-singles-requires
-singles-requires c κs = search needs
-
 returns : tie.Need-returns
 unfolding behindLetter grammar
 returns c =
@@ -39,4 +36,4 @@ returns-2 c =
 
 pub read-list-spec : {M : Type 1} → statement M
 read-list-spec =
-    tie.close (tie.spec singles-requires returns shared-slice-read-t5 returns-2)
+    tie.close (tie.spec (λ c κs. search needs) returns shared-slice-read-t5 returns-2)

@@ -28,9 +28,6 @@ roots-found : (c : tie.Else3) →
     isNumeral (getD (e .before .before .before .args .line .now) 6 0) ≡ true
 roots-found c = sym (c .before .is-numeral2 .ensures) ∙ not-false (c .before .is-numeral2 .result) (c .if3 .left)
 
-singles-requires : tie.Need-singles-requires
-singles-requires c κs = search needs
-
 returns : tie.Need-returns
 unfolding behindLetter grammar
 returns c =
@@ -49,9 +46,6 @@ shared-slice-read-roots c =
     let e = c .before .before in
     omega (arith, singles-end (e .before .before .before .args .line .now) 2 (fields-found e))
 
-is-numeral-requires : tie.Need-is-numeral-requires
-is-numeral-requires c κs = search needs
-
 returns-2 : tie.Need-returns-2
 unfolding behindLetter grammar
 returns-2 c =
@@ -60,9 +54,6 @@ returns-2 c =
     let line = e .before .before .before .args .line .now in
     let wrong = sym (n .is-numeral .ensures) ∙ not-true (n .is-numeral .result) (c .if2 .taken) in
     sym (ap placedIf (open-wrong-arity line (fields-found e) wrong))
-
-is-numeral-requires-2 : tie.Need-is-numeral-requires-2
-is-numeral-requires-2 c κs = search needs
 
 returns-3 : tie.Need-returns-3
 unfolding behindLetter grammar
@@ -104,13 +95,13 @@ pub read-open-spec : {M : Type 1} → statement M
 read-open-spec =
     tie.close
     (tie.spec
-    singles-requires
+    (λ c κs. search needs)
     returns
     shared-slice-read-arity
     shared-slice-read-roots
-    is-numeral-requires
+    (λ c κs. search needs)
     returns-2
-    is-numeral-requires-2
+    (λ c κs. search needs)
     returns-3
     shared-slice-read-t7
     sub-t10

@@ -8,21 +8,12 @@ use Rattle.records.proofs.Readers.{pair-no-second, pair-third, pair-rea
 use Rattle.records.proofs.read_pair.Statement.{statement}
 use Rattle.records.proofs.read_pair.Tie as tie
 
-field-end-requires : tie.Need-field-end-requires
-field-end-requires c κs = search needs
-
 returns : tie.Need-returns
 unfolding behindLetter grammar
 returns c =
     let f = c .before in
     let line = f .before .before .args .line .now in
     sym (ap placedIf (pair-no-second line (f .field-end .result) (f .field-end .ensures) (c .if1 .taken)))
-
-add-behind : tie.Need-add-behind
-add-behind c = search needs
-
-no-tab-requires : tie.Need-no-tab-requires
-no-tab-requires c κs = search needs
 
 returns-2 : tie.Need-returns-2
 unfolding behindLetter grammar
@@ -46,4 +37,4 @@ returns-3 c =
 
 pub read-pair-spec : {M : Type 1} → statement M
 read-pair-spec =
-    tie.close (tie.spec field-end-requires returns add-behind no-tab-requires returns-2 returns-3)
+    tie.close (tie.spec (λ c κs. search needs) returns (λ c. search needs) (λ c κs. search needs) returns-2 returns-3)

@@ -40,9 +40,6 @@ number-is c =
     let line = f .before .before .before .before .args .line .now in
     c .signed .ensures ∙ ap (λ l. wholeOf (signedField maxNumeral l)) (part-is-first line 4 (f .field-end .result) (f .field-end .ensures))
 
-single-then-requires : tie.Need-single-then-requires
-single-then-requires c κs = search needs
-
 returns : tie.Need-returns
 unfolding behindLetter grammar
 returns c =
@@ -51,21 +48,12 @@ returns c =
     let missing = sym (s .single-then .ensures) ∙ not-true (s .single-then .result) (c .if1 .taken) in
     sym (ap placedIf (power-no-number line missing))
 
-field-end-requires : tie.Need-field-end-requires
-field-end-requires c κs = search needs
-
 returns-2 : tie.Need-returns-2
 unfolding behindLetter grammar
 returns-2 c =
     let f = c .before in
     let line = f .before .before .before .before .args .line .now in
     sym (ap placedIf (power-no-target line (slot-found (f .before)) (f .field-end .result) (f .field-end .ensures) (c .if2 .taken)))
-
-add-behind : tie.Need-add-behind
-add-behind c = search needs
-
-single-last-requires : tie.Need-single-last-requires
-single-last-requires c κs = search needs
 
 returns-3 : tie.Need-returns-3
 unfolding behindLetter grammar
@@ -76,21 +64,6 @@ returns-3 c =
     let end = f .field-end .result in
     let wrong = sym (s .single-last .ensures) ∙ not-true (s .single-last .result) (c .if3 .taken) in
     sym (ap placedIf (power-wrong-target line (slot-found (f .before)) end (f .field-end .ensures) (s .before .if2 .left) wrong))
-
-sub-signed : tie.Need-sub-signed
-sub-signed c = search needs
-
-part-signed-start : tie.Need-part-signed-start
-part-signed-start c = search needs
-
-part-signed-end : tie.Need-part-signed-end
-part-signed-end c = search needs
-
-signed-requires : tie.Need-signed-requires
-signed-requires c κs = search needs
-
-enum-known-k : tie.Need-enum-known-k
-enum-known-k c = search needs
 
 enum-told : tie.Need-enum-told
 enum-told c = search needs
@@ -105,9 +78,6 @@ returns-4 c =
     let end = f .field-end .result in
     let wrong = whole-none (signedField maxNumeral (firstField (drop 4 line))) (sym (number-is s) ∙ c .enum-told .given .1) in
     sym (ap placedIf (power-wrong-number line (slot-found (f .before)) end (f .field-end .ensures) (room .if2 .left) wrong))
-
-shared-slice-read-t13 : tie.Need-shared-slice-read-t13
-shared-slice-read-t13 c = search needs
 
 shared-slice-read-t15 : tie.Need-shared-slice-read-t15
 shared-slice-read-t15 c =
@@ -135,20 +105,20 @@ pub read-power-spec : {M : Type 1} → statement M
 read-power-spec =
     tie.close
     (tie.spec
-    single-then-requires
+    (λ c κs. search needs)
     returns
-    field-end-requires
+    (λ c κs. search needs)
     returns-2
-    add-behind
-    single-last-requires
+    (λ c. search needs)
+    (λ c κs. search needs)
     returns-3
-    sub-signed
-    part-signed-start
-    part-signed-end
-    signed-requires
-    enum-known-k
+    (λ c. search needs)
+    (λ c. search needs)
+    (λ c. search needs)
+    (λ c κs. search needs)
+    (λ c. search needs)
     enum-told
     returns-4
-    shared-slice-read-t13
+    (λ c. search needs)
     shared-slice-read-t15
     returns-5)

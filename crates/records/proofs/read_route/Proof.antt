@@ -16,9 +16,6 @@ use Rattle.records.proofs.read_route.Tie as tie
 slot-found : (c : tie.Else1) → singleThen (drop 2 (c .before .before .before .args .line .now)) ≡ true
 slot-found c = sym (c .before .single-then .ensures) ∙ not-false (c .before .single-then .result) (c .if1 .left)
 
-single-then-requires : tie.Need-single-then-requires
-single-then-requires c κs = search needs
-
 returns : tie.Need-returns
 unfolding behindLetter grammar
 returns c =
@@ -26,9 +23,6 @@ returns c =
     let line = s .before .before .args .line .now in
     let missing = sym (s .single-then .ensures) ∙ not-true (s .single-then .result) (c .if1 .taken) in
     sym (ap placedIf (route-no-code line missing))
-
-no-tab-requires : tie.Need-no-tab-requires
-no-tab-requires c κs = search needs
 
 returns-2 : tie.Need-returns-2
 unfolding behindLetter grammar
@@ -56,4 +50,4 @@ returns-3 c =
 
 pub read-route-spec : {M : Type 1} → statement M
 read-route-spec =
-    tie.close (tie.spec single-then-requires returns no-tab-requires returns-2 shared-slice-read-t5 returns-3)
+    tie.close (tie.spec (λ c κs. search needs) returns (λ c κs. search needs) returns-2 shared-slice-read-t5 returns-3)

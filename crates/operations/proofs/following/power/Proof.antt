@@ -37,18 +37,12 @@ size-fits c = record { fits = omega (arith, small c) }
 size-signed : (c : tie.Else2) → SFits w32 (pos (natAbs (c .before .before .args .k)))
 size-signed c = record { sfits = omega (arith, small c) }
 
-refused-requires : tie.Need-refused-requires
-refused-requires c κs = search needs
-
 returns : tie.Need-returns
 returns c =
     let t = c .before in
     let s = t .before in
     let below = subst (λ (z : ℤ). z <ℤ negsuc 999) (number s) (is-less (t .if1 .taken)) in
     c .refused .ensures ∙ power-outside (s .args .a) (s .args .k) (omega (arith, power-limit, size-low (s .args .k) 999 below))
-
-refused-requires-2 : tie.Need-refused-requires-2
-refused-requires-2 c κs = search needs
 
 returns-2 : tie.Need-returns-2
 returns-2 c =
@@ -109,9 +103,9 @@ pub power-spec : {M : Type 1} → statement M
 power-spec =
     tie.close
     (tie.spec
-    refused-requires
+    (λ c κs. search needs)
     returns
-    refused-requires-2
+    (λ c κs. search needs)
     returns-2
     inverse-requires
     sub-repeat

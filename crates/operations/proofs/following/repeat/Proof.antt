@@ -35,9 +35,6 @@ composed-requires c κs =
 enum-told : tie.Need-enum-told Inv-loop μ-loop
 enum-told c = search needs
 
-enum-told-2 : tie.Need-enum-told-2 Inv-loop μ-loop
-enum-told-2 c = search needs
-
 returns : tie.Need-returns Inv-loop μ-loop
 returns c =
     let m = c .before .before in
@@ -45,12 +42,6 @@ returns c =
     let s = l .before .before in
     let (h, r, k) = l .loop .inv in
     stopped (s .args .a) h (l .loop .power) (l .loop .i) r (m .composed .result) (m .composed .ensures) (c .enum-told2 .given .0 .0) (c .enum-told2 .given .1) (s .args .n) (m .before .loop-test .taken)
-
-add-i : tie.Need-add-i Inv-loop μ-loop
-add-i c = omega arith
-
-loop-less : tie.Need-loop-less Inv-loop μ-loop
-loop-less c = omega arith
 
 loop-again : tie.Need-loop-again Inv-loop μ-loop
 loop-again c =
@@ -62,9 +53,6 @@ loop-again c =
       reached-next (s .args .a) h (l .loop .power) (l .loop .i) r (m .composed .result) (m .composed .ensures) (c .before .enum-told .given .1),
       omega (arith, m .before .loop-test .taken),
     )
-
-granted-requires : tie.Need-granted-requires Inv-loop μ-loop
-granted-requires c κs = search needs
 
 returns-2 : tie.Need-returns-2 Inv-loop μ-loop
 returns-2 c =
@@ -85,10 +73,10 @@ repeat-spec =
     loop-holds
     composed-requires
     enum-told
-    enum-told-2
+    (λ c. search needs)
     returns
-    add-i
-    loop-less
+    (λ c. omega arith)
+    (λ c. omega arith)
     loop-again
-    granted-requires
+    (λ c κs. search needs)
     returns-2)

@@ -37,9 +37,6 @@ same-kept c =
     let s = shape (a .arity) (a .roots) in
     keep-sorted s (arity-of-range s (z .pre .3)) (a .keys .now) (a .values .now) (c .sort .last .0) (c .sort .last .1 .0) (z .pre .0) (sorts c) (z .pre .4)
 
-sort-requires : tie.Need-sort-requires
-sort-requires c κs = search needs
-
 reduce-requires : tie.Need-reduce-requires
 reduce-requires c κs =
     let st = c .before .before .before .before .before .before .before .before in
@@ -50,24 +47,6 @@ reduce-requires c κs =
     let from-room : length (st .sort .last .0) ≤ length (a .out-from .now) = omega (arith, r .keys-long, z .pre .1) in
     let to-room : length (st .sort .last .0) ≤ length (a .out-to .now) = omega (arith, r .keys-long, z .pre .2) in
     (paired, from-room, to-room, z .pre .3, reducible st)
-
-clear-requires : tie.Need-clear-requires
-clear-requires c κs = search needs
-
-clear-requires-2 : tie.Need-clear-requires-2
-clear-requires-2 c κs = search needs
-
-same-length : tie.Need-same-length
-same-length c = search needs
-
-same-length-2 : tie.Need-same-length-2
-same-length-2 c = search needs
-
-same-length-3 : tie.Need-same-length-3
-same-length-3 c = search needs
-
-same-length-4 : tie.Need-same-length-4
-same-length-4 c = search needs
 
 returns : tie.Need-returns
 returns c =
@@ -88,12 +67,12 @@ pub keep-into-spec : {M : Type 1} → statement M
 keep-into-spec =
     tie.close
     (tie.spec
-    sort-requires
+    (λ c κs. search needs)
     reduce-requires
-    clear-requires
-    clear-requires-2
-    same-length
-    same-length-2
-    same-length-3
-    same-length-4
+    (λ c κs. search needs)
+    (λ c κs. search needs)
+    (λ c. search needs)
+    (λ c. search needs)
+    (λ c. search needs)
+    (λ c. search needs)
     returns)

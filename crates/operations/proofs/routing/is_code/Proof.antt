@@ -12,13 +12,10 @@ returns c =
     let a = c .before .before .args in
     code-long (shape (a .arity) (a .roots)) (a .code .now) (omega (arith, code-limit))
 
-spells-requires : tie.Need-spells-requires
-spells-requires c κs = search needs
-
 returns-2 : tie.Need-returns-2
 returns-2 c =
     let a = c .before .before .before .args in
     c .spells .ensures ∙ code-short (shape (a .arity) (a .roots)) (a .code .now) (omega (arith, code-limit))
 
 pub is-code-spec : {M : Type 1} → statement M
-is-code-spec = tie.close (tie.spec returns spells-requires returns-2)
+is-code-spec = tie.close (tie.spec returns (λ c κs. search needs) returns-2)

@@ -31,27 +31,12 @@ loop-holds c =
     let a = c .before .args in
     (omega arith, check-map (isPlanWord (shape (a .arity) (a .roots))) unpack (a .column .now))
 
-mul-is-word : tie.Need-mul-is-word Inv-loop μ-loop
-mul-is-word c = omega arith
-
-shared-slice-read-is-word : tie.Need-shared-slice-read-is-word Inv-loop μ-loop
-shared-slice-read-is-word c = omega arith
-
-is-word-requires : tie.Need-is-word-requires Inv-loop μ-loop
-is-word-requires c κs = search needs
-
 returns : tie.Need-returns Inv-loop μ-loop
 returns c =
     let l = c .before .before .before .before in
     let a = l .before .before .args in
     let call = c .before .is-word in
     sym (l .loop .inv .1 ∙ check-fails (holds (a .arity) (a .roots)) (a .column .now) (l .loop .i) (c .before .before .before .loop-test .taken) (sym (call .ensures) ∙ not-true (call .result) (c .if1 .taken)))
-
-add-i : tie.Need-add-i Inv-loop μ-loop
-add-i c = omega arith
-
-loop-less : tie.Need-loop-less Inv-loop μ-loop
-loop-less c = omega arith
 
 loop-again : tie.Need-loop-again Inv-loop μ-loop
 loop-again c =
@@ -73,11 +58,11 @@ are-words-spec =
     Inv-loop
     μ-loop
     loop-holds
-    mul-is-word
-    shared-slice-read-is-word
-    is-word-requires
+    (λ c. omega arith)
+    (λ c. omega arith)
+    (λ c κs. search needs)
     returns
-    add-i
-    loop-less
+    (λ c. omega arith)
+    (λ c. omega arith)
     loop-again
     returns-2)

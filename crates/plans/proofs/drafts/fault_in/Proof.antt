@@ -20,18 +20,6 @@ sorted-fault c =
     let start = sort .before .before .before .before .before in
     sym (fault-unordered (shape (start .args .arity) (start .args .roots)) (rearranged-keys (start .pre .0) (sort .sort .ensures .rearranged)))
 
-sort-requires : tie.Need-sort-requires
-sort-requires c κs = search needs
-
-overlaps-requires : tie.Need-overlaps-requires
-overlaps-requires c κs = search needs
-
-same-length : tie.Need-same-length
-same-length c = search needs
-
-same-length-2 : tie.Need-same-length-2
-same-length-2 c = search needs
-
 returns : tie.Need-returns
 returns c =
     let o = c .before in
@@ -47,12 +35,6 @@ has-gap-requires c κs =
     let r = in-range (shape (start .args .arity) (start .args .roots)) (start .pre .1) in
     ((sort .sort .ensures .in-order, sym (o .overlaps .ensures) ∙ c .before .if1 .left), (omega (arith, r .arity-low), r .arity-high, r .roots-high))
 
-same-length-3 : tie.Need-same-length-3
-same-length-3 c = search needs
-
-same-length-4 : tie.Need-same-length-4
-same-length-4 c = search needs
-
 returns-2 : tie.Need-returns-2
 returns-2 c =
     let o = c .before .before .before .before in
@@ -60,12 +42,6 @@ returns-2 c =
     let a = sort .before .before .before .before .before .args in
     let no-overlap = sym (o .overlaps .ensures) ∙ c .before .before .before .if1 .left in
     sym (ap faultOf (sorted-fault o ∙ fault-gap (shape (a .arity) (a .roots)) (wordsOf (sort .sort .last .0)) no-overlap (sym (c .before .has-gap .ensures) ∙ c .if2 .taken)))
-
-same-length-5 : tie.Need-same-length-5
-same-length-5 c = search needs
-
-same-length-6 : tie.Need-same-length-6
-same-length-6 c = search needs
 
 returns-3 : tie.Need-returns-3
 returns-3 c =
@@ -79,15 +55,15 @@ pub fault-in-spec : {M : Type 1} → statement M
 fault-in-spec =
     tie.close
     (tie.spec
-    sort-requires
-    overlaps-requires
-    same-length
-    same-length-2
+    (λ c κs. search needs)
+    (λ c κs. search needs)
+    (λ c. search needs)
+    (λ c. search needs)
     returns
     has-gap-requires
-    same-length-3
-    same-length-4
+    (λ c. search needs)
+    (λ c. search needs)
     returns-2
-    same-length-5
-    same-length-6
+    (λ c. search needs)
+    (λ c. search needs)
     returns-3)

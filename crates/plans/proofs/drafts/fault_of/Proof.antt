@@ -26,9 +26,6 @@ slice-aggregate-fault-in-2 c = simp length-take (omega arith)
 fault-in-requires : tie.Need-fault-in-requires
 fault-in-requires c κs = (search needs, search needs, simp length-take (omega arith))
 
-returns : tie.Need-returns
-returns c = search needs
-
 pub fault-of-spec : {M : Type 1} → statement M
 fault-of-spec =
     tie.close
@@ -38,4 +35,4 @@ fault-of-spec =
     array-borrow-prefix-values
     slice-aggregate-fault-in-2
     fault-in-requires
-    returns)
+    (λ c. search needs))

@@ -31,21 +31,6 @@ behind c =
     let rest : length (drop (a .n) (a .column .now)) ≤ length (a .column .now) - a .n = omega (arith, length-drop (a .n) (a .column .now)) in
     sym (c .are-zeros .ensures ∙ ap zeros (take-all (length (a .column .now) - a .n) (drop (a .n) (a .column .now)) rest))
 
-mul-are-zeros : tie.Need-mul-are-zeros
-mul-are-zeros c = search needs
-
-sub-are-zeros : tie.Need-sub-are-zeros
-sub-are-zeros c = search needs
-
-part-are-zeros-start : tie.Need-part-are-zeros-start
-part-are-zeros-start c = search needs
-
-part-are-zeros-end : tie.Need-part-are-zeros-end
-part-are-zeros-end c = search needs
-
-are-zeros-requires : tie.Need-are-zeros-requires
-are-zeros-requires c κs = search needs
-
 returns : tie.Need-returns
 returns c =
     let call = c .before in
@@ -54,9 +39,6 @@ returns c =
 
 slice-aggregate-are-words : tie.Need-slice-aggregate-are-words
 slice-aggregate-are-words c = simp length-take (omega arith)
-
-are-words-requires : tie.Need-are-words-requires
-are-words-requires c κs = search needs
 
 returns-2 : tie.Need-returns-2
 returns-2 c =
@@ -68,12 +50,12 @@ pub is-column-spec : {M : Type 1} → statement M
 is-column-spec =
     tie.close
     (tie.spec
-    mul-are-zeros
-    sub-are-zeros
-    part-are-zeros-start
-    part-are-zeros-end
-    are-zeros-requires
+    (λ c. search needs)
+    (λ c. search needs)
+    (λ c. search needs)
+    (λ c. search needs)
+    (λ c κs. search needs)
     returns
     slice-aggregate-are-words
-    are-words-requires
+    (λ c κs. search needs)
     returns-2)

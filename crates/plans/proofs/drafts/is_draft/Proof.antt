@@ -19,9 +19,6 @@ returns c =
     let p = start .args .p in
     sym (no-draft p (columns-even p _ (start .good .0)) (λ d. omega (arith, d .few)))
 
-shape-in-range-requires : tie.Need-shape-in-range-requires
-shape-in-range-requires c κs = search needs
-
 returns-2 : tie.Need-returns-2
 returns-2 c =
     let call = c .before in
@@ -29,9 +26,6 @@ returns-2 c =
     let p = start .args .p in
     let fails = sym (call .shape-in-range .ensures) ∙ not-true (call .shape-in-range .result) (c .if2 .taken) in
     sym (no-draft p (columns-even p _ (start .good .0)) (λ d. clash (so (shapeInRange (shapeOf p)) (d .in-range)) fails))
-
-slice-aggregate-is-column : tie.Need-slice-aggregate-is-column
-slice-aggregate-is-column c = search needs
 
 is-column-requires : tie.Need-is-column-requires
 is-column-requires c κs =
@@ -45,9 +39,6 @@ returns-3 c =
     let p = start .args .p in
     let fails = sym (call .is-column .ensures) ∙ not-true (call .is-column .result) (c .if3 .taken) in
     sym (no-draft p (columns-even p _ (start .good .0)) (λ d. clash (so (isColumn (shapeOf p) (p .pairs) (p .from)) (d .from-column)) fails))
-
-slice-aggregate-is-column-2 : tie.Need-slice-aggregate-is-column-2
-slice-aggregate-is-column-2 c = search needs
 
 is-column-requires-2 : tie.Need-is-column-requires-2
 is-column-requires-2 c κs =
@@ -71,11 +62,11 @@ is-draft-spec =
     tie.close
     (tie.spec
     returns
-    shape-in-range-requires
+    (λ c κs. search needs)
     returns-2
-    slice-aggregate-is-column
+    (λ c. search needs)
     is-column-requires
     returns-3
-    slice-aggregate-is-column-2
+    (λ c. search needs)
     is-column-requires-2
     returns-4)

@@ -48,9 +48,6 @@ both-faults c =
     ∙ ap (λ f. judgement f (to-fault first)) (c .before .enum-told .given .1)
     ∙ ap (judgement Sound) (sym (c .fault-of2 .ensures))
 
-is-draft-requires : tie.Need-is-draft-requires
-is-draft-requires c κs = search needs
-
 returns : tie.Need-returns
 returns c =
     let call = c .before in
@@ -59,20 +56,11 @@ returns c =
 fault-of-requires : tie.Need-fault-of-requires
 fault-of-requires c κs = let d = draft (c .before .before) in (d .few, d .in-range)
 
-enum-known-reason : tie.Need-enum-known-reason
-enum-known-reason c = search needs
-
 enum-told : tie.Need-enum-told
 enum-told c = search needs
 
 fault-of-requires-2 : tie.Need-fault-of-requires-2
 fault-of-requires-2 c κs = let d = draft (c .before .before .before .before .before) in (d .few, d .in-range)
-
-enum-known-reason-2 : tie.Need-enum-known-reason-2
-enum-known-reason-2 c = search needs
-
-enum-told-2 : tie.Need-enum-told-2
-enum-told-2 c = search needs
 
 returns-2 : tie.Need-returns-2
 returns-2 c =
@@ -90,14 +78,14 @@ pub verdict-spec : {M : Type 1} → statement M
 verdict-spec =
     tie.close
     (tie.spec
-    is-draft-requires
+    (λ c κs. search needs)
     returns
     fault-of-requires
-    enum-known-reason
+    (λ c. search needs)
     enum-told
     fault-of-requires-2
-    enum-known-reason-2
-    enum-told-2
+    (λ c. search needs)
+    (λ c. search needs)
     returns-2
     returns-3
     returns-4)

@@ -18,23 +18,11 @@ first c = sym (c .before .before .before .is-plan .ensures) ∙ not-false (c .be
 second : (c : tie.Else2) → isPlan (asked c .args .b) ≡ true
 second c = sym (c .before .is-plan2 .ensures) ∙ not-false (c .before .is-plan2 .result) (c .if2 .left)
 
-is-plan-requires : tie.Need-is-plan-requires
-is-plan-requires c κs = search needs
-
-refused-requires : tie.Need-refused-requires
-refused-requires c κs = search needs
-
 returns : tie.Need-returns
 returns c =
     let p = c .before .before in
     c .refused .ensures
     ∙ first-no-plan (p .before .args .a) (p .before .args .b) (sym (p .is-plan .ensures) ∙ not-true (p .is-plan .result) (c .before .if1 .taken))
-
-is-plan-requires-2 : tie.Need-is-plan-requires-2
-is-plan-requires-2 c κs = search needs
-
-refused-requires-2 : tie.Need-refused-requires-2
-refused-requires-2 c κs = search needs
 
 returns-2 : tie.Need-returns-2
 returns-2 c =
@@ -55,11 +43,11 @@ pub follow-spec : {M : Type 1} → statement M
 follow-spec =
     tie.close
     (tie.spec
-    is-plan-requires
-    refused-requires
+    (λ c κs. search needs)
+    (λ c κs. search needs)
     returns
-    is-plan-requires-2
-    refused-requires-2
+    (λ c κs. search needs)
+    (λ c κs. search needs)
     returns-2
     compose-requires
     returns-3)

@@ -36,9 +36,6 @@ to-room c =
     let z = c .before .before .before in
     omega (arith, approved (z .args .p) (accepted c) .few, to-long (z .args .p) _ (z .good .0))
 
-verdict-requires : tie.Need-verdict-requires
-verdict-requires c κs = search needs
-
 enum-told : tie.Need-enum-told
 enum-told c = search needs
 
@@ -88,7 +85,7 @@ pub is-plan-spec : {M : Type 1} → statement M
 is-plan-spec =
     tie.close
     (tie.spec
-    verdict-requires
+    (λ c κs. search needs)
     enum-told
     array-share-prefix-from
     slice-aggregate-is-normal

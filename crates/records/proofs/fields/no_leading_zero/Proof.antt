@@ -18,9 +18,6 @@ returns c =
 returns-2 : tie.Need-returns-2
 returns-2 c = sym (ap noLeadingZero (one-at (c .before .before .args .field .now) 0 (omega arith)))
 
-shared-slice-read-result : tie.Need-shared-slice-read-result
-shared-slice-read-result c = search needs
-
 returns-3 : tie.Need-returns-3
 returns-3 c =
     let field = c .before .before .before .args .field .now in
@@ -28,4 +25,4 @@ returns-3 c =
     sym (ap noLeadingZero (two-at field 0 several))
 
 pub no-leading-zero-spec : {M : Type 1} → statement M
-no-leading-zero-spec = tie.close (tie.spec returns returns-2 shared-slice-read-result returns-3)
+no-leading-zero-spec = tie.close (tie.spec returns returns-2 (λ c. search needs) returns-3)

@@ -41,9 +41,6 @@ returns c =
     let field = c .before .before .args .field .now in
     sym (ap naturalOf (number-too-long maxNumeral field (omega (arith, numeral-limit, c .if1 .taken))))
 
-no-leading-zero-requires : tie.Need-no-leading-zero-requires Inv-loop μ-loop
-no-leading-zero-requires c κs = search needs
-
 returns-2 : tie.Need-returns-2 Inv-loop μ-loop
 returns-2 c =
     let z = c .before in
@@ -53,12 +50,6 @@ returns-2 c =
 
 loop-holds : tie.Need-loop-holds Inv-loop μ-loop
 loop-holds c = spelling-begins (c .before .before .before .before .args .field .now)
-
-shared-slice-read-is-numeral : tie.Need-shared-slice-read-is-numeral Inv-loop μ-loop
-shared-slice-read-is-numeral c = omega arith
-
-is-numeral-requires : tie.Need-is-numeral-requires Inv-loop μ-loop
-is-numeral-requires c κs = search needs
 
 returns-3 : tie.Need-returns-3 Inv-loop μ-loop
 returns-3 c =
@@ -70,9 +61,6 @@ returns-3 c =
 
 mul-n : tie.Need-mul-n Inv-loop μ-loop
 mul-n c = omega (arith, n-small c)
-
-shared-slice-read-n : tie.Need-shared-slice-read-n Inv-loop μ-loop
-shared-slice-read-n c = omega arith
 
 sub-n : tie.Need-sub-n Inv-loop μ-loop
 sub-n c =
@@ -94,12 +82,6 @@ add-n c =
     let l = e .before .before .before .before in
     let field = l .before .before .before .before .before .args .field .now in
     omega (arith, n-small e, value-below (getD field (l .loop .i) 0) (byte-is-numeral e))
-
-add-i : tie.Need-add-i Inv-loop μ-loop
-add-i c = omega arith
-
-loop-less : tie.Need-loop-less Inv-loop μ-loop
-loop-less c = omega arith
 
 loop-again : tie.Need-loop-again Inv-loop μ-loop
 loop-again c =
@@ -126,18 +108,18 @@ number-spec =
     Inv-loop
     μ-loop
     returns
-    no-leading-zero-requires
+    (λ c κs. search needs)
     returns-2
     loop-holds
-    shared-slice-read-is-numeral
-    is-numeral-requires
+    (λ c. omega arith)
+    (λ c κs. search needs)
     returns-3
     mul-n
-    shared-slice-read-n
+    (λ c. omega arith)
     sub-n
     cast-n
     add-n
-    add-i
-    loop-less
+    (λ c. omega arith)
+    (λ c. omega arith)
     loop-again
     returns-4)

@@ -70,24 +70,6 @@ size-plain c =
 returns : tie.Need-returns
 returns c = sym (ap wholeOf (signed-empty maxNumeral (c .before .before .args .field .now) (c .if1 .taken)))
 
-shared-slice-read-if2 : tie.Need-shared-slice-read-if2
-shared-slice-read-if2 c = search needs
-
-sub-number : tie.Need-sub-number
-sub-number c = search needs
-
-part-number-start : tie.Need-part-number-start
-part-number-start c = search needs
-
-part-number-end : tie.Need-part-number-end
-part-number-end c = search needs
-
-number-requires : tie.Need-number-requires
-number-requires c κs = search needs
-
-enum-known-n : tie.Need-enum-known-n
-enum-known-n c = search needs
-
 enum-told : tie.Need-enum-told
 enum-told c = search needs
 
@@ -116,15 +98,6 @@ returns-4 c =
     opposite-read w32 (n .n .given .0 .0) (c .if3 .left) (omega (arith, size-behind-minus n))
     ∙ sym (ap wholeOf (behind-minus (n .before .before) .0 ∙ ap negative (number-behind-minus n)))
 
-number-requires-2 : tie.Need-number-requires-2
-number-requires-2 c κs = search needs
-
-enum-known-n-2 : tie.Need-enum-known-n-2
-enum-known-n-2 c = search needs
-
-enum-told-2 : tie.Need-enum-told-2
-enum-told-2 c = search needs
-
 returns-5 : tie.Need-returns-5
 returns-5 c =
     let m = c .before .before in
@@ -146,21 +119,21 @@ signed-spec =
     tie.close
     (tie.spec
     returns
-    shared-slice-read-if2
-    sub-number
-    part-number-start
-    part-number-end
-    number-requires
-    enum-known-n
+    (λ c. search needs)
+    (λ c. search needs)
+    (λ c. search needs)
+    (λ c. search needs)
+    (λ c κs. search needs)
+    (λ c. search needs)
     enum-told
     returns-2
     returns-3
     cast-t14
     sub-t15
     returns-4
-    number-requires-2
-    enum-known-n-2
-    enum-told-2
+    (λ c κs. search needs)
+    (λ c. search needs)
+    (λ c. search needs)
     returns-5
     cast-t17
     returns-6)

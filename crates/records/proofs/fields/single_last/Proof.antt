@@ -12,17 +12,11 @@ use Rattle.records.proofs.fields.single_last.Tie as tie
 returns : tie.Need-returns
 returns c = let a = c .before .args in sym (ap singleLast (drop-of-length-le (a .line .now) (c .if1 .taken)))
 
-sub-if2 : tie.Need-sub-if2
-sub-if2 c = search needs
-
 returns-2 : tie.Need-returns-2
 returns-2 c = let a = c .before .before .args in sym (ap singleLast (two-at (a .line .now) (a .at) (omega (arith, c .if2 .taken))))
-
-shared-slice-read-result : tie.Need-shared-slice-read-result
-shared-slice-read-result c = search needs
 
 returns-3 : tie.Need-returns-3
 returns-3 c = let a = c .before .before .before .args in sym (last-by-byte (a .line .now) (a .at) (omega arith))
 
 pub single-last-spec : {M : Type 1} → statement M
-single-last-spec = tie.close (tie.spec returns sub-if2 returns-2 shared-slice-read-result returns-3)
+single-last-spec = tie.close (tie.spec returns (λ c. search needs) returns-2 (λ c. search needs) returns-3)

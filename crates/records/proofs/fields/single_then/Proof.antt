@@ -17,14 +17,8 @@ use Rattle.records.proofs.fields.single_then.Tie as tie
 returns : tie.Need-returns
 returns c = let a = c .before .args in sym (ap singleThen (drop-of-length-le (a .line .now) (c .if1 .taken)))
 
-sub-if2 : tie.Need-sub-if2
-sub-if2 c = search needs
-
 returns-2 : tie.Need-returns-2
 returns-2 c = let a = c .before .before .args in sym (ap singleThen (one-at (a .line .now) (a .at) (omega arith)))
-
-shared-slice-read-if3 : tie.Need-shared-slice-read-if3
-shared-slice-read-if3 c = search needs
 
 returns-3 : tie.Need-returns-3
 returns-3 c =
@@ -32,12 +26,6 @@ returns-3 c =
     let line = a .line .now in
     let is-tab = eq-eqb (getD line (a .at) 0) tab (c .if3 .taken) in
     sym (then-by-bytes line (a .at) (omega arith) ∙ ap (λ t. not t && eqb (getD line (a .at + 1) 0) tab) is-tab)
-
-add-result : tie.Need-add-result
-add-result c = search needs
-
-shared-slice-read-result : tie.Need-shared-slice-read-result
-shared-slice-read-result c = search needs
 
 returns-4 : tie.Need-returns-4
 returns-4 c =
@@ -51,10 +39,10 @@ single-then-spec =
     tie.close
     (tie.spec
     returns
-    sub-if2
+    (λ c. search needs)
     returns-2
-    shared-slice-read-if3
+    (λ c. search needs)
     returns-3
-    add-result
-    shared-slice-read-result
+    (λ c. search needs)
+    (λ c. search needs)
     returns-4)

@@ -27,9 +27,6 @@ field-found c = sym (c .before .single-then .ensures) ∙ not-false (c .before .
 loop-holds : tie.Need-loop-holds Inv-loop μ-loop
 loop-holds c = (c .before .pre, refl)
 
-single-then-requires : tie.Need-single-then-requires Inv-loop μ-loop
-single-then-requires c κs = search needs
-
 returns : tie.Need-returns Inv-loop μ-loop
 returns c =
     let s = c .before in
@@ -43,20 +40,11 @@ add-i c =
     let l = c .before .before .before in
     omega (arith, then-within (l .before .before .args .line .now) (l .loop .i) (field-found c))
 
-sub-left : tie.Need-sub-left Inv-loop μ-loop
-sub-left c = omega arith
-
-loop-less : tie.Need-loop-less Inv-loop μ-loop
-loop-less c = omega arith
-
 loop-again : tie.Need-loop-again Inv-loop μ-loop
 loop-again c =
     let l = c .before .before .before in
     let line = l .before .before .args .line .now in
     (omega arith, l .loop .inv .1 ∙ singles-go-on line (l .loop .i) (l .loop .left) (omega arith) (field-found c))
-
-single-last-requires : tie.Need-single-last-requires Inv-loop μ-loop
-single-last-requires c κs = search needs
 
 returns-2 : tie.Need-returns-2 Inv-loop μ-loop
 returns-2 c =
@@ -72,11 +60,11 @@ singles-spec =
     Inv-loop
     μ-loop
     loop-holds
-    single-then-requires
+    (λ c κs. search needs)
     returns
     add-i
-    sub-left
-    loop-less
+    (λ c. omega arith)
+    (λ c. omega arith)
     loop-again
-    single-last-requires
+    (λ c κs. search needs)
     returns-2)
