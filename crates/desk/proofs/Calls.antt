@@ -61,7 +61,8 @@ no-room order d e buffer h =
     ap (λ l. (deskLeft d (pass e) (l .answer), l)) (lent-short buffer (replyBytes order (e .1)) (lt-leb (length (replyBytes order (e .1))) (length buffer) h))
 
 done : (order : Order) (d : Desk) (e : Effect) (buffer : Bytes) → length (replyBytes order (e .1)) ≤ length buffer
-    → onDesk order d (pass e) buffer ≡ (e .0, record { buffer = written buffer 0 (replyBytes order (e .1)); answer = pass (length (replyBytes order (e .1))) })
+    → onDesk order d (pass e) buffer
+    ≡ (e .0, record { buffer = written buffer 0 (replyBytes order (e .1)); answer = pass (length (replyBytes order (e .1))) })
 unfolding onDesk _>>=_
 done order d e buffer h =
     let output = replyBytes order (e .1) in

@@ -187,7 +187,8 @@ line-of : (f : Bytes) (fs : List Bytes) → T (all noTab (f ∷ fs)) → LineOf 
 line-of f fs h = record { text = parted (f ∷ fs); ended = refl; parts = fields-of-parted f fs h }
 
 module _ (order : Order) where
-  numbered-line : (f : Bytes) (n : ℕ) (fs : List Bytes) → T (noTab f) → T (all noTab fs) → LineOf (lineOf (f ∷ decimal n ∷ fs)) (f ∷ decimal n ∷ fs)
+  numbered-line : (f : Bytes) (n : ℕ) (fs : List Bytes) → T (noTab f) → T (all noTab fs)
+      → LineOf (lineOf (f ∷ decimal n ∷ fs)) (f ∷ decimal n ∷ fs)
   numbered-line f n fs h k =
       line-of f (decimal n ∷ fs) (all-cons noTab f (decimal n ∷ fs) h (all-cons noTab (decimal n) fs (decimal-no-tab n) k))
 

@@ -71,7 +71,8 @@ not-read line h = by-reading (read-or-not line) h
     by-reading (inr r) (inl long) = let short : length line ≤ maxLine = r .short in absurd (omega arith)
     by-reading (inr r) (inr other) = absurd (other (r .typed) (r .well-formed) (r .text))
 
-pub line-of-record : (d : Desk) (r : Record) → T (wellFormed r) → length (recordText r) ≤ maxLine → lineOperation d (recordText r) ≡ operation d r
+pub line-of-record : (d : Desk) (r : Record) → T (wellFormed r) → length (recordText r) ≤ maxLine → lineOperation d (recordText r)
+    ≡ operation d r
 unfolding _>>=_ lineOperation
 line-of-record d r w h = ap (λ o. o >>= operation d) whole
   where

@@ -104,7 +104,8 @@ operation-pair d o p r h k =
 
 operation-close : (d : Desk) (o : Draft) → verdict (o .shape) (o .rows) ≡ Accepted → keep (o .shape) (o .rows) ≡ o .rows
     → countOf d < maxChanges
-    → operation (withDraft d o) E ≡ pass (changed d (o .slot) (some (record { shape = o .shape; rows = o .rows })), okNumber (length (o .rows)))
+    → operation (withDraft d o) E
+    ≡ pass (changed d (o .slot) (some (record { shape = o .shape; rows = o .rows })), okNumber (length (o .rows)))
 unfolding withDraft changed
 operation-close d o v k h =
     close-pass (withDraft d o) o refl v (lt-leb maxChanges (countOf d) h)

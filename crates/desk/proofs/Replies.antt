@@ -146,7 +146,8 @@ ReadsHeld d us = (u : SlotUse) → List·Memᴰ u us → u .does ≡ reads → (
 no-uses : (d : Desk) → ReadsHeld d []
 no-uses d u m e = absurd (List·Memᴰ·not-nil m)
 
-reading-held : (d : Desk) (a : ℕ) (us : List SlotUse) (p : Plan) → held d (slotNumber a) ≡ some p → ReadsHeld d us → ReadsHeld d (reading a ∷ us)
+reading-held : (d : Desk) (a : ℕ) (us : List SlotUse) (p : Plan) → held d (slotNumber a)
+    ≡ some p → ReadsHeld d us → ReadsHeld d (reading a ∷ us)
 reading-held d a us p x rest u m e = by-place (List·Memᴰ·cases-cons m)
   where
     by-place : (u ≡ reading a) ⊎ List·Memᴰ u us → (q : Plan) × (held d (slotNumber (u .slot)) ≡ some q)

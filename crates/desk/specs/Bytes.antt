@@ -61,6 +61,7 @@ replyBytes-example : (order : Order)
 unfolding replyBytes
 replyBytes-example order = refl
 
-survey-example : replyBytes byLetter (surveys (record { slot = 1; plan = record { shape = record { arity = 2; roots = 1 }; rows = row 11 12 ∷ row 12 11 ∷ [] } } ∷ [])) ≡ bytes "B\t2\t1\t2\nok\t1\n"
+survey-example : replyBytes byLetter (surveys (record { slot = 1; plan = record { shape = record { arity = 2; roots = 1 }; rows = row 11 12 ∷ row 12 11 ∷ [] } } ∷ []))
+    ≡ bytes "B\t2\t1\t2\nok\t1\n"
 unfolding replyBytes
 survey-example = refl

@@ -147,6 +147,7 @@ refusalOf (refuse n c) = some (n, c)
 refusalOf (pass a) = none
 
 -- on a fresh desk: a slot outside comes before a power outside, and that before an empty slot
-conditions-example : map (λ r. firstOf (conditions freshDesk r)) (K (byte "I") (pos 1001) (byte "A") ∷ K (byte "A") (pos 1001) (byte "A") ∷ K (byte "A") (pos 1000) (byte "A") ∷ T ∷ []) ≡ some (8, none) ∷ some (12, none) ∷ some (9, none) ∷ none ∷ []
+conditions-example : map (λ r. firstOf (conditions freshDesk r)) (K (byte "I") (pos 1001) (byte "A") ∷ K (byte "A") (pos 1001) (byte "A") ∷ K (byte "A") (pos 1000) (byte "A") ∷ T ∷ [])
+    ≡ some (8, none) ∷ some (12, none) ∷ some (9, none) ∷ none ∷ []
 unfolding conditions freshDesk slotCount maxPower
 conditions-example = refl

@@ -259,23 +259,27 @@ signedField-example : map (signedField 4) (bytes "0" ∷ bytes "-1000" ∷ bytes
 signedField-example = refl
 
 -- "n and r one digit 0 to 9": whatever their range
-numberField-example : map (numberField 1) (bytes "0" ∷ bytes "9" ∷ bytes "" ∷ bytes "10" ∷ bytes "/" ∷ bytes ":" ∷ []) ≡ some 0 ∷ some 9 ∷ none ∷ none ∷ none ∷ none ∷ []
+numberField-example : map (numberField 1) (bytes "0" ∷ bytes "9" ∷ bytes "" ∷ bytes "10" ∷ bytes "/" ∷ bytes ":" ∷ [])
+    ≡ some 0 ∷ some 9 ∷ none ∷ none ∷ none ∷ none ∷ []
 numberField-example = refl
 
 parse-example : parse (bytes "K\tA\t-2\tz") ≡ some (K (byte "A") (negsuc 1) (byte "z"))
 unfolding parse grammar maxNumeral
 parse-example = refl
 
-recordText-example : map recordText (K (byte "A") (negsuc 1) (byte "z") ∷ M (bytes "11") [] ∷ E ∷ []) ≡ bytes "K\tA\t-2\tz" ∷ bytes "M\t11\t" ∷ bytes "E" ∷ []
+recordText-example : map recordText (K (byte "A") (negsuc 1) (byte "z") ∷ M (bytes "11") [] ∷ E ∷ [])
+    ≡ bytes "K\tA\t-2\tz" ∷ bytes "M\t11\t" ∷ bytes "E" ∷ []
 unfolding recordText
 recordText-example = refl
 
 -- a slot that is a tab, a number of two digits for n, and a power of five
-wellFormed-example : map wellFormed (L (byte "A") ∷ L tab ∷ P (byte "A") 10 1 ∷ K (byte "A") (pos 10000) (byte "B") ∷ []) ≡ true ∷ false ∷ false ∷ false ∷ []
+wellFormed-example : map wellFormed (L (byte "A") ∷ L tab ∷ P (byte "A") 10 1 ∷ K (byte "A") (pos 10000) (byte "B") ∷ [])
+    ≡ true ∷ false ∷ false ∷ false ∷ []
 unfolding wellFormed maxNumeral
 wellFormed-example = refl
 
 -- a line of no bytes, an unknown letter, a field too many, a letter of two bytes, a slot of two, and a byte 13 at the end
-not-record-example : map parse (bytes "" ∷ bytes "Q" ∷ bytes "T\t" ∷ bytes "TT" ∷ bytes "L\tAB" ∷ bytes "E\r" ∷ []) ≡ none ∷ none ∷ none ∷ none ∷ none ∷ none ∷ []
+not-record-example : map parse (bytes "" ∷ bytes "Q" ∷ bytes "T\t" ∷ bytes "TT" ∷ bytes "L\tAB" ∷ bytes "E\r" ∷ [])
+    ≡ none ∷ none ∷ none ∷ none ∷ none ∷ none ∷ []
 unfolding parse grammar maxNumeral
 not-record-example = refl

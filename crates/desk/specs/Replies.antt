@@ -241,7 +241,8 @@ unfolding _>>=_ respond operation job needsOpen slotsNamed isChange freshDesk sl
 respond-example = refl
 
 -- "Lines hold at most 1,100 bytes": W with a code so long that the line has 1,100, and one byte more
-recordOf-example : map (λ k. recordOf (bytes "W\tA\t" ++ replicate k (byte "1"))) (1_096 ∷ 1_097 ∷ []) ≡ pass (W (byte "A") (replicate 1_096 (byte "1"))) ∷ refuse 1 none ∷ []
+recordOf-example : map (λ k. recordOf (bytes "W\tA\t" ++ replicate k (byte "1"))) (1_096 ∷ 1_097 ∷ [])
+    ≡ pass (W (byte "A") (replicate 1_096 (byte "1"))) ∷ refuse 1 none ∷ []
 unfolding parse grammar maxLine
 recordOf-example = refl
 
@@ -253,7 +254,8 @@ unfolding _>>=_ respond operation job needsOpen slotsNamed isChange freshDesk wi
 open-example = refl
 
 -- a line that is no record, and a record
-respondLine-example : map (λ l. respondLine freshDesk (bytes l) .1) ("" ∷ "T " ∷ "T" ∷ []) ≡ refuses 1 none ∷ refuses 1 none ∷ okNumber 0 ∷ []
+respondLine-example : map (λ l. respondLine freshDesk (bytes l) .1) ("" ∷ "T " ∷ "T" ∷ [])
+    ≡ refuses 1 none ∷ refuses 1 none ∷ okNumber 0 ∷ []
 unfolding _>>=_ respondLine lineOperation operation job needsOpen slotsNamed isChange parse grammar freshDesk slotCount maxLine
 respondLine-example = refl
 

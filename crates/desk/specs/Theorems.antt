@@ -156,7 +156,8 @@ pub record CallsExact : Type 0 where
   -- otherwise the work is done, and "only the bytes of the output change"
   pub done : (order : Order) (d : Desk) (work : Work) (buffer : Bytes) (e : Effect) → IsDesk d → work d ≡ pass e
       → length (replyBytes order (e .1)) ≤ length buffer
-      → let output = replyBytes order (e .1) in lentCall order d work buffer ≡ (e .0, record { buffer = written buffer 0 output; answer = pass (length output) })
+      → let output = replyBytes order (e .1) in lentCall order d work buffer
+      ≡ (e .0, record { buffer = written buffer 0 output; answer = pass (length output) })
   -- "a lent buffer then holds what it held before", at any refusal; and a buffer keeps its length at any answer
   pub buffer-held : (order : Order) (d : Desk) (work : Work) (buffer : Bytes) (n : ℕ) (c : Option Letter)
       → lentCall order d work buffer .1 .answer ≡ refuse n c → lentCall order d work buffer .1 .buffer ≡ buffer

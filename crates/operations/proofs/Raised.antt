@@ -99,7 +99,8 @@ module _ (a : Plan) (h : isPlan a ≡ true) where
 
     module _ (m : Making) (e : m ≡ composing p a) where
       -- what was made, by whether the next power keeps the limits
-      made : (b : Bool) → granted next ≡ b → m ≡ making (elim b as (λ _. HigmanAnswer) [ true ↦ Of.Granted (shaped next) | false ↦ Of.Refused Of.LimitBroken ])
+      made : (b : Bool) → granted next ≡ b
+          → m ≡ making (elim b as (λ _. HigmanAnswer) [ true ↦ Of.Granted (shaped next) | false ↦ Of.Refused Of.LimitBroken ])
       made b g = e ∙ answered ∙ ap (λ b. making (elim b as (λ _. HigmanAnswer) [ true ↦ Of.Granted (shaped next) | false ↦ Of.Refused Of.LimitBroken ])) g
 
       pub reached-next : m .answer ≡ Granted → Reached (m .plan) (i + 1)

@@ -36,7 +36,8 @@ module _ (af at bf bt : List ℕ) (la : length af ≡ length at) (lf : length af
       ap₂ (λ l m. sameTable (table l (drop i at)) (table m (drop i bt))) (drop-of-length-le af h) (drop-of-length-le bf k)
 
   module _ (h : i < length af) where
-    place : sameFrom af at bf bt i ≡ (sameWord (wordAt af i) (wordAt bf i) && sameWord (wordAt at i) (wordAt bt i) && sameFrom af at bf bt (i + 1))
+    place : sameFrom af at bf bt i
+        ≡ (sameWord (wordAt af i) (wordAt bf i) && sameWord (wordAt at i) (wordAt bt i) && sameFrom af at bf bt (i + 1))
     place = ap₂ sameTable (table-left af at i h (omega arith)) (table-left bf bt i (omega arith) (omega arith))
 
     pub from-differs : (getD af i 0 ≡ getD bf i 0 → ⊥) → sameFrom af at bf bt i ≡ false

@@ -75,8 +75,10 @@ module _ (k : ℕ) (f t : List ℕ) (h : k ≤ length f) (h′ : k ≤ length t)
   packed-tos = ap (map pack) (tos-table (take k f) (take k t) paired) ∙ packed-words (take k t)
 
 -- the columns that a reduction has written, once they are cleared behind its pairs
-pub kept-columns : (s : Shape) (t : Table) (of ot of₀ ot₀ of′ ot′ : List ℕ) (r : ℕ) → r ≤ length of → r ≤ length ot → rows r of ot ≡ keep s t
-    → length of ≡ length of₀ → length ot ≡ length ot₀ → of′ ≡ take r of ++ replicate (length of - r) 0 → ot′ ≡ take r ot ++ replicate (length ot - r) 0
+pub kept-columns : (s : Shape) (t : Table) (of ot of₀ ot₀ of′ ot′ : List ℕ) (r : ℕ) → r ≤ length of → r ≤ length ot → rows r of ot
+    ≡ keep s t
+    → length of ≡ length of₀ → length ot ≡ length ot₀ → of′ ≡ take r of ++ replicate (length of - r) 0
+    → ot′ ≡ take r ot ++ replicate (length ot - r) 0
     → KeptColumns s t of₀ ot₀ of′ ot′ r
 kept-columns s t of ot of₀ ot₀ of′ ot′ r h h′ e l l′ p q =
     record {
@@ -86,10 +88,12 @@ kept-columns s t of ot of₀ ot₀ of′ ot′ r h h′ e l l′ p q =
     }
 
 -- as many packed words as there are pairs, with zeros behind, are a column
-column-is : (c : List Word) (l l₀ : List ℕ) (r : ℕ) → length l₀ ≡ maxPairs → length c ≡ r → l ≡ map pack c ++ replicate (length l₀ - r) 0 → l ≡ column c
+column-is : (c : List Word) (l l₀ : List ℕ) (r : ℕ) → length l₀ ≡ maxPairs → length c ≡ r → l ≡ map pack c ++ replicate (length l₀ - r) 0
+    → l ≡ column c
 column-is c l l₀ r k e p = p ∙ ap₂ (λ j m. map pack c ++ replicate (j - m) 0) k (sym e)
 
-pub kept-value : (s : Shape) (t : Table) (f₀ t₀ f t′ : List ℕ) (r : ℕ) → length f₀ ≡ maxPairs → length t₀ ≡ maxPairs → KeptColumns s t f₀ t₀ f t′ r
+pub kept-value : (s : Shape) (t : Table) (f₀ t₀ f t′ : List ℕ) (r : ℕ) → length f₀ ≡ maxPairs → length t₀ ≡ maxPairs
+    → KeptColumns s t f₀ t₀ f t′ r
     → _≡_ {A = Plan} (record { arity = s .arity; roots = s .roots; pairs = r; from = f; to = t′ }) (packed (record { shape = s; rows = keep s t }))
 unfolding packed
 kept-value s t f₀ t₀ f t′ r h h′ k =
