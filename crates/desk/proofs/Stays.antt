@@ -56,7 +56,7 @@ changed-desk d h e i x k = record { eight = length-set (d .slots) i x ∙ h .eig
     by j p (inl q) = k p q
     by j p (inr q) = h .kept j p q
 
-dropped-desk : (d : Desk) → IsDesk d → IsDesk (dropped d)
+pub dropped-desk : (d : Desk) → IsDesk d → IsDesk (dropped d)
 unfolding dropped
 dropped-desk d h = record { eight = h .eight; kept = h .kept; drafted = λ o q. no-draft q; counted = h .counted }
 
@@ -132,7 +132,8 @@ longer-draft o h p k e =
     to : T (isPlanWord s (p .to))
     to = and-right (isPlanWord s (p .from)) (isPlanWord s (p .to)) k
 
-abbrev Stays : Effect → Type 0
+-- a desk is left behind
+abbrev pub Stays : Effect → Type 0
 Stays e = IsDesk (e .0)
 
 none-kept : (p : Plan) → none ≡ some p → Kept p
@@ -178,7 +179,7 @@ job-stays d h (C a) t = any-then _ (λ _. passes (changed-desk d h (t .room) _ n
 job-stays d h Tᴿ t = passes h
 job-stays d h U t = passes h
 
-operation-stays : (d : Desk) → IsDesk d → (r : Record) → Passes Stays (operation d r)
+pub operation-stays : (d : Desk) → IsDesk d → (r : Record) → Passes Stays (operation d r)
 operation-stays d h r = passes-operation d r (job-stays d h r)
 
 settled : (d : Desk) → IsDesk d → (o : Outcome Effect) → Passes Stays o → IsDesk (settle d o .0)

@@ -4,7 +4,7 @@ pub mod Reordered
 pub mod Values
 pub mod Filled
 pub mod KeptValues
-pub mod Shapes
+pub mod SameShapes
 pub mod Composed
 pub mod Exchanged
 pub mod SamePairs

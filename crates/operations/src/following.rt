@@ -7,7 +7,7 @@ ghost use mathlib.Core.Bool.{true};
 ghost use Prim.Native.Nat.{_≤_};
 ghost use lib.Dec.{T};
 ghost use lib.ListN.{length};
-ghost use Rattle.higman.specs.Limits.{shapeInRange, maxPairs};
+ghost use Rattle.higman.specs.Limits.{shapeInRange, maxPairs, powerInRange};
 ghost use Rattle.higman.specs.Answers.{identityPlan, inverted, powered};
 ghost use Rattle.words.specs.Bytes.{shape};
 ghost use Rattle.operations.specs.Plans.{planOf, shapeOf, isPlan, packed};
@@ -31,7 +31,7 @@ const MIN_POWER: i32 = -MAX_POWER;
 const MAX_SPREAD: usize = 2 * MAX_PAIRS;
 
 // The first n numbers of a column, and zeros behind them.
-fn padded(column: &[u64], n: usize) -> [u64; MAX_PAIRS]
+pub fn padded(column: &[u64], n: usize) -> [u64; MAX_PAIRS]
     requires { ⌜ (n ≤ maxPairs) × (n ≤ length (now column)) ⌝ }
     ensures { λ r. ⌜ r ≡ filling n (now (column .entry)) ⌝ }
 {
@@ -154,15 +154,25 @@ fn repeat(a: Plan, n: u32) -> Making
     answers::granted(power)
 }
 
+// Whether a number is one that a plan is raised to: 12 is given otherwise.
+pub fn is_power(k: i32) -> bool
+    ensures { λ r. ⌜ r ≡ powerInRange k ⌝ }
+{
+    if k < MIN_POWER {
+        return false;
+    }
+    if MAX_POWER < k {
+        return false;
+    }
+    true
+}
+
 // A power; "below zero, the power −k of the inverse". 12, 11.
 pub fn power(a: Plan, k: i32) -> Making
     requires { ⌜ isPlan a ≡ true ⌝ }
     ensures { λ r. ⌜ r ≡ making (powered (planOf a) k) ⌝ }
 {
-    if k < MIN_POWER {
-        return answers::refused(numbers::POWER_OUTSIDE);
-    }
-    if MAX_POWER < k {
+    if !is_power(k) {
         return answers::refused(numbers::POWER_OUTSIDE);
     }
     if k < 0 {

@@ -8,6 +8,7 @@ pub mod keeping;
 pub mod listing;
 pub mod numbers;
 pub mod routing;
+pub mod shapes;
 
 // The pairs that a plan has at most: `maxPairs` of higman's Limits.antt.
 pub const MAX_PAIRS: usize = 128;

@@ -57,7 +57,7 @@ use Rattle.operations.proofs.Values.{pairs-by-place}
 use Rattle.plans.proofs.Accepted.{keeping-of, none-kept as not-kept}
 use Rattle.operations.proofs.KeptValues.{pair-limit, kept}
 use Rattle.plans.proofs.Answered.{first-no-plan, second-no-plan, both-plans}
-use Rattle.operations.proofs.Shapes.{shapes-differ}
+use Rattle.operations.proofs.SameShapes.{shapes-differ}
 use Rattle.plans.proofs.Answered.{first-not-alike, second-not-alike, both-compared}
 use Rattle.operations.proofs.Compared.{not-compared}
 use Rattle.operations.proofs.Powered.{power-limit}

@@ -10,7 +10,7 @@ use Rattle.columns.specs.Packed.{table}
 use Rattle.columns.proofs.Rearranged.{froms-table}
 use Rattle.tables.specs.Lines.{planOf}
 use Rattle.operations.specs.declared.Likeness.the-variants.{Alike}
-use Rattle.operations.proofs.Shapes.{arity-differs, roots-differ}
+use Rattle.operations.proofs.SameShapes.{arity-differs, roots-differ}
 use Rattle.operations.proofs.Compared.{not-compared, rows-compared, lengths-differ}
 use Rattle.operations.proofs.comparing.same.Statement.{statement}
 use Rattle.operations.proofs.comparing.same.Tie as tie

@@ -2,7 +2,7 @@
 use mathlib.Core.Path.{_∙_}
 use borrow.Author.Needs.{needs}
 use Rattle.operations.specs.Plans.{shapeOf}
-use Rattle.operations.proofs.Shapes.{arity-differs, roots-differ, shapes-differ}
+use Rattle.operations.proofs.SameShapes.{arity-differs, roots-differ, shapes-differ}
 use Rattle.operations.proofs.following.compose.Statement.{statement}
 use Rattle.operations.proofs.following.compose.Tie as tie
 
