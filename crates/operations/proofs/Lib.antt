@@ -1,5 +1,7 @@
 -- The laws of what is done with plans, each file after those it leans on; the proofs of the functions cite them, and so may other crates.
 pub mod Sizes
+pub mod Unordered
+pub mod Verdicts
 pub mod Reordered
 pub mod Values
 pub mod Filled

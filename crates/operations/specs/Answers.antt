@@ -1,5 +1,5 @@
 -- What is answered where a plan is made or two are compared: the answers of higman, with the numbers of the refusals. A plan stands
--- beside the answer that makes one; where it is refused, that is the blank one. Read Routing.antt next.
+-- beside the answer that makes one; where it is refused, that is the blank one. Read Closing.antt next.
 use Prim.Native.Nat.{ℕ}
 use mathlib.Core.Path.{_≡_, refl}
 use mathlib.Core.Bool.{Bool, true, false}

@@ -10,7 +10,7 @@ ghost use Rattle.higman.specs.Limits.{Bases, shapeInRange, maxPairs};
 ghost use Rattle.words.specs.Bytes.{shape};
 ghost use Rattle.columns.specs.Packed.{table, rows};
 ghost use Rattle.operations.specs.Plans.{packed};
-ghost use Rattle.operations.specs.Keeping.{KeptColumns};
+ghost use Rattle.operations.specs.Keeping.{ReducibleColumns, KeptColumns};
 use crate::MAX_PAIRS;
 use crate::Plan;
 
@@ -26,26 +26,43 @@ fn clear(column: &mut [u64], place: usize)
     }
 }
 
-// Writes what is kept of the pairs of two columns into the lent columns, with zeros behind, and returns the number of its pairs. The
-// pairs that came are left sorted.
-fn keep_into(
-    keys: &mut [u64],
-    values: &mut [u64],
+// Writes what is kept of the pairs of two columns, which are in order, into the lent columns, with zeros behind, and returns the number
+// of its pairs.
+fn reduce_into(
+    keys: &[u64],
+    values: &[u64],
     out_from: &mut [u64],
     out_to: &mut [u64],
     arity: u8,
     roots: u8,
 ) -> usize
-    requires { ⌜ (length (now keys) ≡ length (now values)) × (length (now keys) ≤ length (now «out_from»)) × (length (now keys) ≤ length (now «out_to»))
-        × T (shapeInRange (shape arity roots)) × Bases (shape arity roots) (table (now keys) (now values)) × (length (now keys) ≤ maxPairs) ⌝ }
+    requires { ⌜ ReducibleColumns (shape arity roots) (now keys) (now values)
+        × (length (now keys) ≤ length (now «out_from»)) × (length (now keys) ≤ length (now «out_to»)) ⌝ }
     ensures { λ r. ⌜ KeptColumns (shape arity roots) (table (now (keys .entry)) (now (values .entry))) (now («out_from» .entry)) (now («out_to» .entry))
         (now («out_from» .exit)) (now («out_to» .exit)) r ⌝ }
 {
-    columns::sorting::sort(keys, values);
     let pairs = tables::reduce::reduce(keys, values, out_from, out_to, arity, roots);
     clear(out_from, pairs);
     clear(out_to, pairs);
     pairs
+}
+
+// The plan kept of the pairs of two columns, which are in order.
+pub fn keep_sorted(keys: &[u64], values: &[u64], arity: u8, roots: u8) -> Plan
+    requires { ⌜ ReducibleColumns (shape arity roots) (now keys) (now values) ⌝ }
+    ensures { λ r. ⌜ r
+        ≡ packed (record { shape = shape arity roots; rows = keep (shape arity roots) (table (now (keys .entry)) (now (values .entry))) }) ⌝ }
+{
+    let mut out_from = [0u64; MAX_PAIRS];
+    let mut out_to = [0u64; MAX_PAIRS];
+    let pairs = reduce_into(keys, values, &mut out_from, &mut out_to, arity, roots);
+    Plan {
+        arity: arity,
+        roots: roots,
+        pairs: pairs,
+        from: out_from,
+        to: out_to,
+    }
 }
 
 // The plan kept of the first n pairs of two columns, both bases.
@@ -55,21 +72,6 @@ pub fn keep(from: [u64; MAX_PAIRS], to: [u64; MAX_PAIRS], n: usize, arity: u8, r
 {
     let mut keys = from;
     let mut values = to;
-    let mut out_from = [0u64; MAX_PAIRS];
-    let mut out_to = [0u64; MAX_PAIRS];
-    let pairs = keep_into(
-        &mut keys[..n],
-        &mut values[..n],
-        &mut out_from,
-        &mut out_to,
-        arity,
-        roots,
-    );
-    Plan {
-        arity: arity,
-        roots: roots,
-        pairs: pairs,
-        from: out_from,
-        to: out_to,
-    }
+    columns::sorting::sort(&mut keys[..n], &mut values[..n]);
+    keep_sorted(&keys[..n], &values[..n], arity, roots)
 }

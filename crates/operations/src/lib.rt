@@ -2,6 +2,7 @@
 // functions ask for plans and check none; the crate `plans` makes the check for everyone else. Each promise is an equality with an
 // answer of the crate `higman`, through the words that the packed numbers hold.
 pub mod answers;
+pub mod closing;
 pub mod comparing;
 pub mod following;
 pub mod keeping;
@@ -33,6 +34,33 @@ pub enum Answer {
 // An answer and the plan that was made where it is Granted.
 pub struct Making {
     pub answer: Answer,
+    pub plan: Plan,
+}
+
+// What is wrong with a column.
+pub enum Reason {
+    // one word begins or equals another
+    Overlap,
+    // a belt isn't covered
+    Gap,
+}
+
+// The verdict on one column.
+pub enum Fault {
+    Sound,
+    Faulty(Reason),
+}
+
+// "the verdict on a plan names the column and, within it, the reason"
+pub enum Verdict {
+    Accepted,
+    InFrom(Reason),
+    InTo(Reason),
+}
+
+// A verdict and the plan that is kept where it is Accepted.
+pub struct Closed {
+    pub verdict: Verdict,
     pub plan: Plan,
 }
 

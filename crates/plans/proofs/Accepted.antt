@@ -17,16 +17,22 @@ use Rattle.higman.proofs.Tests.{passes, so, T-of, and-left, and-right, and-intr
 use Rattle.higman.proofs.KeptPlans.{arity-of-range}
 use Rattle.higman.proofs.Statements.{table-of, answers-exact}
 use Rattle.operations.specs.declared.Plan.{Plan}
+use Rattle.operations.specs.declared.Verdict.{Verdict}
+use Rattle.operations.specs.declared.Verdict.the-variants as Found
+use Rattle.operations.specs.declared.Closed.{Closed}
 use Rattle.plans.specs.declared.Judgement.{Judgement}
 use Rattle.plans.specs.declared.Judgement.the-variants.{NotADraft, Accepted, InFrom, InTo}
 use Rattle.plans.specs.declared.Keeping.{Keeping}
 use Rattle.tables.specs.Joining.{isNormal}
 use Rattle.tables.proofs.Joining.{normal-exactly}
 use Rattle.operations.specs.Plans.{shapeOf, rowsOf, planOf, inTable, isDraft, isPlan, blank}
-use Rattle.plans.specs.Answers.{judgementOf, judged, keptOf, keeping}
+use Rattle.operations.specs.Closing.{verdictOf, keptBy, closing}
+use Rattle.plans.specs.Answers.{judgementBy, judgementOf, judged, keptOf, keeping}
 use Rattle.plans.proofs.Judgement.{the-type}
 use Rattle.operations.proofs.Values.{few-in-table}
 use Rattle.operations.proofs.KeptValues.{kept-plan}
+use Rattle.operations.proofs.Verdicts.{closing-by}
+use Rattle.plans.proofs.DraftChecks.{judged-draft}
 
 abbrev IsAccepted : Judgement → Type 0
 IsAccepted NotADraft = ⊥
@@ -52,7 +58,8 @@ pub record Approved (p : Plan) : Type 0 where
   pub verdict : Of.verdict (shapeOf p) (rowsOf p) ≡ Of.Accepted
   pub bases : Bases (shapeOf p) (rowsOf p)
 
-accepted-cases : (b : Bool) (v : Of.Verdict) → elim b as (λ _. Judgement) [ true ↦ judgementOf v | false ↦ NotADraft ] ≡ Accepted → (b ≡ true) × (v ≡ Of.Accepted)
+accepted-cases : (b : Bool) (v : Of.Verdict) → elim b as (λ _. Judgement) [ true ↦ judgementOf v | false ↦ NotADraft ] ≡ Accepted
+    → (b ≡ true) × (v ≡ Of.Accepted)
 accepted-cases false v e = absurd (subst IsAccepted (sym e) tt)
 accepted-cases true Of.Accepted e = (refl, refl)
 accepted-cases true (Of.InFrom r) e = absurd (subst IsAccepted (sym e) tt)
@@ -90,6 +97,19 @@ pub keeping-of : (p : Plan) (j : Judgement) (q : Plan) → j ≡ judged p → q 
 unfolding keeping
 keeping-of p j q e f =
     ap {B = Keeping} (λ x. record { judgement = j; plan = x }) f ∙ ap {B = Keeping} (λ x. record { judgement = x; plan = keptOf p x }) e
+
+-- what is closed of a draft is kept of it
+kept-by : (p : Plan) (v : Verdict) → keptBy (shapeOf p) (rowsOf p) v ≡ keptOf p (judgementBy v)
+kept-by p Found.Accepted = refl
+kept-by p (Found.InFrom r) = refl
+kept-by p (Found.InTo r) = refl
+
+pub keeping-closed : (p : Plan) (c : Closed) → isDraft p ≡ true → c ≡ closing (shapeOf p) (rowsOf p)
+    → _≡_ {A = Keeping} (record { judgement = judgementBy (c .verdict); plan = c .plan }) (keeping p)
+keeping-closed p c d e =
+    let v = verdictOf (Of.verdict (shapeOf p) (rowsOf p)) in
+    ap {B = Keeping} (λ x. record { judgement = judgementBy (x .verdict); plan = x .plan }) (e ∙ closing-by (shapeOf p) (rowsOf p) v refl)
+    ∙ keeping-of p (judgementBy v) (keptBy (shapeOf p) (rowsOf p) v) (sym (judged-draft p d)) (kept-by p v)
 
 -- what is not accepted is not kept
 pub none-kept : (p : Plan) (j : Judgement) → (j ≡ Accepted → ⊥) → blank ≡ keptOf p j

@@ -37,7 +37,7 @@ use Rattle.words.proofs.Codes.{digits-drop, after-drop}
 use Rattle.columns.specs.Packed.{wordsOf}
 use Rattle.tables.specs.Routing.{matchedDigits}
 use Rattle.operations.specs.declared.Plan.{Plan}
-use Rattle.plans.specs.declared.Reason.the-variants.{Overlap, Gap}
+use Rattle.operations.specs.declared.Reason.the-variants.{Overlap, Gap}
 use Rattle.plans.specs.declared.Judgement.{Judgement}
 use Rattle.plans.specs.declared.Judgement.the-variants.{NotADraft, Accepted, InFrom, InTo}
 use Rattle.operations.specs.declared.Likeness.the-variants as Like

@@ -1,11 +1,10 @@
 -- Drafts by what they mean: the parts of the test `isDraft` as the code makes them, that they say the same as the test, and the
--- judgement from what is wrong with each column.
-use Prim.Native.Nat.{_≤_}
-use mathlib.Core.Path.{_≡_, refl, sym, _∙_, ap₂, subst}
+-- judgement by the test.
+use Prim.Native.Nat.{ℕ, _≤_}
+use mathlib.Core.Path.{_≡_, sym, _∙_, subst}
 use mathlib.Core.Logic.{_⊎_, inl, inr, ⊎-elim}
 use mathlib.Core.Bool.{Bool, true, false, _&&_}
-use mathlib.Core.List.{map, List·Memᴰ, Memᴰ·map, Memᴰ·of-map}
-use mathlib.Core.Option.{Option, none, some}
+use mathlib.Core.List.{List, map, List·Memᴰ, Memᴰ·map, Memᴰ·of-map}
 use native.Mathlib.Omega.{arith}
 use lib.Dec.{T, leb, leb→le, le→leb}
 use lib.ListN.{length, take, drop, length-take}
@@ -17,15 +16,13 @@ use Rattle.higman.specs.Answers as Of
 use Rattle.higman.proofs.Tests.{passes, so, T-of, clash, and-left, and-right, and-intro, all-at, all-of}
 use Rattle.higman.proofs.Statements.{TableOf, table-of, test-table}
 use Rattle.operations.specs.declared.Plan.{Plan}
-use Rattle.plans.specs.declared.Fault.{Fault}
-use Rattle.plans.specs.declared.Fault.the-variants.{Sound, Faulty}
-use Rattle.plans.specs.declared.Judgement.{Judgement}
-use Rattle.plans.specs.declared.Judgement.the-variants.{NotADraft, Accepted, InFrom, InTo}
+use Rattle.plans.specs.declared.Judgement.the-variants.{NotADraft}
 use Rattle.columns.specs.Packed.{wordsOf}
 use Rattle.operations.specs.Plans.{shapeOf, rowsOf, zeros, isColumn, inTable, isDraft}
-use Rattle.plans.specs.Answers.{faultOf, judgementOf, judged}
-use Rattle.columns.proofs.Rearranged.{froms-table, tos-table}
+use Rattle.operations.specs.Closing.{DraftColumns}
+use Rattle.plans.specs.Answers.{judgementOf, judged}
 use Rattle.columns.proofs.Rows.{table-length}
+use Rattle.operations.proofs.Verdicts.{words-of-plan, paired, froms-rows, tos-rows}
 
 -- one column of a table, whose words fit where the pairs do
 module _ (s : Shape) (t : Table) (word : Pair → Word) where
@@ -33,11 +30,6 @@ module _ (s : Shape) (t : Table) (word : Pair → Word) where
   unfolding isPlanWord
   fitting-words fit h k =
       all-of (isPlanWord s) (map word t) (λ w m. let (p, n, e) = Memᴰ·of-map word t m in and-intro (isWord s w) (fits w) (all-at (isWord s) (map word t) k w m) (subst (λ u. T (fits u)) e (fit p (all-at pairFits t h p n))))
-
-  words-of-plan : T (all (isPlanWord s) (map word t)) → T (all (isWord s) (map word t))
-  unfolding isPlanWord
-  words-of-plan h =
-      all-of (isWord s) (map word t) (λ w m. and-left (isWord s w) (fits w) (all-at (isPlanWord s) (map word t) h w m))
 
   word-fitting : T (all (isPlanWord s) (map word t)) → (p : Pair) → List·Memᴰ p t → T (fits (word p))
   unfolding isPlanWord
@@ -52,15 +44,6 @@ pub record Draft (p : Plan) : Type 0 where
   pub to-column : T (isColumn (shapeOf p) (p .pairs) (p .to))
 
 module _ (p : Plan) (even : length (p .from) ≡ length (p .to)) where
-  paired : length (take (p .pairs) (p .from)) ≡ length (take (p .pairs) (p .to))
-  paired = simp length-take (omega arith)
-
-  pub froms-rows : froms (rowsOf p) ≡ wordsOf (take (p .pairs) (p .from))
-  froms-rows = froms-table (take (p .pairs) (p .from)) (take (p .pairs) (p .to)) paired
-
-  pub tos-rows : tos (rowsOf p) ≡ wordsOf (take (p .pairs) (p .to))
-  tos-rows = tos-table (take (p .pairs) (p .from)) (take (p .pairs) (p .to)) paired
-
   -- the four parts of the tests of the columns
   few-pairs : Bool
   few-pairs = leb (p .pairs) maxPairs
@@ -86,8 +69,10 @@ module _ (p : Plan) (even : length (p .from) ≡ length (p .to)) where
       let front = and-left (few-pairs && from-tail) to-tail inside in
       let is = table-of s t (and-right (inTable p) (Of.isTableOf s t) d) in
       let fit = and-right (leb (length t) maxPairs) (all pairFits t) (is .within) in
-      let from-words = subst (λ c. T (all (isPlanWord s) c)) froms-rows (fitting-words s t (λ q. q .from) (λ q. and-left (fits (q .from)) (fits (q .to))) fit (is .from-words)) in
-      let to-words = subst (λ c. T (all (isPlanWord s) c)) tos-rows (fitting-words s t (λ q. q .to) (λ q. and-right (fits (q .from)) (fits (q .to))) fit (is .to-words)) in
+      let froms-fit = fitting-words s t (λ q. q .from) (λ q. and-left (fits (q .from)) (fits (q .to))) fit (is .from-words) in
+      let tos-fit = fitting-words s t (λ q. q .to) (λ q. and-right (fits (q .from)) (fits (q .to))) fit (is .to-words) in
+      let from-words = subst (λ c. T (all (isPlanWord s) c)) (froms-rows (p .pairs) (p .from) (p .to) even) froms-fit in
+      let to-words = subst (λ c. T (all (isPlanWord s) c)) (tos-rows (p .pairs) (p .from) (p .to) even) tos-fit in
       record {
         in-range = is .in-range;
         few = leb→le (p .pairs) maxPairs (and-left few-pairs from-tail front);
@@ -100,15 +85,18 @@ module _ (p : Plan) (even : length (p .from) ≡ length (p .to)) where
   test-draft d =
       let s = shapeOf p in
       let t = rowsOf p in
-      let from-words = subst (λ c. T (all (isPlanWord s) c)) (sym froms-rows) (and-right from-tail from-front (d .from-column)) in
-      let to-words = subst (λ c. T (all (isPlanWord s) c)) (sym tos-rows) (and-right to-tail to-front (d .to-column)) in
+      let froms-are = sym (froms-rows (p .pairs) (p .from) (p .to) even) in
+      let tos-are = sym (tos-rows (p .pairs) (p .from) (p .to) even) in
+      let from-words = subst (λ c. T (all (isPlanWord s) c)) froms-are (and-right from-tail from-front (d .from-column)) in
+      let to-words = subst (λ c. T (all (isPlanWord s) c)) tos-are (and-right to-tail to-front (d .to-column)) in
       let pair-fits : (q : Pair) → List·Memᴰ q t → T (pairFits q) = λ q m. and-intro (fits (q .from)) (fits (q .to)) (word-fitting s t (λ r. r .from) from-words q m) (word-fitting s t (λ r. r .to) to-words q m) in
-      let few : length t ≤ maxPairs = omega (arith, table-length (take (p .pairs) (p .from)) (take (p .pairs) (p .to)) paired, length-take (p .pairs) (p .from), d .few) in
+      let long = table-length (take (p .pairs) (p .from)) (take (p .pairs) (p .to)) (paired (p .pairs) (p .from) (p .to) even) in
+      let few : length t ≤ maxPairs = omega (arith, long, length-take (p .pairs) (p .from), d .few) in
       let is : TableOf s t = record {
         in-range = d .in-range;
         within = and-intro (leb (length t) maxPairs) (all pairFits t) (le→leb (length t) maxPairs few) (all-of pairFits t pair-fits);
-        from-words = words-of-plan s t (λ q. q .from) from-words;
-        to-words = words-of-plan s t (λ q. q .to) to-words;
+        from-words = words-of-plan s (froms t) from-words;
+        to-words = words-of-plan s (tos t) to-words;
       } in
       let front = and-intro few-pairs from-tail (le→leb (p .pairs) maxPairs (d .few)) (and-left from-tail from-front (d .from-column)) in
       and-intro (inTable p) (Of.isTableOf s t) (and-intro (few-pairs && from-tail) to-tail front (and-left to-tail to-front (d .to-column))) (test-table s t is)
@@ -125,27 +113,22 @@ module _ (p : Plan) (even : length (p .from) ≡ length (p .to)) where
           t ∙ sym (so (isDraft p) (test-draft (record { in-range = r; few = few; from-column = from; to-column = T-of t })))
       go (inr f) = f ∙ sym (no-draft (λ d. clash (so (isColumn (shapeOf p) (p .pairs) (p .to)) (d .to-column)) f))
 
--- the verdict from what is wrong with each column, the from column first
-abbrev pub judgement : Fault → Fault → Judgement
-judgement (Faulty r) g = InFrom r
-judgement Sound (Faulty r) = InTo r
-judgement Sound Sound = Accepted
+-- the columns of a draft, as closing asks for them
+pub draft-columns : (p : Plan) → Draft p → DraftColumns (shapeOf p) (p .pairs) (p .from) (p .to)
+draft-columns p d =
+    let words : List ℕ → Bool = λ column. all (isPlanWord (shapeOf p)) (wordsOf (take (p .pairs) column)) in
+    record {
+      few = d .few;
+      in-range = d .in-range;
+      from-words = and-right (zeros (drop (p .pairs) (p .from))) (words (p .from)) (d .from-column);
+      to-words = and-right (zeros (drop (p .pairs) (p .to))) (words (p .to)) (d .to-column);
+    }
 
-pub judgement-of-faults : (s : Shape) (t : Table) → judgementOf (Of.verdict s t) ≡ judgement (faultOf (Of.fault s (froms t))) (faultOf (Of.fault s (tos t)))
-unfolding Of.verdict
-judgement-of-faults s t = go (Of.fault s (froms t)) (Of.fault s (tos t))
-  where
-    go : (f g : Option Of.Reason) → judgementOf (elim f as (λ _. Of.Verdict) [ some r ↦ Of.InFrom r | none ↦ elim g as (λ _. Of.Verdict) [ some r ↦ Of.InTo r | none ↦ Of.Accepted ] ]) ≡ judgement (faultOf f) (faultOf g)
-    go (some r) g = refl
-    go none (some r) = refl
-    go none none = refl
-
+-- the judgement, by the test
 pub judged-none : (p : Plan) → isDraft p ≡ false → judged p ≡ NotADraft
 unfolding judged
 judged-none p e = rw (e, judged)
 
-pub judged-draft : (p : Plan) → length (p .from) ≡ length (p .to) → isDraft p ≡ true → judged p ≡ judgement (faultOf (Of.fault (shapeOf p) (wordsOf (take (p .pairs) (p .from))))) (faultOf (Of.fault (shapeOf p) (wordsOf (take (p .pairs) (p .to)))))
+pub judged-draft : (p : Plan) → isDraft p ≡ true → judged p ≡ judgementOf (Of.verdict (shapeOf p) (rowsOf p))
 unfolding judged
-judged-draft p even e =
-    let s = shapeOf p in
-    rw (e, judged) (judgement-of-faults s (rowsOf p) ∙ ap₂ (λ c d. judgement (faultOf (Of.fault s c)) (faultOf (Of.fault s d))) (froms-rows p even) (tos-rows p even))
+judged-draft p e = rw (e, judged)

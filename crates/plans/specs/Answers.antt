@@ -4,7 +4,6 @@ use Prim.Native.Nat.{ℕ}
 use mathlib.Core.Path.{_≡_, refl}
 use mathlib.Core.Bool.{true, false, _&&_}
 use mathlib.Core.List.{[], _∷_, map}
-use mathlib.Core.Option.{Option, none, some}
 use lib.IntN.{ℤ, pos}
 use Rattle.higman.specs.Tables.{row, φ, ψ}
 use Rattle.higman.specs.Normal.{joined, normal, normalForm, keep, compose, inverse, identity}
@@ -17,39 +16,30 @@ use Rattle.operations.specs.declared.Plan.{Plan}
 use Rattle.operations.specs.declared.Making.{Making}
 use Rattle.operations.specs.declared.Likeness.{Likeness}
 use Rattle.operations.specs.declared.Likeness.the-variants as Like
+use Rattle.operations.specs.declared.Reason.the-variants.{Overlap, Gap}
+use Rattle.operations.specs.declared.Verdict.{Verdict}
+use Rattle.operations.specs.declared.Verdict.the-variants as Found
 use Rattle.operations.specs.Plans.{shapeOf, rowsOf, planOf, inTable, isDraft, isPlan, packed, blank}
 use Rattle.operations.specs.Answers.{granting, refusing, making, composing, likeness, value21}
-use Rattle.plans.specs.declared.Reason.{Reason}
-use Rattle.plans.specs.declared.Reason.the-variants.{Overlap, Gap}
-use Rattle.plans.specs.declared.Fault.{Fault}
-use Rattle.plans.specs.declared.Fault.the-variants.{Sound, Faulty}
+use Rattle.operations.specs.Closing.{verdictOf, reasonNumber}
 use Rattle.plans.specs.declared.Judgement.{Judgement}
 use Rattle.plans.specs.declared.Judgement.the-variants.{NotADraft, Accepted, InFrom, InTo}
 use Rattle.plans.specs.declared.Keeping.{Keeping}
 
-abbrev pub reasonOf : Of.Reason → Reason
-reasonOf Of.Overlap = Overlap
-reasonOf Of.Gap = Gap
-
--- the verdict on one column
-abbrev pub faultOf : Option Of.Reason → Fault
-faultOf none = Sound
-faultOf (some r) = Faulty (reasonOf r)
+-- the judgement on a draft, by the verdict on its columns
+abbrev pub judgementBy : Verdict → Judgement
+judgementBy Found.Accepted = Accepted
+judgementBy (Found.InFrom r) = InFrom r
+judgementBy (Found.InTo r) = InTo r
 
 abbrev pub judgementOf : Of.Verdict → Judgement
-judgementOf Of.Accepted = Accepted
-judgementOf (Of.InFrom r) = InFrom (reasonOf r)
-judgementOf (Of.InTo r) = InTo (reasonOf r)
+judgementOf v = judgementBy (verdictOf v)
 
 -- the verdict on a draft: 15, and then "two checks, both made of the from column and after that both of the to column"
 unfoldable pub judged : Plan → Judgement
 judged p = elim (isDraft p) [ true ↦ judgementOf (Of.verdict (shapeOf p) (rowsOf p)) | false ↦ NotADraft ]
 
 -- the number that a judgement is refused with, 0 where it is not
-abbrev pub reasonNumber : Reason → ℕ
-reasonNumber Overlap = Of.reasonNumber Of.Overlap
-reasonNumber Gap = Of.reasonNumber Of.Gap
-
 abbrev pub judgementNumber : Judgement → ℕ
 judgementNumber NotADraft = invalidValue
 judgementNumber Accepted = 0

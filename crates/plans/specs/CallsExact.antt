@@ -21,7 +21,7 @@ use Rattle.higman.specs.Listing.{listing as linesOf}
 use Rattle.words.specs.Packed.{packOn, pack, unpackIn, unpack}
 use Rattle.tables.specs.Routing.{matchedDigits}
 use Rattle.operations.specs.declared.Plan.{Plan}
-use Rattle.plans.specs.declared.Reason.the-variants.{Overlap, Gap}
+use Rattle.operations.specs.declared.Reason.the-variants.{Overlap, Gap}
 use Rattle.plans.specs.declared.Judgement.the-variants.{NotADraft, Accepted, InFrom, InTo}
 use Rattle.operations.specs.declared.Answer.the-variants as Made
 use Rattle.operations.specs.declared.Likeness.the-variants as Like

@@ -1,22 +1,19 @@
-// Drafts (document 01, "Plans" and "When each operation says no"): whether a value is a draft, and the verdict on it. The words of a
-// draft stand in any order, so that a column is copied and sorted before it is checked; what is asked of it does not depend on the order.
-use crate::Fault;
+// Drafts (document 01, "Plans" and "When each operation says no"): whether a value is a draft, and the verdict on it. 15 is given here;
+// the checks of the columns are those that the desk makes when it closes a draft.
 use crate::Judgement;
-use crate::Reason;
-use columns::sorting;
 use operations::MAX_PAIRS;
 use operations::Plan;
+use operations::Verdict;
+use operations::closing;
 ghost use mathlib.Core.Path.{_≡_};
 ghost use Prim.Native.Nat.{_≤_};
-ghost use lib.Dec.{T};
-ghost use lib.ListN.{length, take};
+ghost use lib.ListN.{length};
 ghost use Rattle.higman.specs.Bases.{all};
-ghost use Rattle.higman.specs.Limits.{shapeInRange, maxPairs, isPlanWord};
-ghost use Rattle.higman.specs.Answers.{fault};
+ghost use Rattle.higman.specs.Limits.{shapeInRange, isPlanWord};
 ghost use Rattle.words.specs.Bytes.{shape};
 ghost use Rattle.columns.specs.Packed.{wordsOf};
 ghost use Rattle.operations.specs.Plans.{zeros, isColumn, isDraft};
-ghost use Rattle.plans.specs.Answers.{faultOf, judged};
+ghost use Rattle.plans.specs.Answers.{judgementBy, judged};
 
 // The ways at a switch and the belts of a shape: `shapeInRange` of higman's Limits.antt.
 const MIN_ARITY: u8 = 2;
@@ -101,29 +98,15 @@ pub fn is_draft(p: Plan) -> bool
     is_column(&to, n, p.arity, p.roots)
 }
 
-// What is wrong with a column, overlap before gap. It is sorted for that, together with the values, which nothing is asked about.
-fn fault_in(keys: &mut [u64], values: &mut [u64], arity: u8, roots: u8) -> Fault
-    requires { ⌜ (length (now keys) ≡ length (now values)) × T (shapeInRange (shape arity roots)) × (length (now keys) ≤ maxPairs) ⌝ }
-    ensures { λ r. ⌜ r ≡ faultOf (fault (shape arity roots) (wordsOf (now (keys .entry)))) ⌝ }
+// The judgement on a draft, by the verdict on its columns.
+pub(crate) fn judgement_by(verdict: Verdict) -> Judgement
+    ensures { λ r. ⌜ r ≡ judgementBy verdict ⌝ }
 {
-    sorting::sort(keys, values);
-    if columns::overlaps(keys) {
-        return Fault::Faulty(Reason::Overlap);
+    match verdict {
+        Verdict::Accepted => Judgement::Accepted,
+        Verdict::InFrom(reason) => Judgement::InFrom(reason),
+        Verdict::InTo(reason) => Judgement::InTo(reason),
     }
-    if columns::has_gap(keys, arity, roots) {
-        return Fault::Faulty(Reason::Gap);
-    }
-    Fault::Sound
-}
-
-// What is wrong with the first n words of a column. Two copies are sorted, so that the column stays as it came.
-fn fault_of(column: [u64; MAX_PAIRS], n: usize, arity: u8, roots: u8) -> Fault
-    requires { ⌜ (n ≤ maxPairs) × T (shapeInRange (shape arity roots)) ⌝ }
-    ensures { λ r. ⌜ r ≡ faultOf (fault (shape arity roots) (wordsOf (take n column))) ⌝ }
-{
-    let mut keys = column;
-    let mut values = column;
-    fault_in(&mut keys[..n], &mut values[..n], arity, roots)
 }
 
 // The verdict on a draft: both checks of the from column, and after that both of the to column.
@@ -133,14 +116,7 @@ pub fn verdict(draft: Plan) -> Judgement
     if !is_draft(draft) {
         return Judgement::NotADraft;
     }
-    let n = draft.pairs;
     let from = draft.from;
     let to = draft.to;
-    match fault_of(from, n, draft.arity, draft.roots) {
-        Fault::Faulty(reason) => Judgement::InFrom(reason),
-        Fault::Sound => match fault_of(to, n, draft.arity, draft.roots) {
-            Fault::Faulty(reason) => Judgement::InTo(reason),
-            Fault::Sound => Judgement::Accepted,
-        },
-    }
+    judgement_by(closing::judge(from, to, draft.pairs, draft.arity, draft.roots))
 }

@@ -5,32 +5,31 @@ ghost use Rattle.operations.specs.Plans.{isPlan};
 ghost use Rattle.plans.specs.Answers.{keeping};
 use crate::Judgement;
 use crate::Keeping;
+use crate::drafts;
 use operations::Plan;
 use operations::answers;
-use operations::keeping;
+use operations::closing;
 
 // The verdict on a draft and, where it is Accepted, the plan kept of it.
 pub fn keep(draft: Plan) -> Keeping
     ensures { λ r. ⌜ r ≡ keeping draft ⌝ }
 {
-    let judgement = crate::drafts::verdict(draft);
-    match judgement {
-        Judgement::Accepted => {
-            let from = draft.from;
-            let to = draft.to;
-            let reduced = keeping::keep(from, to, draft.pairs, draft.arity, draft.roots);
-            Keeping {
-                judgement: judgement,
-                plan: reduced,
-            }
-        }
-        _ => {
-            let plan = answers::blank();
-            Keeping {
-                judgement: judgement,
-                plan: plan,
-            }
-        }
+    if !drafts::is_draft(draft) {
+        let plan = answers::blank();
+        return Keeping {
+            judgement: Judgement::NotADraft,
+            plan: plan,
+        };
+    }
+    let from = draft.from;
+    let to = draft.to;
+    let closed = closing::close(from, to, draft.pairs, draft.arity, draft.roots);
+    let verdict = closed.verdict;
+    let reduced = closed.plan;
+    let judgement = drafts::judgement_by(verdict);
+    Keeping {
+        judgement: judgement,
+        plan: reduced,
     }
 }
 
@@ -38,7 +37,7 @@ pub fn keep(draft: Plan) -> Keeping
 pub fn is_plan(p: Plan) -> bool
     ensures { λ r. ⌜ r ≡ isPlan p ⌝ }
 {
-    let judgement = crate::drafts::verdict(p);
+    let judgement = drafts::verdict(p);
     match judgement {
         Judgement::Accepted => {
             let n = p.pairs;

@@ -13,21 +13,8 @@ pub use operations::Likeness;
 pub use operations::Listed;
 pub use operations::Making;
 pub use operations::Plan;
+pub use operations::Reason;
 pub use operations::Route;
-
-// What is wrong with a column.
-pub enum Reason {
-    // one word begins or equals another
-    Overlap,
-    // a belt isn't covered
-    Gap,
-}
-
-// The verdict on one column.
-pub enum Fault {
-    Sound,
-    Faulty(Reason),
-}
 
 // The verdict on a draft: the column and, within it, the reason.
 pub enum Judgement {

@@ -3,7 +3,7 @@ use mathlib.Core.Path.{_≡_, refl}
 use mathlib.Core.Bool.{true, false}
 use Rattle.plans.specs.declared.Judgement.{Judgement}
 use Rattle.plans.specs.declared.Judgement.the-variants.{InTo}
-use Rattle.plans.specs.declared.Reason.the-variants.{Gap}
+use Rattle.operations.specs.declared.Reason.the-variants.{Gap}
 use Rattle.operations.specs.declared.Plan.{Plan}
 use Rattle.plans.specs.declared.Keeping.{Keeping}
 use Rattle.operations.specs.declared.Answer.the-variants as Answer

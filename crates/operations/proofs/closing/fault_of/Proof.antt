@@ -1,11 +1,11 @@
--- `plans::drafts::fault_of` meets its contract: the parts that are lent are the first n words of the column, which is as long as a plan
+-- `operations::closing::fault_of` meets its contract: the parts that are lent are the first n words of the column, which is as long as a plan
 -- has room for.
 use borrow.Author.Needs.{needs}
 use native.Mathlib.Omega.{arith}
 use lib.ListN.{length-take}
 use Rattle.higman.specs.Limits.{maxPairs}
-use Rattle.plans.proofs.drafts.fault_of.Statement.{statement}
-use Rattle.plans.proofs.drafts.fault_of.Tie as tie
+use Rattle.operations.proofs.closing.fault_of.Statement.{statement}
+use Rattle.operations.proofs.closing.fault_of.Tie as tie
 
 array-borrow-prefix-keys : tie.Need-array-borrow-prefix-keys
 unfolding maxPairs

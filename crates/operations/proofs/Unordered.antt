@@ -14,7 +14,8 @@ use Rattle.higman.specs.Answers.{Reason, Overlap, Gap, fault}
 use Rattle.columns.proofs.Covered.{all-same}
 
 -- what is put together from the words one by one, in whichever order
-module _ {A : Type 0} (add : A → A → A) (exchange : (a b c : A) → add a (add b c) ≡ add b (add a c)) (f : Word → A) (h : List Word → A) (step : (w : Word) (c : List Word) → h (w ∷ c) ≡ add (f w) (h c)) where
+module _ {A : Type 0} (add : A → A → A) (exchange : (a b c : A) → add a (add b c) ≡ add b (add a c))
+    (f : Word → A) (h : List Word → A) (step : (w : Word) (c : List Word) → h (w ∷ c) ≡ add (f w) (h c)) where
   two : (v w : Word) (c : List Word) → h (v ∷ w ∷ c) ≡ add (f v) (add (f w) (h c))
   two v w c = step v (w ∷ c) ∙ ap (add (f v)) (step w c)
 
@@ -68,7 +69,10 @@ covered-unordered n {c} {e} p (suc d) w =
 gap-unordered : (s : Shape) {c e : List Word} → List·Permᴰ c e → gap s c ≡ gap s e
 gap-unordered s {c} {e} p =
     let n = s .arity in
-    ap not (all-same (λ a. covered n c (longest c) (a ∷ [])) (λ a. covered n e (longest e) (a ∷ [])) (λ a. covered-unordered n p (longest c) (a ∷ []) ∙ ap (λ d. covered n e d (a ∷ [])) (longest-unordered p)) (digits (s .roots)))
+    ap not
+    (all-same (λ a. covered n c (longest c) (a ∷ [])) (λ a. covered n e (longest e) (a ∷ []))
+    (λ a. covered-unordered n p (longest c) (a ∷ []) ∙ ap (λ d. covered n e d (a ∷ [])) (longest-unordered p))
+    (digits (s .roots)))
 
 pub fault-unordered : (s : Shape) {c e : List Word} → List·Permᴰ c e → fault s c ≡ fault s e
 fault-unordered s p =
