@@ -1,3 +1,4 @@
--- The laws of replies as bytes, which the proofs of the functions and callers cite.
+-- The laws of replies as bytes, each file after those it leans on; the proofs of the functions cite them, and so may other crates.
 pub mod Lines
 pub mod Standing
+pub mod Images
