@@ -2,3 +2,5 @@
 pub mod Lines
 pub mod Standing
 pub mod Images
+pub mod Sizes
+pub mod EveryReply
