@@ -49,7 +49,8 @@ drop-further l m e k h q =
 pub wrote-over : {s t l l′ l″ : List ℕ} {at e r : ℕ} → at ≤ length l → Wrote s l at l′ e → e ≤ length t → Wrote t l′ 0 l″ r
     → Wrote t l 0 l″ r
 wrote-over {t = t} {l = l} {l′ = l′} {e = e} h v k w =
-    record { place = w .place; contents = w .contents ∙ ap (λ x. t ++ x) (drop-further l′ l e (0 + length t) (omega arith) (behind-wrote h v)) }
+    let behind = drop-further l′ l e (0 + length t) (omega arith) (behind-wrote h v) in
+    record { place = w .place; contents = w .contents ∙ ap (λ x. t ++ x) behind }
 
 -- "`ok⇥` and the image": what `ok_image` makes of a buffer into which an image of so many bytes was written
 pub image-line : (out image : Bytes) {out₁ out₂ : Bytes} {n r : ℕ} → imageAt ≤ length out → n ≡ length image

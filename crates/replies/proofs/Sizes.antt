@@ -124,18 +124,15 @@ held-size h k =
 joined-size : {A : Type 0} (f : A → Bytes) {l m : List A} → List·Permᴰ l m → length (joinLines (map f l)) ≡ length (joinLines (map f m))
 joined-size f List·Permᴰ·nil = refl
 joined-size f (List·Permᴰ·cons {a = a} {b = b} {l₁ = l} {l₂ = m} e p) =
-    omega (arith, length-append (f a) (joinLines (map f l)), length-append (f b) (joinLines (map f m)), ap (λ x. length (f x)) e, joined-size f p)
+    let heads = ap (λ x. length (f x)) e in
+    omega (arith, length-append (f a) (joinLines (map f l)), length-append (f b) (joinLines (map f m)), joined-size f p)
 joined-size f (List·Permᴰ·swap {a = a} {b = b} {a′ = c} {b′ = d} {l = l} e q) =
     let rest = joinLines (map f l) in
-    omega (
-      arith,
-      length-append (f a) (f b ++ rest),
-      length-append (f b) rest,
-      length-append (f c) (f d ++ rest),
-      length-append (f d) rest,
-      ap (λ x. length (f x)) e,
-      ap (λ x. length (f x)) q,
-    )
+    let first = ap (λ x. length (f x)) e in
+    let second = ap (λ x. length (f x)) q in
+    let left = length-append (f a) (f b ++ rest) ∙ ap (λ n. length (f a) + n) (length-append (f b) rest) in
+    let right = length-append (f c) (f d ++ rest) ∙ ap (λ n. length (f c) + n) (length-append (f d) rest) in
+    omega arith
 joined-size f (List·Permᴰ·trans p q) = joined-size f p ∙ joined-size f q
 
 held-few : (i : ℕ) (l : List (Option Plan)) → length (heldFrom i l) ≤ length l

@@ -1,6 +1,6 @@
-// From a reply to its bytes (document 01, "Records": "Replies are lines ended the same way"), written into a lent buffer: the lines `ok` and
-// `no`, with a number, an image or a column behind them, and U's line for a held slot. Each function writes its line from a place on and
-// returns the place behind it; the rest of the buffer stays as it was. A line's bytes are those of the crate `desk`.
+// From a reply to its bytes (document 01, "Records": "Replies are lines ended the same way"), written into a lent buffer: the lines of
+// `ok` and `no`, with a number, an image or a column behind them, and U's line for a held slot. Each function writes its line from a place
+// on and returns the place behind it; the rest of the buffer stays as it was. What the bytes of a line are is said in the crate `desk`.
 ghost use mathlib.Core.List.{[], _∷_};
 ghost use Prim.Native.Nat.{_+_, _≤_, _<_};
 ghost use lib.ListN.{length, take, drop};

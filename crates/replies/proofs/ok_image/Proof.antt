@@ -20,8 +20,9 @@ returns c =
     let a = ok .before .before .before .args in
     let front = wrote-then (omega arith) (ok .put-two .ensures) (tab .put .ensures) in
     let place : tab .put .result ≡ imageAt = omega arith in
+    let out = a .out .now in
     subst
-    (λ m. Wrote (bytes "ok\t" ++ (take (a .n) (drop m (a .out .now)) ++ lineEnd ∷ [])) (a .out .now) 0 (end .put2 .last .1 .0) (end .put2 .result))
+    (λ m. Wrote (bytes "ok\t" ++ (take (a .n) (drop m out) ++ lineEnd ∷ [])) out 0 (end .put2 .last .1 .0) (end .put2 .result))
     place
     (wrote-around (a .n) (omega arith) (omega arith) front (end .put2 .ensures))
 
