@@ -26,6 +26,7 @@ use Rattle.desk.specs.Desk.{Desk, IsDesk}
 use Rattle.desk.specs.Replies.{Held, heldFrom, surveys}
 use Rattle.desk.specs.Bytes.{lineOf, okLine, noLine, columnField, heldFields, Order, replyBytes}
 use Rattle.desk.proofs.Surveys.{survey-exact}
+use Rattle.replies.specs.Lines.{HeldFits}
 use Rattle.replies.specs.Sizes.{maxReply, Rooms}
 use Rattle.replies.proofs.Lines.{decimal-size}
 
@@ -108,6 +109,12 @@ ok-number-size k h = omega (arith, decimal-size 9 k h, length-append (decimal k)
 pub no-size : (n : ℕ) (c : Option Letter) → n < 10 ^ 3 → length (noLine (decimal n ∷ columnField c)) ≤ 9
 no-size n none h = omega (arith, decimal-size 2 n h, length-append (decimal n) (lineEnd ∷ []))
 no-size n (some c) h = simp length-append (omega (arith, decimal-size 2 n h))
+
+-- a kept plan is one that `held` may be asked for, where its line has room
+pub held-fits : (p : Plan) → Kept p → (at size : ℕ) → at + 10 ≤ size → HeldFits (p .shape .arity) (p .shape .roots) (length (p .rows)) at size
+held-fits p k at size h =
+    let shape = in-range (p .shape) (k .in-range) in
+    record { arity-digit = shape .arity-high; roots-digit = shape .roots-high; pairs-granted = few-pairs p k; room = h }
 
 pub held-size : (h : Held) → Kept (h .plan) → length (lineOf (heldFields h)) ≤ 10
 unfolding maxPairs
