@@ -1,0 +1,163 @@
+-- Every reply has room in `maxReply` bytes: a listing by the limits of a plan, an image by those of a plan and of a code, a survey by the
+-- number of slots, and every other reply by the digits of its number.
+use Prim.Native.Nat.{ℕ, suc, _+_, _*_, _^_, _≤_, _<_}
+use mathlib.Core.Path.{_≡_, refl, _∙_, ap}
+use mathlib.Core.Bool.{Bool, true, false}
+use mathlib.Core.List.{List, [], _∷_, _++_, map, map-map, List·Memᴰ, List·Memᴰ·head, List·Memᴰ·tail, List·Permᴰ, List·Permᴰ·nil}
+use mathlib.Core.List.{List·Permᴰ·cons, List·Permᴰ·swap, List·Permᴰ·trans}
+use mathlib.Core.Option.{Option, none, some, Option·none-ne-some}
+use native.Mathlib.Nat.{suc-mul}
+use native.Mathlib.Omega.{arith}
+use lib.Dec.{T, leb, leb→le}
+use lib.ListN.{length, length-append, length-map}
+use Rattle.higman.specs.Words.{Shape, Word, isWord}
+use Rattle.higman.specs.Bases.{all}
+use Rattle.higman.specs.Tables.{Pair, image}
+use Rattle.higman.specs.Limits.{Plan, Kept, maxPairs, maxDigits, maxCode, slotCount, fits, pairFits, granted, isCode}
+use Rattle.higman.specs.Text.{Bytes, wordBytes, decimal, lineEnd}
+use Rattle.higman.specs.Answers.{Route, Image, TooShort, NotRouted, BadCode, routed}
+use Rattle.higman.specs.Refusals.{Letter}
+use Rattle.higman.specs.Listing.{pairRecord, pairRecords, joinLines, closeRecord, listing}
+use Rattle.higman.proofs.Tests.{and-left, and-right, all-at}
+use Rattle.higman.proofs.Images.{row-of-image}
+use Rattle.higman.proofs.KeptPlans.{in-range}
+use Rattle.words.proofs.Runs.{word-size}
+use Rattle.desk.specs.Desk.{Desk, IsDesk}
+use Rattle.desk.specs.Replies.{Held, heldFrom, surveys}
+use Rattle.desk.specs.Bytes.{lineOf, okLine, noLine, columnField, heldFields, Order, replyBytes}
+use Rattle.desk.proofs.Surveys.{survey-exact}
+use Rattle.replies.specs.Lines.{HeldFits}
+use Rattle.replies.specs.Sizes.{maxReply, Rooms}
+use Rattle.replies.proofs.Lines.{decimal-size}
+
+-- lines one behind the other, each of at most k bytes
+lines-fit : {A : Type 0} (f : A → Bytes) (k : ℕ) (l : List A) → ((a : A) → List·Memᴰ a l → length (f a) ≤ k)
+    → length (joinLines (map f l)) ≤ length l * k
+lines-fit f k [] h = omega arith
+lines-fit f k (a ∷ l) h =
+    let first = h a (List·Memᴰ·head refl) in
+    let rest = lines-fit f k l (λ b m. h b (List·Memᴰ·tail m)) in
+    omega (arith, length-append (f a) (joinLines (map f l)), suc-mul (length l) k)
+
+-- "at most 128 pairs", "at most 16 digits"
+module _ (p : Plan) (k : Kept p) where
+  pub few-pairs : length (p .rows) ≤ maxPairs
+  unfolding granted
+  few-pairs = leb→le (length (p .rows)) maxPairs (and-left (leb (length (p .rows)) maxPairs) (all pairFits (p .rows)) (k .within))
+
+  words-fit : (q : Pair) → List·Memᴰ q (p .rows) → T (pairFits q)
+  unfolding granted
+  words-fit q m = all-at pairFits (p .rows) (and-right (leb (length (p .rows)) maxPairs) (all pairFits (p .rows)) (k .within)) q m
+
+module _ (q : Pair) (h : T (pairFits q)) where
+  from-fits : length (q .from) ≤ maxDigits
+  from-fits = leb→le (length (q .from)) maxDigits (and-left (fits (q .from)) (fits (q .to)) h)
+
+  to-fits : length (q .to) ≤ maxDigits
+  to-fits = leb→le (length (q .to)) maxDigits (and-right (fits (q .from)) (fits (q .to)) h)
+
+  record-fits : length (pairRecord q) ≤ 36
+  unfolding maxDigits
+  record-fits = simp (length-append, length-map) (omega (arith, from-fits, to-fits))
+
+pub listing-fits : (slot : ℕ) (p : Plan) → Kept p → length (listing slot p) ≤ maxReply
+unfolding maxReply maxPairs
+listing-fits slot p k =
+    let pairs = lines-fit pairRecord 36 (p .rows) (λ q m. record-fits q (words-fit p k q m)) in
+    omega (arith, few-pairs p k, length-append (joinLines (pairRecords (p .rows))) closeRecord)
+
+-- a route that gives an image was asked of a code, and gives the plan's
+abbrev imageIn : Route → Option Word
+imageIn (Image v) = some v
+imageIn TooShort = none
+imageIn (NotRouted r) = none
+
+image-of-code : (p : Plan) (code v : Word) → routed p code ≡ Image v → T (isCode (p .shape) code) × (image (p .rows) code ≡ some v)
+unfolding routed
+image-of-code p code v e = by-tests (isCode (p .shape) code) (image (p .rows) code) (ap imageIn e)
+  where
+    by-tests : (b : Bool) (o : Option Word)
+        → imageIn (elim b as (λ _. Route) [ true ↦ elim o [ some u ↦ Image u | none ↦ TooShort ] | false ↦ NotRouted BadCode ]) ≡ some v
+        → T b × (o ≡ some v)
+    by-tests false o h = absurd (Option·none-ne-some v h)
+    by-tests true none h = absurd (Option·none-ne-some v h)
+    by-tests true (some u) h = (tt, h)
+
+code-fits : (s : Shape) (code : Word) → T (isCode s code) → length code ≤ maxCode
+unfolding isCode
+code-fits s code h = leb→le (length code) maxCode (and-right (isWord s code) (leb (length code) maxCode) h)
+
+-- the to-word and the rest of the code: "its image may have more and isn't refused for it"
+pub image-fits : (p : Plan) (code v : Word) → Kept p → routed p code ≡ Image v → length (wordBytes v) + 4 ≤ maxReply
+unfolding maxReply maxDigits maxCode
+image-fits p code v k e =
+    let (c, i) = image-of-code p code v e in
+    let (q, x, m, from, to) = row-of-image (p .rows) code v i in
+    let head = to-fits q (words-fit p k q m) in
+    let whole : length code ≡ length (q .from) + length x = ap length from ∙ length-append (q .from) x in
+    let sent : length v ≡ length (q .to) + length x = ap length to ∙ length-append (q .to) x in
+    omega (arith, word-size v, code-fits (p .shape) code c)
+
+pub rooms : Rooms maxReply
+unfolding maxReply slotCount
+rooms = record { ok = omega arith; ok-number = omega arith; no = omega arith; no-column = omega arith; survey = omega arith }
+
+-- the lines that hold numbers
+pub ok-number-size : (k : ℕ) → k < 10 ^ 10 → length (okLine (decimal k ∷ [])) ≤ 14
+ok-number-size k h = omega (arith, decimal-size 9 k h, length-append (decimal k) (lineEnd ∷ []))
+
+pub no-size : (n : ℕ) (c : Option Letter) → n < 10 ^ 3 → length (noLine (decimal n ∷ columnField c)) ≤ 9
+no-size n none h = omega (arith, decimal-size 2 n h, length-append (decimal n) (lineEnd ∷ []))
+no-size n (some c) h = simp length-append (omega (arith, decimal-size 2 n h))
+
+-- a kept plan is one that `held` may be asked for, where its line has room
+pub held-fits : (p : Plan) → Kept p → (at size : ℕ) → at + 10 ≤ size → HeldFits (p .shape .arity) (p .shape .roots) (length (p .rows)) at size
+held-fits p k at size h =
+    let shape = in-range (p .shape) (k .in-range) in
+    record { arity-digit = shape .arity-high; roots-digit = shape .roots-high; pairs-granted = few-pairs p k; room = h }
+
+pub held-size : (h : Held) → Kept (h .plan) → length (lineOf (heldFields h)) ≤ 10
+unfolding maxPairs
+held-size h k =
+    let p = h .plan in
+    let shape = in-range (p .shape) (k .in-range) in
+    let pairs = few-pairs p k in
+    let arity-digits = decimal-size 0 (p .shape .arity) (omega arith) in
+    let roots-digits = decimal-size 0 (p .shape .roots) (omega arith) in
+    let pairs-digits = decimal-size 2 (length (p .rows)) (omega arith) in
+    simp length-append (omega arith)
+
+-- the lines of a survey: their order doesn't matter, and there are no more than slots
+joined-size : {A : Type 0} (f : A → Bytes) {l m : List A} → List·Permᴰ l m → length (joinLines (map f l)) ≡ length (joinLines (map f m))
+joined-size f List·Permᴰ·nil = refl
+joined-size f (List·Permᴰ·cons {a = a} {b = b} {l₁ = l} {l₂ = m} e p) =
+    let heads = ap (λ x. length (f x)) e in
+    omega (arith, length-append (f a) (joinLines (map f l)), length-append (f b) (joinLines (map f m)), joined-size f p)
+joined-size f (List·Permᴰ·swap {a = a} {b = b} {a′ = c} {b′ = d} {l = l} e q) =
+    let rest = joinLines (map f l) in
+    let first = ap (λ x. length (f x)) e in
+    let second = ap (λ x. length (f x)) q in
+    let left = length-append (f a) (f b ++ rest) ∙ ap (λ n. length (f a) + n) (length-append (f b) rest) in
+    let right = length-append (f c) (f d ++ rest) ∙ ap (λ n. length (f c) + n) (length-append (f d) rest) in
+    omega arith
+joined-size f (List·Permᴰ·trans p q) = joined-size f p ∙ joined-size f q
+
+held-few : (i : ℕ) (l : List (Option Plan)) → length (heldFrom i l) ≤ length l
+held-few i [] = omega arith
+held-few i (none ∷ l) = omega (arith, held-few (suc i) l)
+held-few i (some p ∷ l) = omega (arith, held-few (suc i) l)
+
+pub survey-size : (order : Order) (d : Desk) → IsDesk d
+    → length (replyBytes order (surveys (heldFrom 0 (d .slots)))) ≤ slotCount * 10 + 14
+unfolding slotCount
+survey-size order d D =
+    let hs = heldFrom 0 (d .slots) in
+    let few : length hs ≤ 8 = omega (arith, held-few 0 (d .slots), D .eight) in
+    let s = survey-exact .replied order hs in
+    let count = okLine (decimal (length hs) ∷ []) in
+    let whole = ap length (s .reply) ∙ length-append (joinLines (map lineOf (s .lines))) count in
+    let lines = joined-size lineOf (s .each-once) ∙ ap (λ x. length (joinLines x)) (map-map lineOf heldFields hs) in
+    let kept : (h : Held) → List·Memᴰ h hs → Kept (h .plan) =
+    λ h m. D .kept (h .slot) (h .plan) (survey-exact .held-listed d (h .slot) (h .plan) .1 m) in
+    let each = lines-fit (λ h. lineOf (heldFields h)) 10 hs (λ h m. held-size h (kept h m)) in
+    omega (arith, ok-number-size (length hs) (omega arith))
