@@ -9,36 +9,11 @@ ghost use mathlib.Core.Path.{_≡_};
 ghost use Prim.Native.Nat.{_≤_};
 ghost use lib.ListN.{length};
 ghost use Rattle.higman.specs.Bases.{all};
-ghost use Rattle.higman.specs.Limits.{shapeInRange, isPlanWord};
+ghost use Rattle.higman.specs.Limits.{isPlanWord};
 ghost use Rattle.words.specs.Bytes.{shape};
 ghost use Rattle.columns.specs.Packed.{wordsOf};
 ghost use Rattle.operations.specs.Plans.{zeros, isColumn, isDraft};
 ghost use Rattle.plans.specs.Answers.{judgementBy, judged};
-
-// The ways at a switch and the belts of a shape: `shapeInRange` of higman's Limits.antt.
-const MIN_ARITY: u8 = 2;
-
-const MAX_ARITY: u8 = 9;
-
-const MIN_ROOTS: u8 = 1;
-
-const MAX_ROOTS: u8 = 9;
-
-// Whether a shape has 2 to 9 ways at a switch and 1 to 9 belts.
-fn shape_in_range(arity: u8, roots: u8) -> bool
-    ensures { λ r. ⌜ r ≡ shapeInRange (shape arity roots) ⌝ }
-{
-    if arity < MIN_ARITY {
-        return false;
-    }
-    if MAX_ARITY < arity {
-        return false;
-    }
-    if roots < MIN_ROOTS {
-        return false;
-    }
-    roots <= MAX_ROOTS
-}
 
 // Whether each number of a column holds a word that a plan of the shape may hold.
 fn are_words(column: &[u64], arity: u8, roots: u8) -> bool
@@ -89,7 +64,7 @@ pub fn is_draft(p: Plan) -> bool
     if MAX_PAIRS < n {
         return false;
     }
-    if !shape_in_range(p.arity, p.roots) {
+    if !operations::shapes::in_range(p.arity, p.roots) {
         return false;
     }
     if !is_column(&from, n, p.arity, p.roots) {

@@ -24,7 +24,7 @@ returns-2 c =
     let call = c .before in
     let start = call .before .before .before .before in
     let p = start .args .p in
-    let fails = sym (call .shape-in-range .ensures) ∙ not-true (call .shape-in-range .result) (c .if2 .taken) in
+    let fails = sym (call .in-range .ensures) ∙ not-true (call .in-range .result) (c .if2 .taken) in
     sym (no-draft p (columns-even p _ (start .good .0)) (λ d. clash (so (shapeInRange (shapeOf p)) (d .in-range)) fails))
 
 is-column-requires : tie.Need-is-column-requires
@@ -53,7 +53,7 @@ returns-4 c =
     let shape-check = from-check .before .before .before in
     let start = shape-check .before .before .before .before in
     let p = start .args .p in
-    let in-range = sym (shape-check .shape-in-range .ensures) ∙ not-false (shape-check .shape-in-range .result) (from-check .before .before .if2 .left) in
+    let in-range = sym (shape-check .in-range .ensures) ∙ not-false (shape-check .in-range .result) (from-check .before .before .if2 .left) in
     let from-passes = sym (from-check .is-column .ensures) ∙ not-false (from-check .is-column .result) (c .before .before .if3 .left) in
     to-check .ensures ∙ draft-by-to p (columns-even p _ (start .good .0)) (T-of in-range) (shape-check .before .if1 .left) (T-of from-passes)
 
