@@ -1,0 +1,4 @@
+-- The laws of the desk in code, each file after those it leans on; the proofs of the functions cite them, and so may other crates.
+pub mod Windows
+pub mod Held
+pub mod Steps

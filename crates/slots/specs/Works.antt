@@ -1,0 +1,102 @@
+-- What a record does to a head and its columns, and its reply: `operation` of desk's Replies.antt, through the desk that they hold. The
+-- reply is told by a value, and written later, but for an image, a listing and a survey, which are written where they are found.
+use Prim.Native.Nat.{ℕ, _<_}
+use mathlib.Core.Path.{_≡_}
+use mathlib.Core.Bool.{true, false}
+use mathlib.Core.List.{List, []}
+use mathlib.Core.Option.{none, some}
+use lib.ListN.{length}
+use Rattle.higman.specs.Limits.{Plan, Kept, slotCount}
+use Rattle.higman.specs.Answers.{Answer, Granted}
+use Rattle.higman.specs.Text.{Bytes}
+use Rattle.higman.specs.Refusals.{letterByte}
+use Rattle.higman.specs.Buffers.{written}
+use Rattle.desk.specs.Desk.{Desk}
+use Rattle.desk.specs.Records.{Record, slotsNamed, isChange}
+use Rattle.desk.specs.Replies.{Reply as ReplyOf, silent, ok, okNumber, okWord, lists, surveys, refuses, Outcome, refuse, pass, Effect, operation}
+use Rattle.desk.specs.Replies.{_>>=_, openAmiss, outside, job, ofAnswer, keepIn}
+use Rattle.desk.specs.Bytes.{Order, byLetter, replyBytes}
+use Rattle.operations.specs.declared.Making.{Making}
+use Rattle.operations.specs.Answers.{making}
+use Rattle.slots.specs.declared.Head.{Head}
+use Rattle.slots.specs.declared.Reply.{Reply}
+use Rattle.slots.specs.declared.Reply.the-variants.{Silent, Ok, Number, Written, Refused, RefusedIn}
+use Rattle.slots.specs.declared.Work.{Work}
+use Rattle.slots.specs.Desks.{deskOf, HoldsDesk}
+
+-- The order in which the code writes U's lines. The paper leaves it open: no promise to a user says more of it than that it is one.
+unfoldable pub deskOrder : Order
+deskOrder = byLetter
+
+-- the bytes of a reply that a work writes itself
+abbrev pub direct : ReplyOf → Bytes
+direct silent = []
+direct ok = []
+direct (okNumber n) = []
+direct (okWord w) = replyBytes deskOrder (okWord w)
+direct (lists slot p) = replyBytes deskOrder (lists slot p)
+direct (surveys hs) = replyBytes deskOrder (surveys hs)
+direct (refuses n c) = []
+
+-- the value by which a reply is told
+abbrev pub told : ReplyOf → Reply
+told silent = Silent
+told ok = Ok
+told (okNumber n) = Number n
+told (okWord w) = Written (length (direct (okWord w)))
+told (lists slot p) = Written (length (direct (lists slot p)))
+told (surveys hs) = Written (length (direct (surveys hs)))
+told (refuses n none) = Refused n
+told (refuses n (some c)) = RefusedIn n (letterByte c)
+
+-- a record that is refused
+abbrev pub refusing : Head → ℕ → Work
+refusing h n = record { head = h; reply = Refused n }
+
+-- what comes of an operation before a refusal has dropped the open plan
+abbrev pub deskAfter : Desk → Outcome Effect → Desk
+deskAfter d (refuse n c) = d
+deskAfter d (pass e) = e .0
+
+abbrev pub replyTo : Outcome Effect → ReplyOf
+replyTo (refuse n c) = refuses n c
+replyTo (pass e) = e .1
+
+-- A work well done on a head and its columns, with a buffer for its output.
+pub record Done (r : Record) (h : Head) (columns out : List ℕ) (w : Work) (columns′ out′ : List ℕ) : Type 0 where
+  pub holds : HoldsDesk (w .head) columns′
+  pub desk : deskOf (w .head) columns′ ≡ deskAfter (deskOf h columns) (operation (deskOf h columns) r)
+  pub reply : w .reply ≡ told (replyTo (operation (deskOf h columns) r))
+  pub output : out′ ≡ written out 0 (direct (replyTo (operation (deskOf h columns) r)))
+
+-- a work that only the head is needed for: it is well done whatever the columns are, and leaves them and the output as they are
+abbrev pub DoneByHead : Record → Head → Work → Type 0
+DoneByHead r h w = (columns out : List ℕ) → HoldsDesk h columns → Done r h columns out w columns out
+
+-- a work that writes no output
+abbrev pub DoneSilently : Record → Head → List ℕ → Work → List ℕ → Type 0
+DoneSilently r h columns w columns′ = (out : List ℕ) → Done r h columns out w columns′ out
+
+-- an answer about plans, and the value that tells it
+pub record Makes (made : Making) (answer : Answer) : Type 0 where
+  pub tells : made ≡ making answer
+  pub kept : (p : Plan) → answer ≡ Granted p → Kept p
+
+-- a record whose job is to keep an answer in a slot, behind the tests that all records have in common
+pub record ToKeep (r : Record) (d : Desk) (i : ℕ) (answer : Answer) : Type 0 where
+  pub fits : openAmiss d r ≡ false
+  pub named : outside (slotsNamed r) ≡ false
+  pub changes : isChange r ≡ true
+  pub keeps : job d r ≡ (ofAnswer answer >>= λ p. pass (keepIn d i p))
+
+-- what may be kept in a slot of a desk
+pub record Keepable (h : Head) (columns : List ℕ) (i : ℕ) (made : Making) : Type 0 where
+  pub holds : HoldsDesk h columns
+  pub slot : i < slotCount
+  pub answer : Answer
+  pub makes : Makes made answer
+
+-- whatever record asks for it
+abbrev pub DoneKeeping : Head → ℕ → Making → List ℕ → Work → List ℕ → Type 0
+DoneKeeping h i made columns w columns′ =
+    (r : Record) (answer : Answer) → Makes made answer → ToKeep r (deskOf h columns) i answer → DoneSilently r h columns w columns′
