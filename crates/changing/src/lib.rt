@@ -1,0 +1,179 @@
+// The records that keep a plan or empty a slot (document 01, "Records"): "E, F, I, K and C raise the count by one", and each of them is
+// refused where the count is at its limit. "Operands are read before c is written, so letters may repeat."
+ghost use mathlib.Core.Path.{_≡_};
+ghost use Prim.Native.Nat.{_<_};
+ghost use Rattle.desk.specs.Limits.{maxChanges};
+ghost use Rattle.desk.specs.Records.{F, I, K, C};
+ghost use Rattle.slots.specs.Blocks.{InColumns, put, filledHead};
+ghost use Rattle.slots.specs.Desks.{HoldsDesk};
+ghost use Rattle.slots.specs.Works.{Keepable, DoneKeeping, DoneSilently};
+use operations::Answer;
+use operations::Making;
+use operations::Plan;
+use operations::answers;
+use operations::following;
+use operations::listing;
+use slots::Head;
+use slots::Reply;
+use slots::Size;
+use slots::Work;
+use slots::blocks;
+use slots::numbers;
+
+// The most changes that are counted: `maxChanges` of desk's Limits.antt.
+const MAX_CHANGES: u32 = 4_000_000_000;
+
+// A plan, or no plan, put into a slot: one change.
+fn fill(head: Head, columns: &mut [u64], i: usize, plan: Plan) -> Head
+    requires { ⌜ InColumns i (now columns) ⌝ }
+    requires { ⌜ head .changes < maxChanges ⌝ }
+    ensures { λ r. ⌜ r ≡ filledHead head i plan ⌝ }
+    ensures { λ _. ⌜ now (columns .exit) ≡ put (now (columns .entry)) i plan ⌝ }
+{
+    blocks::put(columns, i, plan);
+    let mut h = head;
+    h.sizes[i] = Size {
+        arity: plan.arity,
+        roots: plan.roots,
+        pairs: plan.pairs,
+    };
+    h.is_open = false;
+    h.changes = head.changes + 1;
+    h
+}
+
+// What was made is kept in a slot, or refused with its own number, or with 16.
+fn keep(head: Head, columns: &mut [u64], i: usize, made: Making) -> Work
+    requires { ⌜ Keepable head (now columns) i made ⌝ }
+    ensures { λ r. ⌜ DoneKeeping head i made (now (columns .entry)) r (now (columns .exit)) ⌝ }
+{
+    let answer = made.answer;
+    match answer {
+        Answer::Refused(number) => slots::refused(head, number),
+        Answer::Granted => {
+            if MAX_CHANGES <= head.changes {
+                return slots::refused(head, numbers::COUNT_FULL);
+            }
+            let plan = made.plan;
+            let h = fill(head, columns, i, plan);
+            Work {
+                head: h,
+                reply: Reply::Number(plan.pairs as u32),
+            }
+        }
+    }
+}
+
+// F: 2, 8, 9, 10, 11, 16.
+pub fn follow(head: Head, columns: &mut [u64], a: u8, b: u8, c: u8) -> Work
+    requires { ⌜ HoldsDesk head (now columns) ⌝ }
+    ensures { λ r. ⌜ DoneSilently (F a b c) head (now (columns .entry)) r (now (columns .exit)) ⌝ }
+{
+    if head.is_open {
+        return slots::refused(head, numbers::WRONG_STATE);
+    }
+    if !listing::is_slot(a) {
+        return slots::refused(head, operations::numbers::SLOT_OUTSIDE);
+    }
+    if !listing::is_slot(b) {
+        return slots::refused(head, operations::numbers::SLOT_OUTSIDE);
+    }
+    if !listing::is_slot(c) {
+        return slots::refused(head, operations::numbers::SLOT_OUTSIDE);
+    }
+    let first = blocks::value(head, columns, slots::slot_number(a));
+    if first.pairs == 0 {
+        return slots::refused(head, numbers::SLOT_EMPTY);
+    }
+    let second = blocks::value(head, columns, slots::slot_number(b));
+    if second.pairs == 0 {
+        return slots::refused(head, numbers::SLOT_EMPTY);
+    }
+    keep(
+        head,
+        columns,
+        slots::slot_number(c),
+        following::compose(first, second),
+    )
+}
+
+// I: 2, 8, 9, 16.
+pub fn invert(head: Head, columns: &mut [u64], a: u8, c: u8) -> Work
+    requires { ⌜ HoldsDesk head (now columns) ⌝ }
+    ensures { λ r. ⌜ DoneSilently (I a c) head (now (columns .entry)) r (now (columns .exit)) ⌝ }
+{
+    if head.is_open {
+        return slots::refused(head, numbers::WRONG_STATE);
+    }
+    if !listing::is_slot(a) {
+        return slots::refused(head, operations::numbers::SLOT_OUTSIDE);
+    }
+    if !listing::is_slot(c) {
+        return slots::refused(head, operations::numbers::SLOT_OUTSIDE);
+    }
+    let plan = blocks::value(head, columns, slots::slot_number(a));
+    if plan.pairs == 0 {
+        return slots::refused(head, numbers::SLOT_EMPTY);
+    }
+    keep(
+        head,
+        columns,
+        slots::slot_number(c),
+        following::inverse(plan),
+    )
+}
+
+// K: 2, 8, 12, 9, 11, 16.
+pub fn power(head: Head, columns: &mut [u64], a: u8, k: i32, c: u8) -> Work
+    requires { ⌜ HoldsDesk head (now columns) ⌝ }
+    ensures { λ r. ⌜ DoneSilently (K a k c) head (now (columns .entry)) r (now (columns .exit)) ⌝ }
+{
+    if head.is_open {
+        return slots::refused(head, numbers::WRONG_STATE);
+    }
+    if !listing::is_slot(a) {
+        return slots::refused(head, operations::numbers::SLOT_OUTSIDE);
+    }
+    if !listing::is_slot(c) {
+        return slots::refused(head, operations::numbers::SLOT_OUTSIDE);
+    }
+    if !following::is_power(k) {
+        return slots::refused(head, operations::numbers::POWER_OUTSIDE);
+    }
+    let plan = blocks::value(head, columns, slots::slot_number(a));
+    if plan.pairs == 0 {
+        return slots::refused(head, numbers::SLOT_EMPTY);
+    }
+    keep(
+        head,
+        columns,
+        slots::slot_number(c),
+        following::power(plan, k),
+    )
+}
+
+// C: 2, 8, 9, 16.
+pub fn empty(head: Head, columns: &mut [u64], a: u8) -> Work
+    requires { ⌜ HoldsDesk head (now columns) ⌝ }
+    ensures { λ r. ⌜ DoneSilently (C a) head (now (columns .entry)) r (now (columns .exit)) ⌝ }
+{
+    if head.is_open {
+        return slots::refused(head, numbers::WRONG_STATE);
+    }
+    if !listing::is_slot(a) {
+        return slots::refused(head, operations::numbers::SLOT_OUTSIDE);
+    }
+    let i = slots::slot_number(a);
+    let size = head.sizes[i];
+    if size.pairs == 0 {
+        return slots::refused(head, numbers::SLOT_EMPTY);
+    }
+    if MAX_CHANGES <= head.changes {
+        return slots::refused(head, numbers::COUNT_FULL);
+    }
+    let h = fill(head, columns, i, answers::blank());
+    Work {
+        head: h,
+        reply: Reply::Ok,
+    }
+}
