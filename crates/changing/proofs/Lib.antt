@@ -2,3 +2,4 @@
 pub mod Keeping
 pub mod Operands
 pub mod Emptying
+pub mod Drafts

@@ -3,16 +3,21 @@
 ghost use mathlib.Core.Path.{_≡_};
 ghost use Prim.Native.Nat.{_<_};
 ghost use Rattle.desk.specs.Limits.{maxChanges};
-ghost use Rattle.desk.specs.Records.{F, I, K, C};
+ghost use Rattle.desk.specs.Records.{E, F, I, K, C};
 ghost use Rattle.slots.specs.Blocks.{InColumns, put, filledHead};
 ghost use Rattle.slots.specs.Desks.{HoldsDesk};
 ghost use Rattle.slots.specs.Works.{Keepable, DoneKeeping, DoneSilently};
+ghost use Rattle.changing.specs.Faults.{faultyIn};
 use operations::Answer;
 use operations::Making;
 use operations::Plan;
+use operations::Reason;
+use operations::Verdict;
 use operations::answers;
+use operations::closing;
 use operations::following;
 use operations::listing;
+use slots::DRAFT;
 use slots::Head;
 use slots::Reply;
 use slots::Size;
@@ -60,6 +65,46 @@ fn keep(head: Head, columns: &mut [u64], i: usize, made: Making) -> Work
                 head: h,
                 reply: Reply::Number(plan.pairs as u32),
             }
+        }
+    }
+}
+
+// A column that is no basis: its number, "⇥F or ⇥T".
+fn faulty(head: Head, reason: Reason, letter: u8) -> Work
+    ensures { λ r. ⌜ r ≡ faultyIn head reason letter ⌝ }
+{
+    match reason {
+        Reason::Overlap => Work {
+            head: head,
+            reply: Reply::RefusedIn(operations::numbers::WORDS_OVERLAP, letter),
+        },
+        Reason::Gap => Work {
+            head: head,
+            reply: Reply::RefusedIn(operations::numbers::ROOT_UNCOVERED, letter),
+        },
+    }
+}
+
+// E: 2, 6 and 7 of the from column, 6 and 7 of the to column, 16.
+pub fn close(head: Head, columns: &mut [u64]) -> Work
+    requires { ⌜ HoldsDesk head (now columns) ⌝ }
+    ensures { λ r. ⌜ DoneSilently E head (now (columns .entry)) r (now (columns .exit)) ⌝ }
+{
+    if !head.is_open {
+        return slots::refused(head, numbers::WRONG_STATE);
+    }
+    let draft = blocks::value(head, columns, DRAFT);
+    let from = draft.from;
+    let to = draft.to;
+    let closed = closing::close(from, to, draft.pairs, draft.arity, draft.roots);
+    let verdict = closed.verdict;
+    match verdict {
+        Verdict::InFrom(reason) => faulty(head, reason, b'F'),
+        Verdict::InTo(reason) => faulty(head, reason, b'T'),
+        Verdict::Accepted => {
+            let plan = closed.plan;
+            let made = answers::granted(plan);
+            keep(head, columns, head.slot, made)
         }
     }
 }

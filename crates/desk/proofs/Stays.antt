@@ -142,7 +142,7 @@ none-kept p q = absurd (Option·none-ne-some p q)
 some-kept : (r : Plan) → Kept r → (p : Plan) → some r ≡ some p → Kept p
 some-kept r k p q = subst Kept (Option·some-injective r p q) k
 
-closed-kept : (o : Draft) → IsDraft o → verdict (o .shape) (o .rows) ≡ Accepted → Kept (closed o)
+pub closed-kept : (o : Draft) → IsDraft o → verdict (o .shape) (o .rows) ≡ Accepted → Kept (closed o)
 closed-kept o h e = answers-exact .keeps (o .shape) (h .in-range) (o .rows) (answers-exact .accepted (o .shape) (arity-of-range (o .shape) (h .in-range)) (o .rows) (h .from-words) (h .to-words) .0 e) (h .within)
 
 -- a slot that a record names is one of the eight

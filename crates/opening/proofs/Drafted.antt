@@ -196,19 +196,3 @@ module _ (s : Shape) (code : Bytes) where
   read-unpacked x q =
       let (h, e) = spelled-word s code (isPlanWord s (wordOf code)) refl x q in
       ap unpack (sym e) ∙ unpack-spelled s code (so (isWord s (wordOf code)) (word-of-plan-word s (wordOf code) (T-of h)))
-
--- the open plan of a desk in code, and how many pairs it has
-pub draft-open : (h : Head) (columns : List ℕ) → h .is_open ≡ true
-    → deskOf h columns .draft ≡ some (draftIn (h .slot) (valueAt h columns draftBlock))
-unfolding deskOf
-draft-open h columns e = ap (λ b. elim b [ true ↦ some (draftIn (h .slot) (valueAt h columns draftBlock)) | false ↦ none ]) e
-
-pub draft-length : (h : Head) (columns : List ℕ) → HoldsDesk h columns
-    → length (draftIn (h .slot) (valueAt h columns draftBlock) .rows) ≡ sizeAt h draftBlock .pairs
-unfolding valueAt
-draft-length h columns H =
-    let from = drop (fromPlace draftBlock) columns in
-    let to = drop (toPlace draftBlock) columns in
-    let from-long : length (take maxPairs from) ≡ maxPairs = length-take-le maxPairs from (omega (arith, pair-limit, length-drop 2048 columns, H .sized)) in
-    let to-long : length (take maxPairs to) ≡ maxPairs = length-take-le maxPairs to (omega (arith, pair-limit, length-drop 2176 columns, H .sized)) in
-    rows-length (sizeAt h draftBlock .pairs) (take maxPairs from) (take maxPairs to) (omega (arith, H .few)) (omega (arith, H .few))

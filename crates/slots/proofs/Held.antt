@@ -8,8 +8,8 @@ use native.Mathlib.Nat.{not-suc-le-zero, le-of-suc-le-suc}
 use native.Mathlib.Omega.{arith}
 use borrow.Author.Tests.{eq-eqb, ne-eqb, eqb-true, eqb-false, ltb-true, ltb-false}
 use lib.Dec.{T, eqb, ltb}
-use lib.ListN.{length, getD, set, take, drop, length-set}
-use lib.Seq.{getD-set-same, getD-set-other}
+use lib.ListN.{length, getD, set, take, drop, length-set, length-drop}
+use lib.Seq.{getD-set-same, getD-set-other, length-take-le}
 use Rattle.higman.specs.Words.{count, given}
 use Rattle.higman.specs.Limits.{Plan as PlanOf, Kept, maxPairs, slotCount}
 use Rattle.higman.specs.Answers.{isKept}
@@ -17,12 +17,13 @@ use Rattle.higman.proofs.Statements.{answers-exact}
 use Rattle.higman.proofs.Tests.{so, and-intro}
 use Rattle.desk.specs.Desk.{Desk, IsDesk, held, changed}
 use Rattle.desk.specs.Replies.{isOpen}
+use Rattle.columns.proofs.Rows.{rows-length}
 use Rattle.operations.specs.declared.Plan.{Plan}
 use Rattle.operations.specs.Plans.{planOf, inTable, isPlan}
 use Rattle.slots.specs.declared.Size.{Size}
 use Rattle.slots.specs.declared.Head.{Head}
 use Rattle.slots.specs.Blocks.{InColumns, noSize, sizeAt, fromPlace, toPlace, valueAt, put, sizeOf, filledHead}
-use Rattle.slots.specs.Desks.{draftBlock, heldBy, slotAt, slotsOf, deskOf, HoldsDesk}
+use Rattle.slots.specs.Desks.{draftBlock, heldBy, slotAt, draftIn, deskOf, HoldsDesk}
 use Rattle.slots.proofs.Windows.{pair-limit, put-length, put-from, put-to, put-before, put-behind}
 
 pub slots-eight : slotCount ≡ 8
@@ -167,3 +168,26 @@ module _ (h : Head) (columns : List ℕ) where
           by-slot : (j : ℕ) → j < slotCount → (b : Bool) → eqb j i ≡ b → T (inTable (valueAt head′ columns′ j))
           by-slot j b true e = subst (λ x. T (inTable (valueAt head′ columns′ x))) (sym (eqb-true j i e)) (subst (λ v. T (inTable v)) (sym value-same) t)
           by-slot j b false e = subst (λ v. T (inTable v)) (sym (value-other j (eqb-false j i e))) (H .in-tables j b)
+
+-- the open plan, and the two columns of its block
+pub draft-open : (h : Head) (columns : List ℕ) → h .is_open ≡ true
+    → deskOf h columns .draft ≡ some (draftIn (h .slot) (valueAt h columns draftBlock))
+unfolding deskOf
+draft-open h columns e = ap (λ b. elim b [ true ↦ some (draftIn (h .slot) (valueAt h columns draftBlock)) | false ↦ none ]) e
+
+module _ (h : Head) (columns : List ℕ) (H : HoldsDesk h columns) where
+  pub draft-from : length (valueAt h columns draftBlock .from) ≡ maxPairs
+  unfolding valueAt
+  draft-from =
+      length-take-le maxPairs (drop (fromPlace draftBlock) columns) (omega (arith, pair-limit, length-drop (fromPlace draftBlock) columns, H .sized))
+
+  pub draft-to : length (valueAt h columns draftBlock .to) ≡ maxPairs
+  unfolding valueAt
+  draft-to =
+      length-take-le maxPairs (drop (toPlace draftBlock) columns) (omega (arith, pair-limit, length-drop (toPlace draftBlock) columns, H .sized))
+
+  pub draft-length : length (draftIn (h .slot) (valueAt h columns draftBlock) .rows) ≡ sizeAt h draftBlock .pairs
+  unfolding valueAt
+  draft-length =
+      let v = valueAt h columns draftBlock in
+      rows-length (sizeAt h draftBlock .pairs) (v .from) (v .to) (omega (arith, H .few, draft-from)) (omega (arith, H .few, draft-to))

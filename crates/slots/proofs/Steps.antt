@@ -24,7 +24,7 @@ use Rattle.slots.specs.declared.Head.{Head}
 use Rattle.slots.specs.declared.Work.{Work}
 use Rattle.slots.specs.Blocks.{blockCount, columnsSize, sizeAt, valueAt}
 use Rattle.slots.specs.Desks.{draftBlock, deskOf, HoldsDesk}
-use Rattle.slots.specs.Works.{refusing, direct, told, replyTo, deskAfter, Done}
+use Rattle.slots.specs.Works.{refusing, refusingIn, direct, told, replyTo, deskAfter, Done}
 use Rattle.slots.proofs.Held.{open-is}
 
 module _ (d : Desk) (r : Record) where
@@ -80,6 +80,19 @@ module _ (h : Head) (columns : List ℕ) (H : HoldsDesk h columns) (r : Record) 
         desk = ap (deskAfter d) (sym e);
         reply = ap (λ o. told (replyTo o)) (sym e);
         output = ap (λ o. written out 0 (direct (replyTo o))) (sym e);
+      })
+
+  -- one that names a column
+  pub refused-column : openAmiss d r ≡ false → outside (slotsNamed r) ≡ false → (n : ℕ) (c : Letter) → job d r ≡ refuse n (some c) → (w : Work)
+      → w ≡ refusingIn h n c → Done r h columns out w columns out
+  refused-column o s n c j w q =
+      let e = at-job d r o s n (some c) j in
+      subst (λ x. Done r h columns out x columns out) (sym q)
+      (record {
+        holds = H;
+        desk = ap (deskAfter d) (sym e);
+        reply = ap (λ z. told (replyTo z)) (sym e);
+        output = ap (λ z. written out 0 (direct (replyTo z))) (sym e);
       })
 
   -- the tests that all records have in common, by the head

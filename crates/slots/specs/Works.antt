@@ -9,7 +9,7 @@ use lib.ListN.{length}
 use Rattle.higman.specs.Limits.{Plan, Kept, slotCount}
 use Rattle.higman.specs.Answers.{Answer, Granted}
 use Rattle.higman.specs.Text.{Bytes}
-use Rattle.higman.specs.Refusals.{letterByte}
+use Rattle.higman.specs.Refusals.{Letter, letterByte}
 use Rattle.higman.specs.Buffers.{written}
 use Rattle.desk.specs.Desk.{Desk}
 use Rattle.desk.specs.Records.{Record, slotsNamed, isChange}
@@ -52,6 +52,10 @@ told (refuses n (some c)) = RefusedIn n (letterByte c)
 -- a record that is refused
 abbrev pub refusing : Head → ℕ → Work
 refusing h n = record { head = h; reply = Refused n }
+
+-- the same for a column
+abbrev pub refusingIn : Head → ℕ → Letter → Work
+refusingIn h n c = record { head = h; reply = RefusedIn n (letterByte c) }
 
 -- what comes of an operation before a refusal has dropped the open plan
 abbrev pub deskAfter : Desk → Outcome Effect → Desk

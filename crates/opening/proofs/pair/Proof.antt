@@ -24,8 +24,9 @@ use Rattle.slots.specs.Blocks.{sizeAt, valueAt}
 use Rattle.slots.specs.Desks.{draftBlock, draftIn, deskOf, HoldsDesk}
 use Rattle.slots.specs.Works.{Done}
 use Rattle.slots.proofs.Windows.{pair-limit}
+use Rattle.slots.proofs.Held.{draft-open, draft-length}
 use Rattle.slots.proofs.Steps.{amiss-open, refused-closed, refused-job, at-end, done-passed}
-use Rattle.opening.proofs.Drafted.{drafted, drafted-size, drafted-desk, holds-drafted, paired, paired-slots, draft-paired, draft-open, draft-length}
+use Rattle.opening.proofs.Drafted.{drafted, drafted-size, drafted-desk, holds-drafted, paired, paired-slots, draft-paired}
 use Rattle.opening.proofs.Drafted.{pair-bad, pair-full, pair-done, read-bad, read-word, read-unpacked}
 use Rattle.opening.proofs.pair.Statement.{statement}
 use Rattle.opening.proofs.pair.Tie as tie
