@@ -100,7 +100,8 @@ operation-pass d r e t j =
     test-passed true h = refl
     test-passed false h = absurd h
 
-abbrev NoRefusal : Reply → Type 0
+-- a reply that is no refusal
+abbrev pub NoRefusal : Reply → Type 0
 NoRefusal silent = Unit {0}
 NoRefusal ok = Unit {0}
 NoRefusal (okNumber n) = Unit {0}
@@ -109,7 +110,7 @@ NoRefusal (lists b p) = Unit {0}
 NoRefusal (surveys hs) = Unit {0}
 NoRefusal (refuses n c) = ⊥
 
-abbrev Answered : Effect → Type 0
+abbrev pub Answered : Effect → Type 0
 Answered e = NoRefusal (e .1)
 
 job-answers : (d : Desk) (r : Record) → Passes Answered (job d r)
@@ -127,7 +128,8 @@ job-answers d (C a) = any-then _ (λ _. passes tt)
 job-answers d Tᴿ = passes tt
 job-answers d U = passes tt
 
-line-answers : (d : Desk) (line : Bytes) → Passes Answered (lineOperation d line)
+-- only a refusal replies as one
+pub line-answers : (d : Desk) (line : Bytes) → Passes Answered (lineOperation d line)
 unfolding lineOperation
 line-answers d line = any-then _ (λ r. passes-operation d r (λ _. job-answers d r))
 

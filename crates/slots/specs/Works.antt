@@ -66,12 +66,17 @@ abbrev pub replyTo : Outcome Effect → ReplyOf
 replyTo (refuse n c) = refuses n c
 replyTo (pass e) = e .1
 
--- A work well done on a head and its columns, with a buffer for its output.
-pub record Done (r : Record) (h : Head) (columns out : List ℕ) (w : Work) (columns′ out′ : List ℕ) : Type 0 where
+-- A work well done: what comes of an operation on a desk is held by the head and columns that it leaves, told by its reply and, where the
+-- reply is written at once, at the front of the output.
+pub record DoneBy (d : Desk) (o : Outcome Effect) (out : List ℕ) (w : Work) (columns′ out′ : List ℕ) : Type 0 where
   pub holds : HoldsDesk (w .head) columns′
-  pub desk : deskOf (w .head) columns′ ≡ deskAfter (deskOf h columns) (operation (deskOf h columns) r)
-  pub reply : w .reply ≡ told (replyTo (operation (deskOf h columns) r))
-  pub output : out′ ≡ written out 0 (direct (replyTo (operation (deskOf h columns) r)))
+  pub desk : deskOf (w .head) columns′ ≡ deskAfter d o
+  pub reply : w .reply ≡ told (replyTo o)
+  pub output : out′ ≡ written out 0 (direct (replyTo o))
+
+-- the same for a record on the desk that a head and its columns hold
+abbrev pub Done : Record → Head → List ℕ → List ℕ → Work → List ℕ → List ℕ → Type 0
+Done r h columns out w columns′ out′ = DoneBy (deskOf h columns) (operation (deskOf h columns) r) out w columns′ out′
 
 -- a work that only the head is needed for: it is well done whatever the columns are, and leaves them and the output as they are
 abbrev pub DoneByHead : Record → Head → Work → Type 0

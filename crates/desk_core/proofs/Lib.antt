@@ -1,0 +1,2 @@
+-- The laws of lines and of input in pieces; the proofs of the functions cite them.
+pub mod Settled
