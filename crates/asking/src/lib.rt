@@ -1,11 +1,45 @@
 // The records that change nothing (document 01, "Records"): S compares, W routes, L lists, T counts and U surveys. What W, L and U reply is
 // written into the output where it is found.
-ghost use Rattle.desk.specs.Records.{T};
-ghost use Rattle.slots.specs.Works.{DoneByHead};
+ghost use Rattle.desk.specs.Records.{L, T};
+ghost use Rattle.slots.specs.Works.{Done, DoneByHead};
+ghost use Rattle.asking.specs.Asked.{Asked};
+use operations::Listed;
+use operations::MAX_PAIRS;
+use operations::listing;
+use slots::BLOCK;
 use slots::Head;
 use slots::Reply;
 use slots::Work;
+use slots::blocks;
 use slots::numbers;
+
+// L: 2, 8, 9.
+pub fn list(head: Head, columns: &[u64], a: u8, out: &mut [u8]) -> Work
+    requires { ⌜ Asked head (now columns) (now out) ⌝ }
+    ensures { λ r. ⌜ Done (L a) head (now (columns .entry)) (now (out .entry)) r (now (columns .entry)) (now (out .exit)) ⌝ }
+{
+    if head.is_open {
+        return slots::refused(head, numbers::WRONG_STATE);
+    }
+    if !listing::is_slot(a) {
+        return slots::refused(head, operations::numbers::SLOT_OUTSIDE);
+    }
+    let i = slots::slot_number(a);
+    let size = head.sizes[i];
+    let n = size.pairs;
+    if n == 0 {
+        return slots::refused(head, numbers::SLOT_EMPTY);
+    }
+    let from = blocks::part(columns, i * BLOCK, n);
+    let to = blocks::part(columns, i * BLOCK + MAX_PAIRS, n);
+    match listing::list(a, size.arity, size.roots, from, to, out) {
+        Listed::Bytes(used) => Work {
+            head: head,
+            reply: Reply::Written(used),
+        },
+        Listed::Refused(number) => slots::refused(head, number),
+    }
+}
 
 // T: 2.
 pub fn count(head: Head) -> Work
