@@ -4,19 +4,29 @@ use mathlib.Core.Path.{_≡_, refl, sym, _∙_, ap}
 use mathlib.Core.Bool.{Bool, true, false}
 use mathlib.Core.List.{List}
 use mathlib.Core.Option.{Option, none, some}
+use native.Mathlib.Omega.{arith}
 use borrow.Author.Tests.{le-leb}
 use lib.Dec.{leb}
 use lib.ListN.{length}
+use Rattle.higman.specs.Words.{Word}
 use Rattle.higman.specs.Limits.{Plan}
-use Rattle.higman.specs.Refusals.{slotEmpty, slotOutside, bufferTooShort}
+use Rattle.higman.specs.Text.{Bytes, wordBytes, wordOf}
+use Rattle.higman.specs.Answers as Of
+use Rattle.higman.specs.Answers.{routed}
+use Rattle.higman.specs.Refusals.{slotEmpty, slotOutside, codeTooShort, bufferTooShort}
 use Rattle.higman.specs.Listing.{isSlot, slotNumber, listing}
 use Rattle.higman.specs.Buffers.{written, lentInto}
 use Rattle.desk.specs.Desk.{Desk, held}
-use Rattle.desk.specs.Records.{L}
-use Rattle.desk.specs.Replies.{_>>=_, Outcome, refuse, pass, planIn, lists, job}
-use Rattle.operations.specs.declared.Listed.{Listed}
-use Rattle.operations.specs.declared.Listed.the-variants.{Bytes, Refused}
+use Rattle.desk.specs.Records.{W, L}
+use Rattle.desk.specs.Replies.{_>>=_, Outcome, refuse, pass, Effect, planIn, ofRoute, okWord, lists, job}
+use Rattle.operations.specs.declared.Listed.the-variants as Told
+use Rattle.operations.specs.declared.Route.the-variants.{Image, TooShort, Refused}
+use Rattle.operations.specs.Routing.{routingIn, imageInto}
 use Rattle.operations.specs.Listing.{listingIn, listingFor, listedFor}
+
+-- what W makes of a route
+abbrev pub replied : Desk → Of.Route → Outcome Effect
+replied d r = ofRoute r >>= λ v. pass (d, okWord v)
 
 module _ (d : Desk) (a : ℕ) where
   abbrev looked : Option Plan → Outcome Plan
@@ -37,17 +47,76 @@ module _ (d : Desk) (a : ℕ) where
   unfolding job _>>=_
   list-done p e = ap (λ o. o >>= λ q. pass (d, lists a q)) (plan-there p e)
 
+  -- W: 9, or what the route says
+  pub route-empty : (code : Bytes) → held d (slotNumber a) ≡ none → job d (W a code) ≡ refuse slotEmpty none
+  unfolding job _>>=_
+  route-empty code e = ap (λ o. o >>= λ p. replied d (routed p (wordOf code))) (plan-missing e)
+
+  pub route-done : (code : Bytes) (p : Plan) → held d (slotNumber a) ≡ some p → job d (W a code) ≡ replied d (routed p (wordOf code))
+  unfolding job _>>=_
+  route-done code p e = ap (λ o. o >>= λ q. replied d (routed q (wordOf code))) (plan-there p e)
+
 -- L's listing has room
 module _ (a : ℕ) (s : isSlot a ≡ true) (p : Plan) (out : List ℕ) (room : length (listing a p) ≤ length out) where
   fits : leb (length (listing a p)) (length out) ≡ true
   fits = le-leb (length (listing a p)) (length out) room
 
-  pub listing-told : listingFor a p (length out) ≡ Bytes (length (listing a p))
+  pub listing-told : listingFor a p (length out) ≡ Told.Bytes (length (listing a p))
   listing-told =
-      ap (λ b. elim b [ true ↦ listingIn (listing a p) (length out) | false ↦ Refused slotOutside ]) s
-      ∙ ap (λ b. elim b [ true ↦ Bytes (length (listing a p)) | false ↦ Refused bufferTooShort ]) fits
+      ap (λ b. elim b [ true ↦ listingIn (listing a p) (length out) | false ↦ Told.Refused slotOutside ]) s
+      ∙ ap (λ b. elim b [ true ↦ Told.Bytes (length (listing a p)) | false ↦ Told.Refused bufferTooShort ]) fits
 
   pub listing-written : listedFor a p out ≡ written out 0 (listing a p)
   listing-written =
       ap (λ b. elim b [ true ↦ lentInto (listing a p) out | false ↦ out ]) s
       ∙ ap (λ b. elim b [ true ↦ written out 0 (listing a p) | false ↦ out ]) fits
+
+-- A route that gave an image of so many bytes, and one that gave a refusal, with the buffer after each.
+pub record Sent (d : Desk) (r : Of.Route) (part : List ℕ) (n : ℕ) : Type 0 where
+  pub image : Word
+  pub is-image : r ≡ Of.Image image
+  pub size : n ≡ length (wordBytes image)
+  pub reply : replied d r ≡ pass (d, okWord image)
+  pub buffer : imageInto r part ≡ written part 0 (wordBytes image)
+
+pub record Stopped (d : Desk) (r : Of.Route) (part : List ℕ) (n : ℕ) : Type 0 where
+  pub reply : replied d r ≡ refuse n none
+  pub buffer : imageInto r part ≡ part
+
+-- W's image has room
+abbrev pub HasRoom : Of.Route → List ℕ → Type 0
+HasRoom r part = (v : Word) → r ≡ Of.Image v → length (wordBytes v) ≤ length part
+
+module _ (d : Desk) (part : List ℕ) where
+  image-told : (v : Word) → HasRoom (Of.Image v) part → routingIn (Of.Image v) (length part) ≡ Image (length (wordBytes v))
+  image-told v fits =
+      let size = length (wordBytes v) in
+      ap (λ b. elim b [ true ↦ Image size | false ↦ Refused bufferTooShort ]) (le-leb size (length part) (fits v refl))
+
+  pub route-sent : (r : Of.Route) → HasRoom r part → (n : ℕ) → routingIn r (length part) ≡ Image n → Sent d r part n
+  unfolding _>>=_
+  route-sent (Of.Image v) fits n q =
+      let size = length (wordBytes v) in
+      record {
+        image = v;
+        is-image = refl;
+        size = cc (image-told v fits);
+        reply = refl;
+        buffer = ap (λ b. elim b [ true ↦ written part 0 (wordBytes v) | false ↦ part ]) (le-leb size (length part) (fits v refl));
+      }
+  route-sent Of.TooShort fits n q = let z : _≡_ {A = ℕ} 0 1 = cc in absurd (omega arith)
+  route-sent (Of.NotRouted x) fits n q = let z : _≡_ {A = ℕ} 0 1 = cc in absurd (omega arith)
+
+  pub route-short : (r : Of.Route) → HasRoom r part → routingIn r (length part) ≡ TooShort → Stopped d r part codeTooShort
+  unfolding _>>=_
+  route-short (Of.Image v) fits q = let z : _≡_ {A = ℕ} 0 1 = cc (image-told v fits) in absurd (omega arith)
+  route-short Of.TooShort fits q = record { reply = refl; buffer = refl }
+  route-short (Of.NotRouted x) fits q = let z : _≡_ {A = ℕ} 0 1 = cc in absurd (omega arith)
+
+  pub route-refused : (r : Of.Route) → HasRoom r part → (n : ℕ) → routingIn r (length part) ≡ Refused n → Stopped d r part n
+  unfolding _>>=_
+  route-refused (Of.Image v) fits n q = let z : _≡_ {A = ℕ} 0 1 = cc (image-told v fits) in absurd (omega arith)
+  route-refused Of.TooShort fits n q = let z : _≡_ {A = ℕ} 0 1 = cc in absurd (omega arith)
+  route-refused (Of.NotRouted x) fits n q =
+      let number : Of.refusalNumber x ≡ n = cc in
+      record { reply = ap (λ k. refuse k none) number; buffer = refl }

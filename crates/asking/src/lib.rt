@@ -1,17 +1,54 @@
 // The records that change nothing (document 01, "Records"): S compares, W routes, L lists, T counts and U surveys. What W, L and U reply is
 // written into the output where it is found.
-ghost use Rattle.desk.specs.Records.{L, T};
+ghost use Rattle.desk.specs.Records.{W, L, T};
 ghost use Rattle.slots.specs.Works.{Done, DoneByHead};
 ghost use Rattle.asking.specs.Asked.{Asked};
 use operations::Listed;
 use operations::MAX_PAIRS;
+use operations::Route;
 use operations::listing;
+use operations::routing;
 use slots::BLOCK;
 use slots::Head;
 use slots::Reply;
 use slots::Work;
 use slots::blocks;
 use slots::numbers;
+
+// The bytes in front of W's image, `ok` and a tab: `imageAt` of replies' Lines.antt.
+const IMAGE_AT: usize = 3;
+
+// W: 2, 8, 9, 4, 13.
+pub fn route(head: Head, columns: &[u64], a: u8, code: &[u8], out: &mut [u8]) -> Work
+    requires { ⌜ Asked head (now columns) (now out) ⌝ }
+    ensures { λ r. ⌜ Done (W a (now (code .entry))) head (now (columns .entry)) (now (out .entry)) r (now (columns .entry)) (now (out .exit)) ⌝ }
+{
+    if head.is_open {
+        return slots::refused(head, numbers::WRONG_STATE);
+    }
+    if !listing::is_slot(a) {
+        return slots::refused(head, operations::numbers::SLOT_OUTSIDE);
+    }
+    let i = slots::slot_number(a);
+    let size = head.sizes[i];
+    let n = size.pairs;
+    if n == 0 {
+        return slots::refused(head, numbers::SLOT_EMPTY);
+    }
+    let from = blocks::part(columns, i * BLOCK, n);
+    let to = blocks::part(columns, i * BLOCK + MAX_PAIRS, n);
+    match routing::route(size.arity, size.roots, from, to, code, &mut out[IMAGE_AT..]) {
+        Route::Image(digits) => {
+            let used = replies::ok_image(digits, out);
+            Work {
+                head: head,
+                reply: Reply::Written(used),
+            }
+        }
+        Route::TooShort => slots::refused(head, operations::numbers::CODE_TOO_SHORT),
+        Route::Refused(number) => slots::refused(head, number),
+    }
+}
 
 // L: 2, 8, 9.
 pub fn list(head: Head, columns: &[u64], a: u8, out: &mut [u8]) -> Work
