@@ -6,27 +6,34 @@ use mathlib.Core.List.{List}
 use mathlib.Core.Option.{Option, none, some}
 use native.Mathlib.Omega.{arith}
 use borrow.Author.Tests.{le-leb}
+use mir.Val.{boolByte}
 use lib.Dec.{leb}
 use lib.ListN.{length}
 use Rattle.higman.specs.Words.{Word}
 use Rattle.higman.specs.Limits.{Plan}
 use Rattle.higman.specs.Text.{Bytes, wordBytes, wordOf}
 use Rattle.higman.specs.Answers as Of
-use Rattle.higman.specs.Answers.{routed}
+use Rattle.higman.specs.Answers.{same, routed}
 use Rattle.higman.specs.Refusals.{slotEmpty, slotOutside, codeTooShort, bufferTooShort}
 use Rattle.higman.specs.Listing.{isSlot, slotNumber, listing}
 use Rattle.higman.specs.Buffers.{written, lentInto}
 use Rattle.desk.specs.Desk.{Desk, held}
-use Rattle.desk.specs.Records.{W, L}
-use Rattle.desk.specs.Replies.{_>>=_, Outcome, refuse, pass, Effect, planIn, ofRoute, okWord, lists, job}
+use Rattle.desk.specs.Records.{S, W, L}
+use Rattle.desk.specs.Replies.{_>>=_, Outcome, refuse, pass, Effect, planIn, ofComparison, ofRoute, bit, okNumber, okWord, lists, job}
+use Rattle.operations.specs.declared.Likeness.the-variants as Like
 use Rattle.operations.specs.declared.Listed.the-variants as Told
 use Rattle.operations.specs.declared.Route.the-variants.{Image, TooShort, Refused}
+use Rattle.operations.specs.Answers.{likeness}
 use Rattle.operations.specs.Routing.{routingIn, imageInto}
 use Rattle.operations.specs.Listing.{listingIn, listingFor, listedFor}
 
 -- what W makes of a route
 abbrev pub replied : Desk → Of.Route → Outcome Effect
 replied d r = ofRoute r >>= λ v. pass (d, okWord v)
+
+-- and S of a comparison
+abbrev pub compared : Desk → Of.Comparison → Outcome Effect
+compared d x = ofComparison x >>= λ alike. pass (d, okNumber (bit alike))
 
 module _ (d : Desk) (a : ℕ) where
   abbrev looked : Option Plan → Outcome Plan
@@ -47,6 +54,16 @@ module _ (d : Desk) (a : ℕ) where
   unfolding job _>>=_
   list-done p e = ap (λ o. o >>= λ q. pass (d, lists a q)) (plan-there p e)
 
+  -- S: 9 for either slot, or what the comparison says
+  module _ (b : ℕ) where
+    pub compare-empty : held d (slotNumber a) ≡ none → job d (S a b) ≡ refuse slotEmpty none
+    unfolding job _>>=_
+    compare-empty e = ap (λ o. o >>= λ p. planIn d b >>= λ q. compared d (same p q)) (plan-missing e)
+
+    pub compare-next : (p : Plan) → held d (slotNumber a) ≡ some p → job d (S a b) ≡ (planIn d b >>= λ q. compared d (same p q))
+    unfolding job _>>=_
+    compare-next p e = ap (λ o. o >>= λ p. planIn d b >>= λ q. compared d (same p q)) (plan-there p e)
+
   -- W: 9, or what the route says
   pub route-empty : (code : Bytes) → held d (slotNumber a) ≡ none → job d (W a code) ≡ refuse slotEmpty none
   unfolding job _>>=_
@@ -55,6 +72,32 @@ module _ (d : Desk) (a : ℕ) where
   pub route-done : (code : Bytes) (p : Plan) → held d (slotNumber a) ≡ some p → job d (W a code) ≡ replied d (routed p (wordOf code))
   unfolding job _>>=_
   route-done code p e = ap (λ o. o >>= λ q. replied d (routed q (wordOf code))) (plan-there p e)
+
+module _ (d : Desk) (a b : ℕ) (p : Plan) (e : held d (slotNumber a) ≡ some p) where
+  pub compare-second-empty : held d (slotNumber b) ≡ none → job d (S a b) ≡ refuse slotEmpty none
+  unfolding _>>=_
+  compare-second-empty f = compare-next d a b p e ∙ ap (λ o. o >>= λ q. compared d (same p q)) (plan-missing d b f)
+
+  pub compare-done : (q : Plan) → held d (slotNumber b) ≡ some q → job d (S a b) ≡ compared d (same p q)
+  unfolding _>>=_
+  compare-done q f = compare-next d a b p e ∙ ap (λ o. o >>= λ q. compared d (same p q)) (plan-there d b q f)
+
+-- what a comparison tells
+module _ (d : Desk) where
+  pub likeness-refused : (x : Of.Comparison) (n : ℕ) → likeness x ≡ Like.Refused n → compared d x ≡ refuse n none
+  unfolding _>>=_
+  likeness-refused (Of.Alike b) n e = let z : _≡_ {A = ℕ} 0 1 = cc in absurd (omega arith)
+  likeness-refused (Of.NotCompared r) n e = let number : Of.refusalNumber r ≡ n = cc in ap (λ k. refuse k none) number
+
+  pub likeness-alike : (x : Of.Comparison) (b : Bool) → likeness x ≡ Like.Alike b → compared d x ≡ pass (d, okNumber (bit b))
+  unfolding _>>=_
+  likeness-alike (Of.Alike c) b e = let alike : c ≡ b = cc in ap (λ k. pass (d, okNumber (bit k))) alike
+  likeness-alike (Of.NotCompared r) b e = let z : _≡_ {A = ℕ} 0 1 = cc in absurd (omega arith)
+
+-- a truth value as a number
+pub bit-of : (b : Bool) → boolByte b ≡ bit b
+bit-of true = refl
+bit-of false = refl
 
 -- L's listing has room
 module _ (a : ℕ) (s : isSlot a ≡ true) (p : Plan) (out : List ℕ) (room : length (listing a p) ≤ length out) where

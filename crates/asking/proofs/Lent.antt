@@ -32,6 +32,7 @@ module _ (h : Head) (columns : List ℕ) where
   abbrev pub lentPlan : ℕ → Plan
   lentPlan i = planIn (sizeAt h i .arity) (sizeAt h i .roots) (lentAt i (fromPlace i)) (lentAt i (toPlace i))
 
+-- a slot's block
 module _ (h : Head) (columns : List ℕ) (H : HoldsDesk h columns) (i : ℕ) (k : i < slotCount) where
   pub few-pairs : sizeAt h i .pairs ≤ maxPairs
   unfolding inTable valueAt
@@ -41,52 +42,63 @@ module _ (h : Head) (columns : List ℕ) (H : HoldsDesk h columns) (i : ℕ) (k 
       let from = zeros (drop (v .pairs) (v .from)) in
       leb→le (v .pairs) maxPairs (and-left few from (and-left (few && from) (zeros (drop (v .pairs) (v .to))) (H .in-tables i k)))
 
-  -- both columns of the block stand in the columns
-  pub from-inside : fromPlace i + sizeAt h i .pairs ≤ length columns
-  from-inside = omega (arith, few-pairs, pair-limit, slots-eight, H .sized)
-
-  pub to-inside : toPlace i + sizeAt h i .pairs ≤ length columns
-  to-inside = omega (arith, few-pairs, pair-limit, slots-eight, H .sized)
-
-  -- the words of a column that hold pairs stand at its first places
-  pub lent-words : (at : ℕ) → take (sizeAt h i .pairs) (take maxPairs (drop at columns)) ≡ lentAt h columns i at
+  -- the words that hold pairs stand at the first places of a column
+  lent-words : (at : ℕ) → take (sizeAt h i .pairs) (take maxPairs (drop at columns)) ≡ lentAt h columns i at
   lent-words at = take-take (sizeAt h i .pairs) maxPairs (drop at columns) few-pairs
 
-  plan-lent : planOf (valueAt h columns i) ≡ lentPlan h columns i
+  lent-length : (at : ℕ) → at + maxPairs ≤ length columns → length (lentAt h columns i at) ≡ sizeAt h i .pairs
+  lent-length at f = length-take-le (sizeAt h i .pairs) (drop at columns) (omega (arith, length-drop at columns, few-pairs))
+
+  pub plan-lent : planOf (valueAt h columns i) ≡ lentPlan h columns i
   unfolding valueAt
   plan-lent =
       ap₂ (λ from to. record { shape = shape (sizeAt h i .arity) (sizeAt h i .roots); rows = table from to })
       (lent-words (fromPlace i)) (lent-words (toPlace i))
 
-  lent-length : (at : ℕ) → at + sizeAt h i .pairs ≤ length columns → length (lentAt h columns i at) ≡ sizeAt h i .pairs
-  lent-length at f = length-take-le (sizeAt h i .pairs) (drop at columns) (omega (arith, length-drop at columns))
-
-  module _ (full : sizeAt h i .pairs ≡ 0 → ⊥) where
-    pub lent-held : held (deskOf h columns) i ≡ some (lentPlan h columns i)
-    lent-held = slot-full h columns i k full ∙ ap some plan-lent
-
-    pub lent-kept : Kept (lentPlan h columns i)
-    lent-kept = subst Kept plan-lent (slot-kept h columns H i k full)
-
-    pub lent-plan : LentPlan (sizeAt h i .arity) (sizeAt h i .roots) (lentAt h columns i (fromPlace i)) (lentAt h columns i (toPlace i))
-    lent-plan =
-        record {
-          paired = lent-length (fromPlace i) from-inside ∙ sym (lent-length (toPlace i) to-inside);
-          kept = lent-kept;
-        }
-
--- a byte that names a slot, and the slot's number
-pub record Named (a i : ℕ) : Type 0 where
+-- a byte that names a slot of a desk, and the slot's number
+pub record Named (h : Head) (columns : List ℕ) (a i : ℕ) : Type 0 where
+  pub holds : HoldsDesk h columns
   pub byte : isSlot a ≡ true
   pub number : i ≡ slotNumber a
 
-pub named-below : {a i : ℕ} → Named a i → i < slotCount
-named-below {a} {i} n = omega (arith, slot-below a (n .byte), n .number)
+module _ {h : Head} {columns : List ℕ} {a i : ℕ} (n : Named h columns a i) where
+  below : i < slotCount
+  below = omega (arith, slot-below a (n .byte), n .number)
 
--- what the slot that a byte names holds
-module _ (h : Head) (columns : List ℕ) (H : HoldsDesk h columns) (a i : ℕ) (n : Named a i) where
+  pub in-blocks : i < 9
+  in-blocks = omega (arith, below, slots-eight)
+
+  -- both columns of the block stand in the columns
+  pub from-inside : fromPlace i + sizeAt h i .pairs ≤ length columns
+  from-inside = omega (arith, few-pairs h columns (n .holds) i below, pair-limit, in-blocks, n .holds .sized)
+
+  pub to-inside : toPlace i + sizeAt h i .pairs ≤ length columns
+  to-inside = omega (arith, few-pairs h columns (n .holds) i below, pair-limit, in-blocks, n .holds .sized)
+
   pub named-empty : sizeAt h i .pairs ≡ 0 → held (deskOf h columns) (slotNumber a) ≡ none
-  named-empty e = ap (held (deskOf h columns)) (sym (n .number)) ∙ slot-empty h columns i (named-below n) e
+  named-empty e = ap (held (deskOf h columns)) (sym (n .number)) ∙ slot-empty h columns i below e
 
-  pub named-held : (sizeAt h i .pairs ≡ 0 → ⊥) → held (deskOf h columns) (slotNumber a) ≡ some (lentPlan h columns i)
-  named-held full = ap (held (deskOf h columns)) (sym (n .number)) ∙ lent-held h columns H i (named-below n) full
+  module _ (full : sizeAt h i .pairs ≡ 0 → ⊥) where
+    pub named-held : held (deskOf h columns) (slotNumber a) ≡ some (lentPlan h columns i)
+    named-held =
+        ap (held (deskOf h columns)) (sym (n .number)) ∙ slot-full h columns i below full ∙ ap some (plan-lent h columns (n .holds) i below)
+
+    pub named-kept : Kept (lentPlan h columns i)
+    named-kept = subst Kept (plan-lent h columns (n .holds) i below) (slot-kept h columns (n .holds) i below full)
+
+    -- the parts as they were lent
+    module _ {from to : List ℕ} (f : from ≡ lentAt h columns i (fromPlace i)) (t : to ≡ lentAt h columns i (toPlace i)) where
+      pub parts-plan : planIn (sizeAt h i .arity) (sizeAt h i .roots) from to ≡ lentPlan h columns i
+      parts-plan = ap₂ (planIn (sizeAt h i .arity) (sizeAt h i .roots)) f t
+
+      pub parts-lent : LentPlan (sizeAt h i .arity) (sizeAt h i .roots) from to
+      parts-lent =
+          let size = lent-length h columns (n .holds) i below in
+          record {
+            paired =
+                ap length f
+                ∙ size (fromPlace i) (omega (arith, pair-limit, in-blocks, n .holds .sized))
+                ∙ sym (size (toPlace i) (omega (arith, pair-limit, in-blocks, n .holds .sized)))
+                ∙ sym (ap length t);
+            kept = subst Kept (sym parts-plan) named-kept;
+          }

@@ -1,11 +1,14 @@
 // The records that change nothing (document 01, "Records"): S compares, W routes, L lists, T counts and U surveys. What W, L and U reply is
 // written into the output where it is found.
-ghost use Rattle.desk.specs.Records.{W, L, T};
-ghost use Rattle.slots.specs.Works.{Done, DoneByHead};
+ghost use Rattle.desk.specs.Records.{S, W, L, T};
+ghost use Rattle.slots.specs.Desks.{HoldsDesk};
+ghost use Rattle.slots.specs.Works.{Done, DoneByHead, DoneSilently};
 ghost use Rattle.asking.specs.Asked.{Asked};
+use operations::Likeness;
 use operations::Listed;
 use operations::MAX_PAIRS;
 use operations::Route;
+use operations::comparing;
 use operations::listing;
 use operations::routing;
 use slots::BLOCK;
@@ -17,6 +20,54 @@ use slots::numbers;
 
 // The bytes in front of W's image, `ok` and a tab: `imageAt` of replies' Lines.antt.
 const IMAGE_AT: usize = 3;
+
+// S: 2, 8, 9, 10.
+pub fn compare(head: Head, columns: &[u64], a: u8, b: u8) -> Work
+    requires { ⌜ HoldsDesk head (now columns) ⌝ }
+    ensures { λ r. ⌜ DoneSilently (S a b) head (now (columns .entry)) r (now (columns .entry)) ⌝ }
+{
+    if head.is_open {
+        return slots::refused(head, numbers::WRONG_STATE);
+    }
+    if !listing::is_slot(a) {
+        return slots::refused(head, operations::numbers::SLOT_OUTSIDE);
+    }
+    if !listing::is_slot(b) {
+        return slots::refused(head, operations::numbers::SLOT_OUTSIDE);
+    }
+    let i = slots::slot_number(a);
+    let first = head.sizes[i];
+    let m = first.pairs;
+    if m == 0 {
+        return slots::refused(head, numbers::SLOT_EMPTY);
+    }
+    let j = slots::slot_number(b);
+    let second = head.sizes[j];
+    let n = second.pairs;
+    if n == 0 {
+        return slots::refused(head, numbers::SLOT_EMPTY);
+    }
+    let a_from = blocks::part(columns, i * BLOCK, m);
+    let a_to = blocks::part(columns, i * BLOCK + MAX_PAIRS, m);
+    let b_from = blocks::part(columns, j * BLOCK, n);
+    let b_to = blocks::part(columns, j * BLOCK + MAX_PAIRS, n);
+    match comparing::same(
+        first.arity,
+        first.roots,
+        a_from,
+        a_to,
+        second.arity,
+        second.roots,
+        b_from,
+        b_to,
+    ) {
+        Likeness::Refused(number) => slots::refused(head, number),
+        Likeness::Alike(alike) => Work {
+            head: head,
+            reply: Reply::Number(alike as u32),
+        },
+    }
+}
 
 // W: 2, 8, 9, 4, 13.
 pub fn route(head: Head, columns: &[u64], a: u8, code: &[u8], out: &mut [u8]) -> Work

@@ -21,10 +21,9 @@ use Rattle.replies.proofs.Sizes.{listing-fits}
 use Rattle.slots.specs.declared.Reply.the-variants.{Written}
 use Rattle.slots.specs.Blocks.{sizeAt}
 use Rattle.slots.specs.Desks.{deskOf}
-use Rattle.slots.proofs.Held.{slots-eight}
 use Rattle.slots.proofs.Steps.{amiss-closed, outside-first, outside-next, refused-open, refused-slot, refused-job}
 use Rattle.asking.proofs.Answered.{Asks, answered}
-use Rattle.asking.proofs.Lent.{Named, named-below, named-empty, named-held, from-inside, to-inside, lentPlan, lent-kept, lent-plan}
+use Rattle.asking.proofs.Lent.{lentPlan, Named, in-blocks, from-inside, to-inside, named-empty, named-held, named-kept, parts-plan, parts-lent}
 use Rattle.asking.proofs.Jobs.{list-empty, list-done, listing-told, listing-written}
 use Rattle.asking.proofs.list.Statement.{statement}
 use Rattle.asking.proofs.list.Tie as tie
@@ -44,10 +43,14 @@ closed c = let a = start c .args in amiss-closed (a .t1) (a .columns .now) (type
 abbrev asked : tie.After-slot-number → tie.Start
 asked c = start (c .before .before .before)
 
-named : (c : tie.After-slot-number) → Named (asked c .args .a) (c .slot-number .result)
+named : (c : tie.After-slot-number) → let a = asked c .args in Named (a .t1) (a .columns .now) (a .a) (c .slot-number .result)
 named c =
     let i = c .before .before in
-    record { byte = sym (i .is-slot .ensures) ∙ not-false (i .is-slot .result) (c .before .if2 .left); number = c .slot-number .ensures }
+    record {
+      holds = asked c .pre .holds;
+      byte = sym (i .is-slot .ensures) ∙ not-false (i .is-slot .result) (c .before .if2 .left);
+      number = c .slot-number .ensures;
+    }
 
 asks : (c : tie.After-slot-number) → let a = asked c .args in Asks (a .t1) (a .columns .now) (typed (asked c))
 unfolding slotsNamed isChange
@@ -79,7 +82,7 @@ slot-number-requires : tie.Need-slot-number-requires
 slot-number-requires c κs = let i = c .before in sym (i .is-slot .ensures) ∙ not-false (i .is-slot .result) (c .if2 .left)
 
 element-copy-out-size : tie.Need-element-copy-out-size
-element-copy-out-size c = omega (arith, slots-eight, named-below (named c))
+element-copy-out-size c = in-blocks (named c)
 
 returns-3 : tie.Need-returns-3
 returns-3 c =
@@ -88,7 +91,7 @@ returns-3 c =
     let a = s .args in
     refused-job (a .t1) (a .columns .now) (s .pre .holds) (typed s) (a .out .now) (asks n .fits) (asks n .named) slotEmpty
     (list-empty (deskOf (a .t1) (a .columns .now)) (a .a)
-    (named-empty (a .t1) (a .columns .now) (s .pre .holds) (a .a) (n .slot-number .result) (named n) (c .before .if3 .taken)))
+    (named-empty (named n) (c .before .if3 .taken)))
     (c .refused3 .result) (c .refused3 .ensures)
 
 -- the slot holds a plan, and its parts are lent
@@ -99,12 +102,10 @@ full : (c : tie.After-part2) → sizeAt (asked (numbered c) .args .t1) (numbered
 full c = c .before .before .if3 .left
 
 part-requires : tie.Need-part-requires
-part-requires c κs = let n = c .before .before in
-    let s = asked n in from-inside (s .args .t1) (s .args .columns .now) (s .pre .holds) (n .slot-number .result) (named-below (named n))
+part-requires c κs = from-inside (named (c .before .before))
 
 part-requires-2 : tie.Need-part-requires-2
-part-requires-2 c κs = let n = c .before .before .before in
-    let s = asked n in to-inside (s .args .t1) (s .args .columns .now) (s .pre .holds) (n .slot-number .result) (named-below (named n))
+part-requires-2 c κs = to-inside (named (c .before .before .before))
 
 -- the plan that the parts hold is that of the slot
 abbrev plan : tie.After-part2 → Plan
@@ -113,31 +114,17 @@ plan c = lentPlan (asked (numbered c) .args .t1) (asked (numbered c) .args .colu
 lent : (c : tie.After-part2)
     → let z = sizeAt (asked (numbered c) .args .t1) (numbered c .slot-number .result) in
     planIn (z .arity) (z .roots) (c .before .part .result .now) (c .part2 .result .now) ≡ plan c
-lent c =
-    let z = sizeAt (asked (numbered c) .args .t1) (numbered c .slot-number .result) in
-    ap₂ (planIn (z .arity) (z .roots)) (c .before .part .ensures) (c .part2 .ensures)
-
-kept : (c : tie.After-part2) → Kept (plan c)
-kept c =
-    let n = numbered c in
-    let s = asked n in
-    lent-kept (s .args .t1) (s .args .columns .now) (s .pre .holds) (n .slot-number .result) (named-below (named n)) (full c)
+lent c = parts-plan (named (numbered c)) (full c) (c .before .part .ensures) (c .part2 .ensures)
 
 room : (c : tie.After-part2) → let a = asked (numbered c) .args in length (listing (a .a) (plan c)) ≤ length (a .out .now)
 room c =
     let s = asked (numbered c) in
-    omega (arith, s .pre .room, listing-fits (s .args .a) (plan c) (kept c))
+    omega (arith, s .pre .room, listing-fits (s .args .a) (plan c) (named-kept (named (numbered c)) (full c)))
 
 list-requires : tie.Need-list-requires
 list-requires c κs =
     let p = c .before in
-    let n = numbered p in
-    let s = asked n in
-    let paired = lent-plan (s .args .t1) (s .args .columns .now) (s .pre .holds) (n .slot-number .result) (named-below (named n)) (full p) .paired in
-    record {
-      paired = ap length (p .before .part .ensures) ∙ paired ∙ sym (ap length (p .part2 .ensures));
-      kept = subst Kept (sym (lent p)) (kept p);
-    }
+    parts-lent (named (numbered p)) (full p) (p .before .part .ensures) (p .part2 .ensures)
 
 -- the listing has room, so all of it is written
 told-bytes : (c : tie.After-list) → let p = c .before .before in
@@ -161,7 +148,7 @@ returns-4 c =
     let bytes : Bytes used ≡ Bytes (length (listing (a .a) (plan p))) = sym (c .before .used .given .1) ∙ told-bytes l in
     answered (a .t1) (a .columns .now) (s .pre .holds) (typed s) (a .out .now) (asks n) (lists (a .a) (plan p))
     (list-done (deskOf (a .t1) (a .columns .now)) (a .a) (plan p)
-    (named-held (a .t1) (a .columns .now) (s .pre .holds) (a .a) (n .slot-number .result) (named n) (full p)))
+    (named-held (named n) (full p)))
     (Written used) (ap Written (cc bytes)) _
     (l .list .ensures .1
     ∙ ap (λ q. listedFor (a .a) q (a .out .now)) (lent p)

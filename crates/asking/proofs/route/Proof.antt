@@ -30,10 +30,9 @@ use Rattle.slots.specs.Blocks.{sizeAt}
 use Rattle.slots.specs.Desks.{deskOf}
 use Rattle.slots.specs.Works.{refusing, Done}
 use Rattle.slots.proofs.Windows.{written-length}
-use Rattle.slots.proofs.Held.{slots-eight}
 use Rattle.slots.proofs.Steps.{amiss-closed, outside-first, outside-next, refused-open, refused-slot, refused-job}
 use Rattle.asking.proofs.Answered.{Asks, answered}
-use Rattle.asking.proofs.Lent.{Named, named-below, named-empty, named-held, from-inside, to-inside, lentPlan, lent-kept, lent-plan}
+use Rattle.asking.proofs.Lent.{lentPlan, Named, in-blocks, from-inside, to-inside, named-empty, named-held, named-kept, parts-plan, parts-lent}
 use Rattle.asking.proofs.Jobs.{replied, route-empty, route-done, HasRoom, Sent, Stopped, route-sent, route-short, route-refused}
 use Rattle.asking.proofs.route.Statement.{statement}
 use Rattle.asking.proofs.route.Tie as tie
@@ -53,10 +52,14 @@ closed c = let a = start c .args in amiss-closed (a .t1) (a .columns .now) (type
 abbrev asked : tie.After-slot-number → tie.Start
 asked c = start (c .before .before .before)
 
-named : (c : tie.After-slot-number) → Named (asked c .args .a) (c .slot-number .result)
+named : (c : tie.After-slot-number) → let a = asked c .args in Named (a .t1) (a .columns .now) (a .a) (c .slot-number .result)
 named c =
     let i = c .before .before in
-    record { byte = sym (i .is-slot .ensures) ∙ not-false (i .is-slot .result) (c .before .if2 .left); number = c .slot-number .ensures }
+    record {
+      holds = asked c .pre .holds;
+      byte = sym (i .is-slot .ensures) ∙ not-false (i .is-slot .result) (c .before .if2 .left);
+      number = c .slot-number .ensures;
+    }
 
 asks : (c : tie.After-slot-number) → let a = asked c .args in Asks (a .t1) (a .columns .now) (typed (asked c))
 unfolding slotsNamed isChange
@@ -88,7 +91,7 @@ slot-number-requires : tie.Need-slot-number-requires
 slot-number-requires c κs = let i = c .before in sym (i .is-slot .ensures) ∙ not-false (i .is-slot .result) (c .if2 .left)
 
 element-copy-out-size : tie.Need-element-copy-out-size
-element-copy-out-size c = omega (arith, slots-eight, named-below (named c))
+element-copy-out-size c = in-blocks (named c)
 
 returns-3 : tie.Need-returns-3
 returns-3 c =
@@ -97,7 +100,7 @@ returns-3 c =
     let a = s .args in
     refused-job (a .t1) (a .columns .now) (s .pre .holds) (typed s) (a .out .now) (asks n .fits) (asks n .named) slotEmpty
     (route-empty (deskOf (a .t1) (a .columns .now)) (a .a) (a .code .now)
-    (named-empty (a .t1) (a .columns .now) (s .pre .holds) (a .a) (n .slot-number .result) (named n) (c .before .if3 .taken)))
+    (named-empty (named n) (c .before .if3 .taken)))
     (c .refused3 .result) (c .refused3 .ensures)
 
 -- the slot holds a plan, and its parts are lent
@@ -108,12 +111,10 @@ full : (c : tie.After-part2) → sizeAt (asked (numbered c) .args .t1) (numbered
 full c = c .before .before .if3 .left
 
 part-requires : tie.Need-part-requires
-part-requires c κs = let n = c .before .before in
-    let s = asked n in from-inside (s .args .t1) (s .args .columns .now) (s .pre .holds) (n .slot-number .result) (named-below (named n))
+part-requires c κs = from-inside (named (c .before .before))
 
 part-requires-2 : tie.Need-part-requires-2
-part-requires-2 c κs = let n = c .before .before .before in
-    let s = asked n in to-inside (s .args .t1) (s .args .columns .now) (s .pre .holds) (n .slot-number .result) (named-below (named n))
+part-requires-2 c κs = to-inside (named (c .before .before .before))
 
 -- the plan that the parts hold is that of the slot
 abbrev plan : tie.After-part2 → Plan
@@ -122,15 +123,7 @@ plan c = lentPlan (asked (numbered c) .args .t1) (asked (numbered c) .args .colu
 lent : (c : tie.After-part2)
     → let z = sizeAt (asked (numbered c) .args .t1) (numbered c .slot-number .result) in
     planIn (z .arity) (z .roots) (c .before .part .result .now) (c .part2 .result .now) ≡ plan c
-lent c =
-    let z = sizeAt (asked (numbered c) .args .t1) (numbered c .slot-number .result) in
-    ap₂ (planIn (z .arity) (z .roots)) (c .before .part .ensures) (c .part2 .ensures)
-
-kept : (c : tie.After-part2) → Kept (plan c)
-kept c =
-    let n = numbered c in
-    let s = asked n in
-    lent-kept (s .args .t1) (s .args .columns .now) (s .pre .holds) (n .slot-number .result) (named-below (named n)) (full c)
+lent c = parts-plan (named (numbered c)) (full c) (c .before .part .ensures) (c .part2 .ensures)
 
 -- the output behind the place of `ok⇥`, which is lent to the route
 abbrev out : tie.After-part2 → List ℕ
@@ -153,7 +146,7 @@ room c v e =
     let s = asked (numbered c) in
     let size : length (behind c) ≡ length (out c) - imageAt =
     length-take-le (length (out c) - imageAt) (drop imageAt (out c)) (omega (arith, length-drop imageAt (out c))) in
-    omega (arith, s .pre .room, image-fits (plan c) (wordOf (s .args .code .now)) v (kept c) e)
+    omega (arith, s .pre .room, image-fits (plan c) (wordOf (s .args .code .now)) v (named-kept (named (numbered c)) (full c)) e)
 
 sub-route : tie.Need-sub-route
 sub-route c = wide c
@@ -164,13 +157,7 @@ part-route-start c = wide c
 route-requires : tie.Need-route-requires
 route-requires c κs =
     let p = c .before in
-    let n = numbered p in
-    let s = asked n in
-    let paired = lent-plan (s .args .t1) (s .args .columns .now) (s .pre .holds) (n .slot-number .result) (named-below (named n)) (full p) .paired in
-    record {
-      paired = ap length (p .before .part .ensures) ∙ paired ∙ sym (ap length (p .part2 .ensures));
-      kept = subst Kept (sym (lent p)) (kept p);
-    }
+    parts-lent (named (numbered p)) (full p) (p .before .part .ensures) (p .part2 .ensures)
 
 -- what the route told, and what it left in the part
 abbrev lender : tie.After-route → tie.After-part2
@@ -197,7 +184,7 @@ job-told c =
     let s = asked n in
     let a = s .args in
     route-done (desk c) (a .a) (a .code .now) (plan c)
-    (named-held (a .t1) (a .columns .now) (s .pre .holds) (a .a) (n .slot-number .result) (named n) (full c))
+    (named-held (named n) (full c))
 
 -- an image
 sent : (c : tie.After-digits) → let p = lender (c .before .before .before .before) in Sent (desk p) (answer p) (behind p) (c .digits .given .0 .0)
@@ -220,7 +207,7 @@ ok-image-requires c κs =
     let p = lender (d .before .before .before .before) in
     let s = asked (numbered p) in
     let image = wordBytes (sent d .image) in
-    let short = image-fits (plan p) (wordOf (s .args .code .now)) (sent d .image) (kept p) (sent d .is-image) in
+    let short = image-fits (plan p) (wordOf (s .args .code .now)) (sent d .image) (named-kept (named (numbered p)) (full p)) (sent d .is-image) in
     let size = ap length (placed d) ∙ written-length (out p) imageAt image (omega (arith, s .pre .room)) in
     omega (arith, s .pre .room, sent d .size)
 
