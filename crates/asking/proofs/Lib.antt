@@ -2,3 +2,4 @@
 pub mod Answered
 pub mod Lent
 pub mod Jobs
+pub mod Surveyed

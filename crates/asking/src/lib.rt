@@ -1,9 +1,9 @@
 // The records that change nothing (document 01, "Records"): S compares, W routes, L lists, T counts and U surveys. What W, L and U reply is
 // written into the output where it is found.
-ghost use Rattle.desk.specs.Records.{S, W, L, T};
+ghost use Rattle.desk.specs.Records.{S, W, L, T, U};
 ghost use Rattle.slots.specs.Desks.{HoldsDesk};
 ghost use Rattle.slots.specs.Works.{Done, DoneByHead, DoneSilently};
-ghost use Rattle.asking.specs.Asked.{Asked};
+ghost use Rattle.asking.specs.Asked.{Asked, AskedByHead, DoneByHeadInto};
 use operations::Likeness;
 use operations::Listed;
 use operations::MAX_PAIRS;
@@ -20,6 +20,9 @@ use slots::numbers;
 
 // The bytes in front of W's image, `ok` and a tab: `imageAt` of replies' Lines.antt.
 const IMAGE_AT: usize = 3;
+
+// A to H: `slotCount` of higman's Limits.antt.
+const SLOTS: usize = 8;
 
 // S: 2, 8, 9, 10.
 pub fn compare(head: Head, columns: &[u64], a: u8, b: u8) -> Work
@@ -139,5 +142,38 @@ pub fn count(head: Head) -> Work
     Work {
         head: head,
         reply: Reply::Number(head.changes),
+    }
+}
+
+// U: 2. A line for each slot that holds a plan, from A on, and how many they are.
+pub fn survey(head: Head, out: &mut [u8]) -> Work
+    requires { ⌜ AskedByHead head (now out) ⌝ }
+    ensures { λ r. ⌜ DoneByHeadInto U head (now (out .entry)) r (now (out .exit)) ⌝ }
+{
+    if head.is_open {
+        return slots::refused(head, numbers::WRONG_STATE);
+    }
+    let mut used = 0;
+    let mut held: u32 = 0;
+    let mut i = 0;
+    while i < SLOTS {
+        let size = head.sizes[i];
+        if 0 < size.pairs {
+            used = replies::held(
+                b'A' + i as u8,
+                size.arity,
+                size.roots,
+                size.pairs,
+                out,
+                used,
+            );
+            held += 1;
+        }
+        i += 1;
+    }
+    used = replies::ok_number(held, out, used);
+    Work {
+        head: head,
+        reply: Reply::Written(used),
     }
 }
