@@ -1,11 +1,11 @@
 -- A record that changes nothing and is not refused: the desk is as it was, and the reply is that of the record's own job.
 use Prim.Native.Nat.{ℕ}
 use mathlib.Core.Path.{_≡_, refl, ap}
-use mathlib.Core.Bool.{Bool, false, _&&_}
+use mathlib.Core.Bool.{false, _&&_}
 use mathlib.Core.List.{List}
 use Rattle.higman.specs.Buffers.{written}
 use Rattle.desk.specs.Records.{Record, slotsNamed, isChange}
-use Rattle.desk.specs.Replies.{Reply as ReplyOf, Outcome, pass, Effect, openAmiss, outside, atLimit, job}
+use Rattle.desk.specs.Replies.{Reply as ReplyOf, pass, openAmiss, outside, atLimit, job}
 use Rattle.slots.specs.declared.Head.{Head}
 use Rattle.slots.specs.declared.Reply.{Reply}
 use Rattle.slots.specs.Desks.{deskOf, HoldsDesk}

@@ -6,20 +6,20 @@ use mathlib.Core.Bool.{Bool, true, false}
 use mathlib.Core.List.{List, [], _∷_, _++_, map, map-append, append-nil, append-assoc}
 use mathlib.Core.Option.{Option, none, some}
 use native.Mathlib.Numerals.{add-one}
-use native.Mathlib.Nat.{add-zero, add-suc}
+use native.Mathlib.Nat.{add-zero}
 use native.Mathlib.Omega.{arith}
-use borrow.Author.Tests.{eq-eqb, ne-eqb, eqb-true, eqb-false}
+use borrow.Author.Tests.{eq-eqb, ne-eqb}
 use lib.Dec.{eqb}
 use lib.ListN.{length, take, drop, length-append, length-drop}
 use lib.Seq.{length-take-le}
 use Rattle.higman.specs.Words.{count}
-use Rattle.higman.specs.Limits.{Plan, Kept, maxPairs, slotCount}
+use Rattle.higman.specs.Limits.{Plan, maxPairs, slotCount}
 use Rattle.higman.specs.Text.{Bytes, decimal}
 use Rattle.higman.specs.Listing.{joinLines, slotByte}
 use Rattle.columns.proofs.Rows.{rows-length}
 use Rattle.words.specs.Writing.{Wrote}
 use Rattle.words.proofs.Runs.{wrote-nothing, wrote-then}
-use Rattle.desk.specs.Replies.{Held, heldFrom}
+use Rattle.desk.specs.Replies.{heldFrom}
 use Rattle.desk.specs.Bytes.{lineOf, okLine, counted, heldFields}
 use Rattle.operations.specs.Plans.{planOf, rowsOf}
 use Rattle.replies.specs.Lines.{HeldFits}
@@ -28,7 +28,7 @@ use Rattle.replies.proofs.Sizes.{rooms, held-fits, held-size}
 use Rattle.slots.specs.declared.Size.{Size}
 use Rattle.slots.specs.declared.Head.{Head}
 use Rattle.slots.specs.Blocks.{sizeAt, fromPlace, toPlace, valueAt}
-use Rattle.slots.specs.Desks.{slotAt, slotsOf, heldBy, HoldsDesk}
+use Rattle.slots.specs.Desks.{slotAt, slotsOf, HoldsDesk}
 use Rattle.slots.proofs.Windows.{pair-limit, written-length}
 use Rattle.slots.proofs.Held.{slots-eight, slot-kept}
 use Rattle.asking.proofs.Lent.{few-pairs}
@@ -38,8 +38,11 @@ abbrev pub sizeFields : ℕ → Size → List Bytes
 sizeFields i z = (slotByte i ∷ []) ∷ decimal (z .arity) ∷ decimal (z .roots) ∷ decimal (z .pairs) ∷ []
 
 -- "for each held slot"
+abbrev fieldsIf : Head → ℕ → Bool → List (List Bytes)
+fieldsIf h i isEmpty = elim isEmpty [ true ↦ [] | false ↦ sizeFields i (sizeAt h i) ∷ [] ]
+
 abbrev fieldsAt : Head → ℕ → List (List Bytes)
-fieldsAt h i = elim (eqb (sizeAt h i .pairs) 0) [ true ↦ [] | false ↦ sizeFields i (sizeAt h i) ∷ [] ]
+fieldsAt h i = fieldsIf h i (eqb (sizeAt h i .pairs) 0)
 
 abbrev fieldsFrom : Head → ℕ → ℕ → List (List Bytes)
 fieldsFrom h a zero = []
@@ -73,7 +76,7 @@ join-append (b ∷ k) l = ap (λ x. b ++ x) (join-append k l) ∙ sym (append-as
 passed-empty : (h : Head) (i : ℕ) → sizeAt h i .pairs ≡ 0 → fieldsBelow h (i + 1) ≡ fieldsBelow h i
 passed-empty h i e =
     fields-next h i
-    ∙ ap (λ b. fieldsBelow h i ++ elim b as (λ _. List (List Bytes)) [ true ↦ [] | false ↦ sizeFields i (sizeAt h i) ∷ [] ]) (eq-eqb (sizeAt h i .pairs) 0 e)
+    ∙ ap (λ b. fieldsBelow h i ++ fieldsIf h i b) (eq-eqb (sizeAt h i .pairs) 0 e)
     ∙ append-nil (fieldsBelow h i)
 
 -- and one that does has one
@@ -81,7 +84,7 @@ module _ (h : Head) (i : ℕ) (full : sizeAt h i .pairs ≡ 0 → ⊥) where
   passed-held : fieldsBelow h (i + 1) ≡ fieldsBelow h i ++ (sizeFields i (sizeAt h i) ∷ [])
   passed-held =
       fields-next h i
-      ∙ ap (λ b. fieldsBelow h i ++ elim b as (λ _. List (List Bytes)) [ true ↦ [] | false ↦ sizeFields i (sizeAt h i) ∷ [] ]) (ne-eqb (sizeAt h i .pairs) 0 full)
+      ∙ ap (λ b. fieldsBelow h i ++ fieldsIf h i b) (ne-eqb (sizeAt h i .pairs) 0 full)
 
   one-line-more : linesBelow h (i + 1) ≡ linesBelow h i ++ lineOf (sizeFields i (sizeAt h i))
   one-line-more =
@@ -124,14 +127,19 @@ module _ (h : Head) (columns : List ℕ) (H : HoldsDesk h columns) (i : ℕ) (k 
 
 -- so the lines are those of the slots that the desk holds
 module _ (h : Head) (columns : List ℕ) (H : HoldsDesk h columns) where
-  fields-held : (a n : ℕ) → a + n ≤ slotCount → map heldFields (heldFrom a (map (slotAt h columns) (count a n))) ≡ fieldsFrom h a n
+  abbrev heldIf : ℕ → Bool → Option Plan
+  heldIf i isEmpty = elim isEmpty [ true ↦ none | false ↦ some (planOf (valueAt h columns i)) ]
+
+  abbrev slotsFrom : ℕ → ℕ → List (Option Plan)
+  slotsFrom a n = map (slotAt h columns) (count a n)
+
+  fields-held : (a n : ℕ) → a + n ≤ slotCount → map heldFields (heldFrom a (slotsFrom a n)) ≡ fieldsFrom h a n
   unfolding valueAt
   fields-held a zero k = refl
   fields-held a (suc n) k = by (eqb (sizeAt h a .pairs) 0) (fields-held (suc a) n (omega arith))
     where
-      by : (b : Bool) → map heldFields (heldFrom (suc a) (map (slotAt h columns) (count (suc a) n))) ≡ fieldsFrom h (suc a) n
-          → map heldFields (heldFrom a (elim b [ true ↦ none | false ↦ some (planOf (valueAt h columns a)) ] ∷ map (slotAt h columns) (count (suc a) n)))
-          ≡ elim b [ true ↦ [] | false ↦ sizeFields a (sizeAt h a) ∷ [] ] ++ fieldsFrom h (suc a) n
+      by : (b : Bool) → map heldFields (heldFrom (suc a) (slotsFrom (suc a) n)) ≡ fieldsFrom h (suc a) n
+          → map heldFields (heldFrom a (heldIf a b ∷ slotsFrom (suc a) n)) ≡ fieldsIf h a b ++ fieldsFrom h (suc a) n
       by true rest = rest
       by false rest = ap₂ _∷_ (held-as-sized h columns H a (omega arith)) rest
 

@@ -1,5 +1,5 @@
-// The records that change nothing (document 01, "Records"): S compares, W routes, L lists, T counts and U surveys. What W, L and U reply is
-// written into the output where it is found.
+// The records that change nothing (document 01, "Records"): S compares, W routes, L lists, T counts and U surveys. A slot's plan is lent in
+// parts of the columns, and none is copied. What W, L and U reply is written into the output where it is found, and told by its length.
 ghost use Rattle.desk.specs.Records.{S, W, L, T, U};
 ghost use Rattle.slots.specs.Desks.{HoldsDesk};
 ghost use Rattle.slots.specs.Works.{Done, DoneByHead, DoneSilently};
@@ -24,7 +24,7 @@ const IMAGE_AT: usize = 3;
 // A to H: `slotCount` of higman's Limits.antt.
 const SLOTS: usize = 8;
 
-// S: 2, 8, 9, 10.
+// S: 2, 8, 9, 10. "`ok⇥1` if the plans act alike, else `ok⇥0`".
 pub fn compare(head: Head, columns: &[u64], a: u8, b: u8) -> Work
     requires { ⌜ HoldsDesk head (now columns) ⌝ }
     ensures { λ r. ⌜ DoneSilently (S a b) head (now (columns .entry)) r (now (columns .entry)) ⌝ }
@@ -72,7 +72,7 @@ pub fn compare(head: Head, columns: &[u64], a: u8, b: u8) -> Work
     }
 }
 
-// W: 2, 8, 9, 4, 13.
+// W: 2, 8, 9, 4, 13. "`ok⇥` and the image": the image first, into its place, and then the line around it.
 pub fn route(head: Head, columns: &[u64], a: u8, code: &[u8], out: &mut [u8]) -> Work
     requires { ⌜ Asked head (now columns) (now out) ⌝ }
     ensures { λ r. ⌜ Done (W a (now (code .entry))) head (now (columns .entry)) (now (out .entry)) r (now (columns .entry)) (now (out .exit)) ⌝ }
@@ -104,7 +104,7 @@ pub fn route(head: Head, columns: &[u64], a: u8, code: &[u8], out: &mut [u8]) ->
     }
 }
 
-// L: 2, 8, 9.
+// L: 2, 8, 9. "lists the plan as P, M and E records".
 pub fn list(head: Head, columns: &[u64], a: u8, out: &mut [u8]) -> Work
     requires { ⌜ Asked head (now columns) (now out) ⌝ }
     ensures { λ r. ⌜ Done (L a) head (now (columns .entry)) (now (out .entry)) r (now (columns .entry)) (now (out .exit)) ⌝ }
@@ -132,7 +132,7 @@ pub fn list(head: Head, columns: &[u64], a: u8, out: &mut [u8]) -> Work
     }
 }
 
-// T: 2.
+// T: 2. "`ok⇥` and the count".
 pub fn count(head: Head) -> Work
     ensures { λ r. ⌜ DoneByHead T head r ⌝ }
 {
@@ -145,7 +145,7 @@ pub fn count(head: Head) -> Work
     }
 }
 
-// U: 2. A line for each slot that holds a plan, from A on, and how many they are.
+// U: 2. "`slot⇥n⇥r⇥pairs` for each held slot, in an order left open, then `ok⇥` and how many": in the order of the letters.
 pub fn survey(head: Head, out: &mut [u8]) -> Work
     requires { ⌜ AskedByHead head (now out) ⌝ }
     ensures { λ r. ⌜ DoneByHeadInto U head (now (out .entry)) r (now (out .exit)) ⌝ }

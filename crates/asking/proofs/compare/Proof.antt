@@ -1,5 +1,4 @@
 -- `asking::compare` meets its contract: both bytes are judged before either slot is looked into.
-use Prim.Native.Nat.{ℕ}
 use mathlib.Core.Path.{_≡_, refl, sym, _∙_, ap, ap₂}
 use mathlib.Core.Bool.{true, false}
 use mathlib.Core.List.{[], _∷_}
@@ -11,7 +10,7 @@ use Rattle.higman.specs.Listing.{isSlot}
 use Rattle.higman.specs.Refusals.{slotEmpty}
 use Rattle.desk.specs.Desk.{Desk}
 use Rattle.desk.specs.Records.{Record, S, needsOpen, slotsNamed, isChange, reading}
-use Rattle.desk.specs.Replies.{bit, okNumber, openAmiss, outside, job}
+use Rattle.desk.specs.Replies.{bit, okNumber, openAmiss, job}
 use Rattle.operations.specs.Answers.{likeness}
 use Rattle.slots.specs.declared.Reply.the-variants.{Number}
 use Rattle.slots.specs.Blocks.{sizeAt}
@@ -51,9 +50,10 @@ asks : (c : tie.Else3) → let a = asked c .args in Asks (a .t1) (a .columns .no
 unfolding slotsNamed isChange
 asks c =
     let a = asked c .args in
+    let second-inside = outside-next (reading (a .b)) [] (second-is c) refl in
     record {
       fits = closed (c .before .before .before .before);
-      named = outside-next (reading (a .a)) (reading (a .b) ∷ []) (first-is (c .before .before)) (outside-next (reading (a .b)) [] (second-is c) refl);
+      named = outside-next (reading (a .a)) (reading (a .b) ∷ []) (first-is (c .before .before)) second-inside;
       unchanged = refl;
     }
 
@@ -127,8 +127,8 @@ returns-5 c = λ out.
     let s = both m in
     let a = s .args in
     refused-job (a .t1) (a .columns .now) (s .pre) (typed s) out (asks (n .before) .fits) (asks (n .before) .named) slotEmpty
-    (compare-second-empty (desk s) (a .a) (a .b) (lentPlan (a .t1) (a .columns .now) (n .slot-number .result)) (named-held (first n) (m .before .if4 .left))
-    (named-empty (second m) (c .before .if5 .taken))) (c .refused5 .result) (c .refused5 .ensures)
+    (compare-second-empty (desk s) (a .a) (a .b) (lentPlan (a .t1) (a .columns .now) (n .slot-number .result))
+    (named-held (first n) (m .before .if4 .left)) (named-empty (second m) (c .before .if5 .taken))) (c .refused5 .result) (c .refused5 .ensures)
 
 part-requires : tie.Need-part-requires
 part-requires c κs = from-inside (first (one (c .before .before)))
@@ -189,7 +189,8 @@ returns-6 c = λ out.
     let t = asks (one (numbered p) .before) in
     let n = k .number .given .0 .0 in
     let said = likeness-refused (desk s) (same (first-plan p) (second-plan p)) n (sym (told-likeness m) ∙ k .number .given .1) in
-    refused-job (a .t1) (a .columns .now) (s .pre) (typed s) out (t .fits) (t .named) n (job-told p ∙ said) (c .refused6 .result) (c .refused6 .ensures)
+    refused-job (a .t1) (a .columns .now) (s .pre) (typed s) out (t .fits) (t .named) n (job-told p ∙ said)
+    (c .refused6 .result) (c .refused6 .ensures)
 
 returns-7 : tie.Need-returns-7
 returns-7 c = λ out.

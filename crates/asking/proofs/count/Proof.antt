@@ -1,5 +1,5 @@
 -- `asking::count` meets its contract.
-use mathlib.Core.Path.{_≡_, refl, _∙_}
+use mathlib.Core.Path.{refl, _∙_}
 use borrow.Author.Needs.{needs}
 use Rattle.desk.specs.Records.{T, needsOpen, slotsNamed, isChange}
 use Rattle.desk.specs.Replies.{okNumber, job}

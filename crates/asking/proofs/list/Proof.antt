@@ -1,22 +1,21 @@
 -- `asking::list` meets its contract.
 use Prim.Native.Nat.{ℕ, _≤_}
-use mathlib.Core.Path.{_≡_, refl, sym, _∙_, ap, ap₂, subst}
-use mathlib.Core.Bool.{true, false}
+use mathlib.Core.Path.{_≡_, refl, sym, _∙_, ap}
+use mathlib.Core.Bool.{false}
 use mathlib.Core.List.{[]}
 use native.Mathlib.Omega.{arith}
 use borrow.Author.Needs.{needs}
 use borrow.Author.Tests.{not-true, not-false}
 use lib.ListN.{length}
-use Rattle.higman.specs.Limits.{Plan, Kept}
+use Rattle.higman.specs.Limits.{Plan}
 use Rattle.higman.specs.Refusals.{slotEmpty}
 use Rattle.higman.specs.Listing.{listing}
 use Rattle.tables.specs.Lines.{planOf as planIn}
 use Rattle.desk.specs.Records.{Record, L, needsOpen, slotsNamed, isChange, reading}
-use Rattle.desk.specs.Replies.{lists, openAmiss, outside}
+use Rattle.desk.specs.Replies.{lists, openAmiss}
 use Rattle.desk.specs.Bytes.{replyBytes}
-use Rattle.operations.specs.declared.Listed.the-variants.{Bytes, Refused}
+use Rattle.operations.specs.declared.Listed.the-variants.{Bytes}
 use Rattle.operations.specs.Listing.{listingFor, listedFor}
-use Rattle.operations.specs.Plans.{LentPlan}
 use Rattle.replies.proofs.Sizes.{listing-fits}
 use Rattle.slots.specs.declared.Reply.the-variants.{Written}
 use Rattle.slots.specs.Blocks.{sizeAt}
@@ -66,7 +65,8 @@ unfolding needsOpen
 returns c =
     let s = c .before .before .before .before in
     let a = s .args in
-    refused-open (a .t1) (a .columns .now) (s .pre .holds) (typed s) (a .out .now) refl (c .before .if1 .taken) (c .refused .result) (c .refused .ensures)
+    refused-open (a .t1) (a .columns .now) (s .pre .holds) (typed s) (a .out .now) refl (c .before .if1 .taken)
+    (c .refused .result) (c .refused .ensures)
 
 returns-2 : tie.Need-returns-2
 unfolding slotsNamed

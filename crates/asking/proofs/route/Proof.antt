@@ -1,8 +1,8 @@
 -- `asking::route` meets its contract: the image is written behind the place of `ok⇥`, and then the line around it.
 use Prim.Native.Nat.{ℕ, _-_, _≤_}
-use mathlib.Core.Path.{_≡_, refl, sym, _∙_, ap, ap₂, subst}
-use mathlib.Core.Bool.{true, false}
-use mathlib.Core.List.{List, [], _∷_}
+use mathlib.Core.Path.{_≡_, refl, sym, _∙_, ap, subst}
+use mathlib.Core.Bool.{false}
+use mathlib.Core.List.{List, []}
 use native.Mathlib.Nat.{zero-add}
 use native.Mathlib.Omega.{arith}
 use borrow.Author.Needs.{needs}
@@ -10,7 +10,7 @@ use borrow.Author.Tests.{not-true, not-false}
 use borrow.Rule.Slice.PartMut.{putMid, put-same}
 use lib.ListN.{length, take, drop, length-drop}
 use lib.Seq.{length-take-le}
-use Rattle.higman.specs.Limits.{Plan, Kept}
+use Rattle.higman.specs.Limits.{Plan}
 use Rattle.higman.specs.Answers.{Route, routed}
 use Rattle.higman.specs.Text.{wordBytes, wordOf}
 use Rattle.higman.specs.Refusals.{slotEmpty, codeTooShort}
@@ -18,7 +18,7 @@ use Rattle.higman.specs.Buffers.{written}
 use Rattle.tables.specs.Lines.{planOf as planIn}
 use Rattle.desk.specs.Desk.{Desk}
 use Rattle.desk.specs.Records.{Record, W, needsOpen, slotsNamed, isChange, reading}
-use Rattle.desk.specs.Replies.{okWord, openAmiss, outside, job}
+use Rattle.desk.specs.Replies.{okWord, openAmiss, job}
 use Rattle.desk.specs.Bytes.{replyBytes}
 use Rattle.operations.specs.Routing.{routingIn, imageInto}
 use Rattle.replies.specs.Lines.{imageAt}
@@ -75,7 +75,8 @@ unfolding needsOpen
 returns c =
     let s = c .before .before .before .before .before in
     let a = s .args in
-    refused-open (a .t1) (a .columns .now) (s .pre .holds) (typed s) (a .out .now) refl (c .before .if1 .taken) (c .refused .result) (c .refused .ensures)
+    refused-open (a .t1) (a .columns .now) (s .pre .holds) (typed s) (a .out .now) refl (c .before .if1 .taken)
+    (c .refused .result) (c .refused .ensures)
 
 returns-2 : tie.Need-returns-2
 unfolding slotsNamed

@@ -1,7 +1,7 @@
 -- `asking::survey` meets its contract. The loop's invariant: the lines of the slots that were passed are written, and counted. The measure
 -- is how many slots are left.
 use Prim.Native.Nat.{_-_, _<_}
-use mathlib.Core.Path.{_≡_, refl, _∙_, ap}
+use mathlib.Core.Path.{refl, _∙_, ap}
 use mathlib.Core.Logic.{⊎-elim}
 use native.Mathlib.Nat.{zero-add}
 use native.Mathlib.Omega.{arith}
@@ -16,7 +16,8 @@ use Rattle.slots.specs.Works.{deskOrder}
 use Rattle.slots.proofs.Held.{slots-eight}
 use Rattle.slots.proofs.Steps.{amiss-closed, refused-open}
 use Rattle.asking.proofs.Answered.{answered}
-use Rattle.asking.proofs.Surveyed.{Surveyed, survey-start, survey-long, survey-room, survey-passed, survey-held, survey-as, survey-ends, line-fits}
+use Rattle.asking.proofs.Surveyed.{line-fits, Surveyed, survey-start, survey-long, survey-room, survey-passed, survey-held, survey-as}
+use Rattle.asking.proofs.Surveyed.{survey-ends}
 use Rattle.asking.proofs.survey.Statement.{statement}
 use Rattle.asking.proofs.survey.Tie as tie
 
