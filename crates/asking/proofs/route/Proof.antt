@@ -1,0 +1,295 @@
+-- `asking::route` meets its contract: the image is written behind the place of `ok⇥`, and then the line around it.
+use Prim.Native.Nat.{ℕ, _-_, _≤_}
+use mathlib.Core.Path.{_≡_, refl, sym, _∙_, ap, subst}
+use mathlib.Core.Bool.{false}
+use mathlib.Core.List.{List, []}
+use native.Mathlib.Nat.{zero-add}
+use native.Mathlib.Omega.{arith}
+use borrow.Author.Needs.{needs}
+use borrow.Author.Tests.{not-true, not-false}
+use borrow.Rule.Slice.PartMut.{putMid, put-same}
+use lib.ListN.{length, take, drop, length-drop}
+use lib.Seq.{length-take-le}
+use Rattle.higman.specs.Limits.{Plan}
+use Rattle.higman.specs.Answers.{Route, routed}
+use Rattle.higman.specs.Text.{wordBytes, wordOf}
+use Rattle.higman.specs.Refusals.{slotEmpty, codeTooShort}
+use Rattle.higman.specs.Buffers.{written}
+use Rattle.tables.specs.Lines.{planOf as planIn}
+use Rattle.desk.specs.Desk.{Desk}
+use Rattle.desk.specs.Records.{Record, W, needsOpen, slotsNamed, isChange, reading}
+use Rattle.desk.specs.Replies.{okWord, openAmiss, job}
+use Rattle.desk.specs.Bytes.{replyBytes}
+use Rattle.operations.specs.Routing.{routingIn, imageInto}
+use Rattle.replies.specs.Lines.{imageAt}
+use Rattle.replies.proofs.Sizes.{image-fits, rooms}
+use Rattle.replies.proofs.Images.{written-lent, image-line}
+use Rattle.slots.specs.declared.Reply.the-variants.{Written}
+use Rattle.slots.specs.declared.Work.{Work}
+use Rattle.slots.specs.Blocks.{sizeAt}
+use Rattle.slots.specs.Desks.{deskOf}
+use Rattle.slots.specs.Works.{refusing, Done}
+use Rattle.slots.proofs.Windows.{written-length}
+use Rattle.slots.proofs.Steps.{amiss-closed, outside-first, outside-next, refused-open, refused-slot, refused-job}
+use Rattle.asking.proofs.Answered.{Asks, answered}
+use Rattle.asking.proofs.Lent.{lentPlan, Named, in-blocks, from-inside, to-inside, named-empty, named-held, named-kept, parts-plan, parts-lent}
+use Rattle.asking.proofs.Jobs.{replied, route-empty, route-done, HasRoom, Sent, Stopped, route-sent, route-short, route-refused}
+use Rattle.asking.proofs.route.Statement.{statement}
+use Rattle.asking.proofs.route.Tie as tie
+
+-- no plan is open
+abbrev start : tie.Else1 → tie.Start
+start c = c .before .before .before .before
+
+abbrev typed : tie.Start → Record
+typed s = W (s .args .a) (s .args .code .now)
+
+closed : (c : tie.Else1) → let a = start c .args in openAmiss (deskOf (a .t1) (a .columns .now)) (typed (start c)) ≡ false
+unfolding needsOpen
+closed c = let a = start c .args in amiss-closed (a .t1) (a .columns .now) (typed (start c)) refl ∙ c .if1 .left
+
+-- the byte names a slot
+abbrev asked : tie.After-slot-number → tie.Start
+asked c = start (c .before .before .before)
+
+named : (c : tie.After-slot-number) → let a = asked c .args in Named (a .t1) (a .columns .now) (a .a) (c .slot-number .result)
+named c =
+    let i = c .before .before in
+    record {
+      holds = asked c .pre .holds;
+      byte = sym (i .is-slot .ensures) ∙ not-false (i .is-slot .result) (c .before .if2 .left);
+      number = c .slot-number .ensures;
+    }
+
+asks : (c : tie.After-slot-number) → let a = asked c .args in Asks (a .t1) (a .columns .now) (typed (asked c))
+unfolding slotsNamed isChange
+asks c =
+    record {
+      fits = closed (c .before .before .before);
+      named = outside-next (reading (asked c .args .a)) [] (named c .byte) refl;
+      unchanged = refl;
+    }
+
+returns : tie.Need-returns
+unfolding needsOpen
+returns c =
+    let s = c .before .before .before .before .before in
+    let a = s .args in
+    refused-open (a .t1) (a .columns .now) (s .pre .holds) (typed s) (a .out .now) refl (c .before .if1 .taken)
+    (c .refused .result) (c .refused .ensures)
+
+returns-2 : tie.Need-returns-2
+unfolding slotsNamed
+returns-2 c =
+    let i = c .before .before in
+    let s = start (i .before) in
+    let a = s .args in
+    let no = sym (i .is-slot .ensures) ∙ not-true (i .is-slot .result) (c .before .if2 .taken) in
+    refused-slot (a .t1) (a .columns .now) (s .pre .holds) (typed s) (a .out .now) (closed (i .before)) (outside-first (reading (a .a)) [] no)
+    (c .refused2 .result) (c .refused2 .ensures)
+
+slot-number-requires : tie.Need-slot-number-requires
+slot-number-requires c κs = let i = c .before in sym (i .is-slot .ensures) ∙ not-false (i .is-slot .result) (c .if2 .left)
+
+element-copy-out-size : tie.Need-element-copy-out-size
+element-copy-out-size c = in-blocks (named c)
+
+returns-3 : tie.Need-returns-3
+returns-3 c =
+    let n = c .before .before .before in
+    let s = asked n in
+    let a = s .args in
+    refused-job (a .t1) (a .columns .now) (s .pre .holds) (typed s) (a .out .now) (asks n .fits) (asks n .named) slotEmpty
+    (route-empty (deskOf (a .t1) (a .columns .now)) (a .a) (a .code .now)
+    (named-empty (named n) (c .before .if3 .taken)))
+    (c .refused3 .result) (c .refused3 .ensures)
+
+-- the slot holds a plan, and its parts are lent
+abbrev numbered : tie.After-part2 → tie.After-slot-number
+numbered c = c .before .before .before .before
+
+full : (c : tie.After-part2) → sizeAt (asked (numbered c) .args .t1) (numbered c .slot-number .result) .pairs ≡ 0 → ⊥
+full c = c .before .before .if3 .left
+
+part-requires : tie.Need-part-requires
+part-requires c κs = from-inside (named (c .before .before))
+
+part-requires-2 : tie.Need-part-requires-2
+part-requires-2 c κs = to-inside (named (c .before .before .before))
+
+-- the plan that the parts hold is that of the slot
+abbrev plan : tie.After-part2 → Plan
+plan c = lentPlan (asked (numbered c) .args .t1) (asked (numbered c) .args .columns .now) (numbered c .slot-number .result)
+
+lent : (c : tie.After-part2)
+    → let z = sizeAt (asked (numbered c) .args .t1) (numbered c .slot-number .result) in
+    planIn (z .arity) (z .roots) (c .before .part .result .now) (c .part2 .result .now) ≡ plan c
+lent c = parts-plan (named (numbered c)) (full c) (c .before .part .ensures) (c .part2 .ensures)
+
+-- the output behind the place of `ok⇥`, which is lent to the route
+abbrev out : tie.After-part2 → List ℕ
+out c = asked (numbered c) .args .out .now
+
+abbrev behind : tie.After-part2 → List ℕ
+behind c = take (length (out c) - imageAt) (drop imageAt (out c))
+
+abbrev desk : tie.After-part2 → Desk
+desk c = let a = asked (numbered c) .args in deskOf (a .t1) (a .columns .now)
+
+abbrev answer : tie.After-part2 → Route
+answer c = routed (plan c) (wordOf (asked (numbered c) .args .code .now))
+
+wide : (c : tie.After-part2) → imageAt ≤ length (out c)
+wide c = omega (arith, asked (numbered c) .pre .room, rooms .ok)
+
+room : (c : tie.After-part2) → HasRoom (answer c) (behind c)
+room c v e =
+    let s = asked (numbered c) in
+    let size : length (behind c) ≡ length (out c) - imageAt =
+    length-take-le (length (out c) - imageAt) (drop imageAt (out c)) (omega (arith, length-drop imageAt (out c))) in
+    omega (arith, s .pre .room, image-fits (plan c) (wordOf (s .args .code .now)) v (named-kept (named (numbered c)) (full c)) e)
+
+sub-route : tie.Need-sub-route
+sub-route c = wide c
+
+part-route-start : tie.Need-part-route-start
+part-route-start c = wide c
+
+route-requires : tie.Need-route-requires
+route-requires c κs =
+    let p = c .before in
+    parts-lent (named (numbered p)) (full p) (p .before .part .ensures) (p .part2 .ensures)
+
+-- what the route told, and what it left in the part
+abbrev lender : tie.After-route → tie.After-part2
+lender c = c .before .before
+
+abbrev back : tie.After-route → List ℕ
+back c = c .route .last .1 .1 .1 .1 .1 .0
+
+told-route : (c : tie.After-route) → c .route .result ≡ routingIn (answer (lender c)) (length (behind (lender c)))
+told-route c =
+    let p = lender c in
+    let code = wordOf (asked (numbered p) .args .code .now) in
+    c .route .ensures .0 ∙ ap (λ q. routingIn (routed q code) (length (behind p))) (lent p)
+
+left-route : (c : tie.After-route) → back c ≡ imageInto (answer (lender c)) (behind (lender c))
+left-route c =
+    let p = lender c in
+    let code = wordOf (asked (numbered p) .args .code .now) in
+    c .route .ensures .1 ∙ ap (λ q. imageInto (routed q code) (behind p)) (lent p)
+
+job-told : (c : tie.After-part2) → job (desk c) (typed (asked (numbered c))) ≡ replied (desk c) (answer c)
+job-told c =
+    let n = numbered c in
+    let s = asked n in
+    let a = s .args in
+    route-done (desk c) (a .a) (a .code .now) (plan c)
+    (named-held (named n) (full c))
+
+-- an image
+sent : (c : tie.After-digits) → let p = lender (c .before .before .before .before) in Sent (desk p) (answer p) (behind p) (c .digits .given .0 .0)
+sent c =
+    let r = c .before .before .before .before in
+    let p = lender r in
+    route-sent (desk p) (behind p) (answer p) (room p) (c .digits .given .0 .0) (sym (told-route r) ∙ c .digits .given .1)
+
+placed : (c : tie.After-digits) → let r = c .before .before .before .before in
+    let p = lender r in
+    putMid imageAt (length (out p) - imageAt) (out p) (back r) ≡ written (out p) imageAt (wordBytes (sent c .image))
+placed c =
+    let r = c .before .before .before .before in
+    let p = lender r in
+    written-lent (out p) (wordBytes (sent c .image)) (back r) imageAt (left-route r ∙ sent c .buffer)
+
+ok-image-requires : tie.Need-ok-image-requires
+ok-image-requires c κs =
+    let d = c .before .before in
+    let p = lender (d .before .before .before .before) in
+    let s = asked (numbered p) in
+    let image = wordBytes (sent d .image) in
+    let short = image-fits (plan p) (wordOf (s .args .code .now)) (sent d .image) (named-kept (named (numbered p)) (full p)) (sent d .is-image) in
+    let size = ap length (placed d) ∙ written-length (out p) imageAt image (omega (arith, s .pre .room)) in
+    omega (arith, s .pre .room, sent d .size)
+
+returns-4 : tie.Need-returns-4
+unfolding replyBytes
+returns-4 c =
+    let o = c .before .before in
+    let d = o .before .before .before in
+    let p = lender (d .before .before .before .before) in
+    let n = numbered p in
+    let s = asked n in
+    let a = s .args in
+    let line = image-line (out p) (wordBytes (sent d .image)) (wide p) (sent d .size) (placed d) (o .ok-image .ensures) in
+    answered (a .t1) (a .columns .now) (s .pre .holds) (typed s) (out p) (asks n) (okWord (sent d .image)) (job-told p ∙ sent d .reply)
+    (Written (o .ok-image .result)) (ap Written (line .place ∙ zero-add _)) _ (line .contents)
+
+-- a refusal leaves the output as it was
+unsent : (c : tie.After-route) (n : ℕ) → let p = lender c in
+    let s = asked (numbered p) in
+    let a = s .args in
+    Stopped (desk p) (answer p) (behind p) n → (w : Work) → w ≡ refusing (a .t1) n
+    → Done (typed s) (a .t1) (a .columns .now) (out p) w (a .columns .now) (putMid imageAt (length (out p) - imageAt) (out p) (back c))
+unsent c n stopped w e =
+    let p = lender c in
+    let s = asked (numbered p) in
+    let a = s .args in
+    let rest = length (out p) - imageAt in
+    let same = ap (putMid imageAt rest (out p)) (left-route c ∙ stopped .buffer) ∙ put-same imageAt rest (out p) in
+    subst (λ x. Done (typed s) (a .t1) (a .columns .now) (out p) w (a .columns .now) x) (sym same)
+    (refused-job (a .t1) (a .columns .now) (s .pre .holds) (typed s) (out p) (asks (numbered p) .fits) (asks (numbered p) .named) n
+    (job-told p ∙ stopped .reply) w e)
+
+returns-5 : tie.Need-returns-5
+returns-5 c =
+    let e = c .before in
+    let r = e .before .before .before .before in
+    let p = lender r in
+    let stopped = route-short (desk p) (behind p) (answer p) (room p) (sym (told-route r) ∙ e .enum-told .given .1) in
+    unsent r codeTooShort stopped (c .refused4 .result) (c .refused4 .ensures)
+
+returns-6 : tie.Need-returns-6
+returns-6 c =
+    let k = c .before .before in
+    let r = k .before .before .before .before in
+    let p = lender r in
+    let n = k .number .given .0 .0 in
+    let stopped = route-refused (desk p) (behind p) (answer p) (room p) n (sym (told-route r) ∙ k .number .given .1) in
+    unsent r n stopped (c .refused5 .result) (c .refused5 .ensures)
+
+pub route-spec : {M : Type 1} → statement M
+route-spec =
+    tie.close
+    (tie.spec
+    (λ c κs. search needs)
+    returns
+    (λ c κs. search needs)
+    (λ c κs. search needs)
+    returns-2
+    slot-number-requires
+    (λ c. search needs)
+    element-copy-out-size
+    (λ c κs. search needs)
+    returns-3
+    (λ c. search needs)
+    part-requires
+    (λ c. search needs)
+    (λ c. search needs)
+    part-requires-2
+    sub-route
+    part-route-start
+    (λ c. search needs)
+    route-requires
+    (λ c. search needs)
+    ok-image-requires
+    (λ c. search needs)
+    (λ c κs. search needs)
+    (λ c. search needs)
+    (λ c κs. search needs)
+    (λ c. search needs)
+    returns-4
+    (λ c. search needs)
+    returns-5
+    (λ c. search needs)
+    returns-6)

@@ -1,0 +1,23 @@
+-- What the records that write their reply themselves, W, L and U, are asked of, and what U promises.
+use Prim.Native.Nat.{ℕ, _≤_}
+use mathlib.Core.List.{List}
+use lib.ListN.{length}
+use Rattle.desk.specs.Records.{Record}
+use Rattle.replies.specs.Sizes.{maxReply}
+use Rattle.slots.specs.declared.Head.{Head}
+use Rattle.slots.specs.declared.Work.{Work}
+use Rattle.slots.specs.Desks.{HoldsDesk}
+use Rattle.slots.specs.Works.{Done}
+
+-- a desk in code, and an output that has room for every reply
+pub record Asked (h : Head) (columns out : List ℕ) : Type 0 where
+  pub holds : HoldsDesk h columns
+  pub room : maxReply ≤ length out
+
+-- a head of some desk in code, whatever its columns are
+abbrev pub AskedByHead : Head → List ℕ → Type 0
+AskedByHead h out = (columns : List ℕ) × Asked h columns out
+
+-- a work that only the head is needed for, and that writes its reply: it is well done whatever the columns are, and leaves them as they are
+abbrev pub DoneByHeadInto : Record → Head → List ℕ → Work → List ℕ → Type 0
+DoneByHeadInto r h out w out′ = (columns : List ℕ) → HoldsDesk h columns → Done r h columns out w columns out′

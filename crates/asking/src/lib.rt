@@ -1,0 +1,179 @@
+// The records that change nothing (document 01, "Records"): S compares, W routes, L lists, T counts and U surveys. A slot's plan is lent in
+// parts of the columns, and none is copied. What W, L and U reply is written into the output where it is found, and told by its length.
+ghost use Rattle.desk.specs.Records.{S, W, L, T, U};
+ghost use Rattle.slots.specs.Desks.{HoldsDesk};
+ghost use Rattle.slots.specs.Works.{Done, DoneByHead, DoneSilently};
+ghost use Rattle.asking.specs.Asked.{Asked, AskedByHead, DoneByHeadInto};
+use operations::Likeness;
+use operations::Listed;
+use operations::MAX_PAIRS;
+use operations::Route;
+use operations::comparing;
+use operations::listing;
+use operations::routing;
+use slots::BLOCK;
+use slots::Head;
+use slots::Reply;
+use slots::Work;
+use slots::blocks;
+use slots::numbers;
+
+// The bytes in front of W's image, `ok` and a tab: `imageAt` of replies' Lines.antt.
+const IMAGE_AT: usize = 3;
+
+// A to H: `slotCount` of higman's Limits.antt.
+const SLOTS: usize = 8;
+
+// S: 2, 8, 9, 10. "`ok⇥1` if the plans act alike, else `ok⇥0`".
+pub fn compare(head: Head, columns: &[u64], a: u8, b: u8) -> Work
+    requires { ⌜ HoldsDesk head (now columns) ⌝ }
+    ensures { λ r. ⌜ DoneSilently (S a b) head (now (columns .entry)) r (now (columns .entry)) ⌝ }
+{
+    if head.is_open {
+        return slots::refused(head, numbers::WRONG_STATE);
+    }
+    if !listing::is_slot(a) {
+        return slots::refused(head, operations::numbers::SLOT_OUTSIDE);
+    }
+    if !listing::is_slot(b) {
+        return slots::refused(head, operations::numbers::SLOT_OUTSIDE);
+    }
+    let i = slots::slot_number(a);
+    let first = head.sizes[i];
+    let m = first.pairs;
+    if m == 0 {
+        return slots::refused(head, numbers::SLOT_EMPTY);
+    }
+    let j = slots::slot_number(b);
+    let second = head.sizes[j];
+    let n = second.pairs;
+    if n == 0 {
+        return slots::refused(head, numbers::SLOT_EMPTY);
+    }
+    let a_from = blocks::part(columns, i * BLOCK, m);
+    let a_to = blocks::part(columns, i * BLOCK + MAX_PAIRS, m);
+    let b_from = blocks::part(columns, j * BLOCK, n);
+    let b_to = blocks::part(columns, j * BLOCK + MAX_PAIRS, n);
+    match comparing::same(
+        first.arity,
+        first.roots,
+        a_from,
+        a_to,
+        second.arity,
+        second.roots,
+        b_from,
+        b_to,
+    ) {
+        Likeness::Refused(number) => slots::refused(head, number),
+        Likeness::Alike(alike) => Work {
+            head: head,
+            reply: Reply::Number(alike as u32),
+        },
+    }
+}
+
+// W: 2, 8, 9, 4, 13. "`ok⇥` and the image": the image first, into its place, and then the line around it.
+pub fn route(head: Head, columns: &[u64], a: u8, code: &[u8], out: &mut [u8]) -> Work
+    requires { ⌜ Asked head (now columns) (now out) ⌝ }
+    ensures { λ r. ⌜ Done (W a (now (code .entry))) head (now (columns .entry)) (now (out .entry)) r (now (columns .entry)) (now (out .exit)) ⌝ }
+{
+    if head.is_open {
+        return slots::refused(head, numbers::WRONG_STATE);
+    }
+    if !listing::is_slot(a) {
+        return slots::refused(head, operations::numbers::SLOT_OUTSIDE);
+    }
+    let i = slots::slot_number(a);
+    let size = head.sizes[i];
+    let n = size.pairs;
+    if n == 0 {
+        return slots::refused(head, numbers::SLOT_EMPTY);
+    }
+    let from = blocks::part(columns, i * BLOCK, n);
+    let to = blocks::part(columns, i * BLOCK + MAX_PAIRS, n);
+    match routing::route(size.arity, size.roots, from, to, code, &mut out[IMAGE_AT..]) {
+        Route::Image(digits) => {
+            let used = replies::ok_image(digits, out);
+            Work {
+                head: head,
+                reply: Reply::Written(used),
+            }
+        }
+        Route::TooShort => slots::refused(head, operations::numbers::CODE_TOO_SHORT),
+        Route::Refused(number) => slots::refused(head, number),
+    }
+}
+
+// L: 2, 8, 9. "lists the plan as P, M and E records".
+pub fn list(head: Head, columns: &[u64], a: u8, out: &mut [u8]) -> Work
+    requires { ⌜ Asked head (now columns) (now out) ⌝ }
+    ensures { λ r. ⌜ Done (L a) head (now (columns .entry)) (now (out .entry)) r (now (columns .entry)) (now (out .exit)) ⌝ }
+{
+    if head.is_open {
+        return slots::refused(head, numbers::WRONG_STATE);
+    }
+    if !listing::is_slot(a) {
+        return slots::refused(head, operations::numbers::SLOT_OUTSIDE);
+    }
+    let i = slots::slot_number(a);
+    let size = head.sizes[i];
+    let n = size.pairs;
+    if n == 0 {
+        return slots::refused(head, numbers::SLOT_EMPTY);
+    }
+    let from = blocks::part(columns, i * BLOCK, n);
+    let to = blocks::part(columns, i * BLOCK + MAX_PAIRS, n);
+    match listing::list(a, size.arity, size.roots, from, to, out) {
+        Listed::Bytes(used) => Work {
+            head: head,
+            reply: Reply::Written(used),
+        },
+        Listed::Refused(number) => slots::refused(head, number),
+    }
+}
+
+// T: 2. "`ok⇥` and the count".
+pub fn count(head: Head) -> Work
+    ensures { λ r. ⌜ DoneByHead T head r ⌝ }
+{
+    if head.is_open {
+        return slots::refused(head, numbers::WRONG_STATE);
+    }
+    Work {
+        head: head,
+        reply: Reply::Number(head.changes),
+    }
+}
+
+// U: 2. "`slot⇥n⇥r⇥pairs` for each held slot, in an order left open, then `ok⇥` and how many": in the order of the letters.
+pub fn survey(head: Head, out: &mut [u8]) -> Work
+    requires { ⌜ AskedByHead head (now out) ⌝ }
+    ensures { λ r. ⌜ DoneByHeadInto U head (now (out .entry)) r (now (out .exit)) ⌝ }
+{
+    if head.is_open {
+        return slots::refused(head, numbers::WRONG_STATE);
+    }
+    let mut used = 0;
+    let mut held: u32 = 0;
+    let mut i = 0;
+    while i < SLOTS {
+        let size = head.sizes[i];
+        if 0 < size.pairs {
+            used = replies::held(
+                b'A' + i as u8,
+                size.arity,
+                size.roots,
+                size.pairs,
+                out,
+                used,
+            );
+            held += 1;
+        }
+        i += 1;
+    }
+    used = replies::ok_number(held, out, used);
+    Work {
+        head: head,
+        reply: Reply::Written(used),
+    }
+}
