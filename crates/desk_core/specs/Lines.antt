@@ -1,9 +1,8 @@
 -- A line answered: what the functions from a line to its reply ask for and promise.
-use Prim.Native.Nat.{ℕ, _≤_}
+use Prim.Native.Nat.{ℕ}
 use mathlib.Core.Path.{_≡_}
 use mathlib.Core.Bool.{false}
 use mathlib.Core.List.{List}
-use lib.ListN.{length}
 use Rattle.higman.specs.Text.{Bytes}
 use Rattle.words.specs.Writing.{Wrote}
 use Rattle.desk.specs.Desk.{Desk}
@@ -11,21 +10,16 @@ use Rattle.desk.specs.Replies.{_>>=_, Effect, operation, lineOperation, respond
 use Rattle.desk.specs.Bytes.{replyBytes}
 use Rattle.records.specs.declared.Record.{Record}
 use Rattle.records.specs.Reading.{meant, InBounds}
-use Rattle.replies.specs.Sizes.{maxReply}
+use Rattle.asking.specs.Asked.{Asked}
 use Rattle.slots.specs.declared.Head.{Head}
 use Rattle.slots.specs.declared.Work.{Work}
 use Rattle.slots.specs.Desks.{deskOf, HoldsDesk}
 use Rattle.slots.specs.Works.{deskOrder, DoneBy}
 use Rattle.desk_core.specs.declared.Stepped.{Stepped}
 
--- a desk, and room for any reply
-pub record Ready (h : Head) (columns out : List ℕ) : Type 0 where
-  pub holds : HoldsDesk h columns
-  pub room : maxReply ≤ length out
-
--- the same with a record that was read of a line
+-- a desk, room for any reply, and a record that was read of a line
 pub record Working (h : Head) (columns : List ℕ) (line : Bytes) (r : Record) (out : List ℕ) : Type 0 where
-  pub ready : Ready h columns out
+  pub asked : Asked h columns out
   pub bounds : InBounds line r
 
 -- what is meant by the record is done, or it is refused where the line is none

@@ -24,7 +24,7 @@ use Rattle.slots.specs.declared.Head.{Head}
 use Rattle.slots.specs.declared.Work.{Work}
 use Rattle.slots.specs.Blocks.{blockCount, columnsSize, sizeAt, valueAt}
 use Rattle.slots.specs.Desks.{draftBlock, deskOf, HoldsDesk}
-use Rattle.slots.specs.Works.{refusing, refusingIn, direct, told, replyTo, deskAfter, Done}
+use Rattle.slots.specs.Works.{refusing, refusingIn, direct, told, replyTo, deskAfter, DoneBy, Done}
 use Rattle.slots.proofs.Held.{open-is}
 
 module _ (d : Desk) (r : Record) where
@@ -66,6 +66,13 @@ amiss-closed h columns r e = rw (openAmiss, e) (open-is h columns)
 
 pub amiss-open : (h : Head) (columns : List ℕ) (r : Record) → needsOpen r ≡ true → openAmiss (deskOf h columns) r ≡ not (h .is_open)
 amiss-open h columns r e = rw (openAmiss, e) (ap not (open-is h columns))
+
+-- a refusal, whatever it is that is refused
+pub done-by-refusal : (h : Head) (columns : List ℕ) → HoldsDesk h columns → (out : List ℕ) (n : ℕ) (w : Work) → w ≡ refusing h n
+    → DoneBy (deskOf h columns) (refuse n none) out w columns out
+done-by-refusal h columns H out n w q =
+    subst (λ x. DoneBy (deskOf h columns) (refuse n none) out x columns out) (sym q)
+    (record { holds = H; desk = refl; reply = refl; output = refl })
 
 module _ (h : Head) (columns : List ℕ) (H : HoldsDesk h columns) (r : Record) (out : List ℕ) where
   abbrev d : Desk
