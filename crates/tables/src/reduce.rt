@@ -117,8 +117,10 @@ fn reduce_ways(
 
 // Writes the pairs of the columns from and to into the lent columns, from their first place on.
 fn copy_pairs(from: &[u64], to: &[u64], out_from: &mut [u64], out_to: &mut [u64])
-    requires { ⌜ (length (now from) ≡ length (now to)) × (length (now from) ≤ length (now «out_from»)) × (length (now from) ≤ length (now «out_to»)) ⌝ }
-    ensures { λ _. ⌜ rows (length (now (from .entry))) (now («out_from» .exit)) (now («out_to» .exit)) ≡ table (now (from .entry)) (now (to .entry)) ⌝ }
+    requires { ⌜ (length (now from) ≡ length (now to)) × (length (now from) ≤ length (now «out_from»))
+        × (length (now from) ≤ length (now «out_to»)) ⌝ }
+    ensures { λ _. ⌜ rows (length (now (from .entry))) (now («out_from» .exit)) (now («out_to» .exit))
+        ≡ table (now (from .entry)) (now (to .entry)) ⌝ }
 {
     let n = from.len();
     columns::sorting::copy(from, &mut out_from[..n]);

@@ -82,7 +82,8 @@ returns c =
     let a = z .args in
     let s = shape (a .arity) (a .roots) in
     let none = sym (looked .has-join .ensures) ∙ not-true (looked .has-join .result) (copied .before .before .before .if1 .taken) in
-    (omega arith, copied .copy-pairs .ensures ∙ sym (kept-without-join s (table (a .from .now) (a .to .now)) (arity-of-range s (z .pre .3)) (z .pre .4) none))
+    let same = kept-without-join s (table (a .from .now) (a .to .now)) (arity-of-range s (z .pre .3)) (z .pre .4) none in
+    (omega arith, copied .copy-pairs .ensures ∙ sym same)
 
 reduce-ways-requires : tie.Need-reduce-ways-requires
 unfolding maxDigits
