@@ -7,15 +7,15 @@ use mathlib.Core.Bool.{Bool, true, false}
 use mathlib.Core.List.{List, [], _∷_, map}
 use mathlib.Core.Option.{Option·getD}
 use native.Mathlib.Omega.{arith}
+use lib.Dec.{T}
 use lib.ListN.{length, getD}
-use Rattle.higman.specs.Words.{Word, count, begins, child, spell}
-use Rattle.higman.specs.Bases.{all, covered}
+use Rattle.higman.specs.Words.{Word, count, isWord, begins, child, spell}
+use Rattle.higman.specs.Bases.{all, covered, overlap}
 use Rattle.higman.specs.Tables.{firstMatch}
 use Rattle.higman.specs.Normal.{before}
 use Rattle.words.specs.Packed.{unpackIn, unpack}
-use Rattle.columns.specs.Packed.{wordsOf, inOrder}
-use Rattle.columns.specs.declared.Cover.{Cover}
-use Rattle.columns.specs.declared.Cover.the-variants.{UpTo, Gap}
+use Rattle.words.specs.Bytes.{shape}
+use Rattle.columns.specs.Packed.{wordsOf, inOrder, sorted}
 
 -- the word at a place of a column; the empty word past its end
 abbrev pub wordAt : List ℕ → ℕ → Word
@@ -31,25 +31,30 @@ pub record PartedAt (column : List ℕ) (w r : ℕ) : Type 0 where
 unfoldable pub placeIn : List Word → Word → ℕ
 placeIn c w = Option·getD (firstMatch (λ u. u) (λ place u tail. place) c w) (length c)
 
--- The words before the place r stand before the block w.
+-- What a walk asks of a column: sorted words of n ways at every switch, of which none begins another.
+pub record Walkable (n : ℕ) (column : List ℕ) : Type 0 where
+  pub in-order : sorted (wordsOf column) ≡ true
+  pub apart : overlap (wordsOf column) ≡ false
+  pub roots : ℕ
+  pub words : T (all (isWord (shape n roots)) (wordsOf column))
+
+-- The words before the place r stand before the block w, and the one at r, if there is one, does not.
 pub record AtBlock (column : List ℕ) (w : Word) (r : ℕ) : Type 0 where
   pub within : r ≤ length column
   pub front : (k : ℕ) → k < r → before (wordAt column k) w ≡ true
+  pub back : r < length column → before (wordAt column r) w ≡ false
 
--- The words before the place r stand before the block w, and the one at r, if there is one, does not.
-pub record Reached (column : List ℕ) (w : Word) (r : ℕ) : Type 0 where
-  pub passed : AtBlock column w r
-  pub stops : r < length column → before (wordAt column r) w ≡ false
-
--- The words before the place r stand before the block w or in it.
+-- The words before the place r stand before the block w or in it, and the one at r, if there is one, does neither.
 pub record PastBlock (column : List ℕ) (w : Word) (r : ℕ) : Type 0 where
   pub within : r ≤ length column
   pub front : (k : ℕ) → k < r → (before (wordAt column k) w ≡ true) ⊎ (begins w (wordAt column k) ≡ true)
+  pub back : r < length column → (before (wordAt column r) w ≡ false) × (begins w (wordAt column r) ≡ false)
 
--- What a walk over the words of the block w answers, where c is what it looks for: that all is covered, and the place it came to; or a gap.
-abbrev pub Walked : List ℕ → Word → Bool → Cover → Type 0
-Walked column w c (UpTo r) = (c ≡ true) × PastBlock column w r
-Walked column w c Gap = c ≡ false
+-- What a walk over the words of the block w answers, where c is what it looks for: the place it came to if all is covered, and a place
+-- behind the end if there is a gap.
+pub record Walked (column : List ℕ) (w : Word) (c : Bool) (r : ℕ) : Type 0 where
+  pub covers : r ≤ length column → (c ≡ true) × PastBlock column w r
+  pub misses : length column < r → c ≡ false
 
 -- "To cover the parts is to cover way 1 and then the ways after it": the ways from the i-th to the n-th, looked at d ways below them.
 abbrev pub coveredFrom : ℕ → List Word → ℕ → Word → ℕ → Bool
@@ -67,19 +72,23 @@ coveredFrom-example = refl
 abbrev shortColumn : List ℕ
 shortColumn = 0x11 ∷ 0x12 ∷ 0x2 ∷ []
 
--- its first two words cover the block 1 and stand before the block 2
-walked-example : Walked shortColumn (spell 1) (covered 2 (wordsOf shortColumn) 1 (spell 1)) (UpTo 2)
+-- its first two words cover the block 1 and stand before the block 2, whose word is the third
+walked-example : Walked shortColumn (spell 1) (covered 2 (wordsOf shortColumn) 1 (spell 1)) 2
 unfolding unpack unpackIn
-walked-example = (refl, record { within = omega arith; front = front })
+walked-example =
+    record {
+      covers = λ h. (refl, record { within = omega arith; front = front; back = λ k. (refl, refl) });
+      misses = λ h. absurd (omega arith);
+    }
   where
     front : (k : ℕ) → k < 2 → (before (wordAt shortColumn k) (spell 1) ≡ true) ⊎ (begins (spell 1) (wordAt shortColumn k) ≡ true)
     front zero h = inr refl
     front (suc zero) h = inr refl
     front (suc (suc k)) h = absurd (omega arith)
 
-reached-example : Reached shortColumn (spell 2) 2
+at-block-example : AtBlock shortColumn (spell 2) 2
 unfolding unpack unpackIn
-reached-example = record { passed = record { within = omega arith; front = front }; stops = λ h. refl }
+at-block-example = record { within = omega arith; front = front; back = λ h. refl }
   where
     front : (k : ℕ) → k < 2 → before (wordAt shortColumn k) (spell 2) ≡ true
     front zero h = refl
@@ -87,6 +96,6 @@ reached-example = record { passed = record { within = omega arith; front = front
     front (suc (suc k)) h = absurd (omega arith)
 
 -- the block 2 has no part 1
-gap-walked-example : Walked shortColumn (spell 21) (covered 2 (wordsOf shortColumn) 1 (spell 21)) Gap
+gap-walked-example : Walked shortColumn (spell 21) (covered 2 (wordsOf shortColumn) 1 (spell 21)) 4
 unfolding unpack unpackIn
-gap-walked-example = refl
+gap-walked-example = record { covers = λ h. absurd (omega arith); misses = λ h. refl }

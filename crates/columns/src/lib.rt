@@ -4,26 +4,19 @@
 ghost use mathlib.Core.Path.{_≡_};
 ghost use mathlib.Core.Bool.{true, false};
 ghost use Prim.Native.Nat.{_+_, _-_, _≤_};
+ghost use lib.Dec.{T};
 ghost use lib.ListN.{length};
-ghost use Rattle.higman.specs.Words.{child};
-ghost use Rattle.higman.specs.Bases.{covered, gap, overlap};
+ghost use Rattle.higman.specs.Words.{child, isWord};
+ghost use Rattle.higman.specs.Bases.{all, listed, covered, gap, overlap};
 ghost use Rattle.higman.specs.Limits.{maxDigits};
 ghost use Rattle.words.specs.Packed.{unpack};
 ghost use Rattle.words.specs.Bytes.{shape};
 ghost use Rattle.columns.specs.Packed.{wordsOf, inOrder, sorted};
-ghost use Rattle.columns.specs.Columns.{PartedAt, placeIn, AtBlock, Reached, coveredFrom, Walked};
+ghost use Rattle.columns.specs.Columns.{PartedAt, placeIn, Walkable, AtBlock, coveredFrom, Walked};
 
 pub mod sorting;
 
 use words::MAX_WAYS;
-
-// How far the words of a covered block reach.
-pub enum Cover {
-    // the block is covered, and its words stand before this place
-    UpTo(usize),
-    // the block is not covered
-    Gap,
-}
 
 // Whether one word stands before another, by the first digit that differs, or begins it.
 pub fn in_order(u: u64, v: u64) -> bool
@@ -83,77 +76,56 @@ pub fn overlaps(column: &[u64]) -> bool
     false
 }
 
-// The first place, from at on, whose word does not stand before the block w. Only words with a digit that the shape does not have are
-// skipped; the word at the place at is mostly w or begins with it.
-fn skip_before(column: &[u64], w: u64, at: usize) -> usize
-    requires { ⌜ AtBlock (now column) (unpack w) at ⌝ }
-    ensures { λ r. ⌜ Reached (now (column .entry)) (unpack w) r ⌝ }
-{
-    let mut i = at;
-    while i < column.len() {
-        let word = column[i];
-        if word == w {
-            return i;
-        }
-        if !words::before(word, w) {
-            return i;
-        }
-        i += 1;
-    }
-    i
-}
-
-// Whether a block is covered: listed, or each of its parts is covered, looked at `left` ways below it. All words before the place at
-// stand before the block, so that its own word, if it is listed, is the first that does not.
-fn covered_block(column: &[u64], arity: u8, w: u64, left: u8, at: usize) -> Cover
-    requires { ⌜ (sorted (wordsOf (now column)) ≡ true) × (overlap (wordsOf (now column)) ≡ false) ⌝ }
-    requires { ⌜ (1 ≤ arity) × (arity ≤ 9) × (length (unpack w) + left ≤ maxDigits) × AtBlock (now column) (unpack w) at ⌝ }
+// Where the walk over a covered block has come to, looked at `left` ways below it; where there is a gap, a place behind the column's end.
+// The words before the place at stand before the block, so that the word there is the block, lies in it, or there is a gap.
+fn covered_block(column: &[u64], arity: u8, w: u64, left: u8, at: usize) -> usize
+    requires { ⌜ Walkable arity (now column) × (1 ≤ arity) × (arity ≤ 9) ⌝ }
+    requires { ⌜ (1 ≤ length (unpack w)) × (length (unpack w) + left ≤ maxDigits) × AtBlock (now column) (unpack w) at ⌝ }
     ensures { λ r. ⌜ Walked (now (column .entry)) (unpack w) (covered arity (wordsOf (now (column .entry))) left (unpack w)) r ⌝ }
 {
-    let place = skip_before(column, w, at);
-    if column.len() <= place {
-        return Cover::Gap;
+    if column.len() <= at {
+        return column.len() + 1;
     }
-    if column[place] == w {
-        return Cover::UpTo(place + 1);
+    if column[at] == w {
+        return at + 1;
     }
     if left == 0 {
-        return Cover::Gap;
+        return column.len() + 1;
     }
-    covered_ways(column, arity, w, 1, left, place)
+    covered_ways(column, arity, w, 1, left, at)
 }
 
-// Whether the parts of a block from a way on are covered, up to the first that is not. The words of a part stand behind those of the
+// The same of the parts of a block from a way on, up to the first that is not covered. The words of a part stand behind those of the
 // parts before it, so that the walk goes on where it has come to.
-fn covered_ways(column: &[u64], arity: u8, w: u64, way: u8, left: u8, at: usize) -> Cover
-    requires { ⌜ (sorted (wordsOf (now column)) ≡ true) × (overlap (wordsOf (now column)) ≡ false) ⌝ }
-    requires { ⌜ (1 ≤ arity) × (arity ≤ 9) × (1 ≤ way) × (way ≤ arity + 1) × (1 ≤ left) × (length (unpack w) + left ≤ maxDigits)
+fn covered_ways(column: &[u64], arity: u8, w: u64, way: u8, left: u8, at: usize) -> usize
+    requires { ⌜ Walkable arity (now column) × (1 ≤ arity) × (arity ≤ 9) × (listed (unpack w) (wordsOf (now column)) ≡ false) ⌝ }
+    requires { ⌜ (1 ≤ way) × (way ≤ arity + 1) × (1 ≤ left) × (1 ≤ length (unpack w)) × (length (unpack w) + left ≤ maxDigits)
         × AtBlock (now column) (child (unpack w) way) at ⌝ }
     ensures { λ r. ⌜ Walked (now (column .entry)) (unpack w) (coveredFrom arity (wordsOf (now (column .entry))) (left - 1) (unpack w) way) r ⌝ }
 {
     if arity < way {
-        return Cover::UpTo(at);
+        return at;
     }
-    let Cover::UpTo(next) = covered_block(column, arity, words::child(w, way), left - 1, at) else {
-        return Cover::Gap;
-    };
+    let next = covered_block(column, arity, words::child(w, way), left - 1, at);
+    if column.len() < next {
+        return next;
+    }
     covered_ways(column, arity, w, way + 1, left, next)
 }
 
 // Whether a belt isn't covered. Deeper than the longest words of a plan there is nothing to look for.
 pub fn has_gap(column: &[u64], arity: u8, roots: u8) -> bool
     requires { ⌜ (sorted (wordsOf (now column)) ≡ true) × (overlap (wordsOf (now column)) ≡ false) ⌝ }
-    requires { ⌜ (1 ≤ arity) × (arity ≤ 9) × (roots ≤ 9) ⌝ }
+    requires { ⌜ (1 ≤ arity) × (arity ≤ 9) × (roots ≤ 9) × T (all (isWord (shape arity roots)) (wordsOf (now column))) ⌝ }
     ensures { λ r. ⌜ r ≡ gap (shape arity roots) (wordsOf (now (column .entry))) ⌝ }
 {
     let mut at = 0;
     let mut root: u8 = 1;
     while root <= roots {
-        let Cover::UpTo(next) = covered_block(column, arity, words::child(0, root), MAX_WAYS, at)
-        else {
+        at = covered_block(column, arity, words::child(0, root), MAX_WAYS, at);
+        if column.len() < at {
             return true;
-        };
-        at = next;
+        }
         root += 1;
     }
     false

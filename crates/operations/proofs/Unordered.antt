@@ -7,10 +7,13 @@ use mathlib.Core.List.{List, [], _∷_}
 use mathlib.Core.List.{List·Permᴰ, List·Permᴰ·nil, List·Permᴰ·cons, List·Permᴰ·swap, List·Permᴰ·trans}
 use mathlib.Core.Option.{Option, none, some}
 use native.Mathlib.Omega.{arith}
+use lib.Dec.{T}
 use lib.ListN.{length}
-use Rattle.higman.specs.Words.{Shape, Word, digits, begins, child}
-use Rattle.higman.specs.Bases.{sameWord, listed, covered, longest, gap, meets, overlap}
+use Rattle.higman.specs.Words.{Shape, Word, digits, isWord, begins, child}
+use Rattle.higman.specs.Bases.{all, sameWord, listed, covered, longest, gap, meets, overlap}
 use Rattle.higman.specs.Answers.{Reason, Overlap, Gap, fault}
+use Rattle.higman.proofs.Tests.{all-at, all-of}
+use Rattle.higman.proofs.Expansions.{mem-of-perm}
 use Rattle.columns.proofs.Covered.{all-same}
 
 -- what is put together from the words one by one, in whichever order
@@ -80,6 +83,10 @@ fault-unordered s p =
     (λ o g. elim o as (λ _. Option Reason) [ true ↦ some Overlap | false ↦ elim g as (λ _. Option Reason) [ true ↦ some Gap | false ↦ none ] ])
     (overlap-unordered p)
     (gap-unordered s p)
+
+-- all are words of the shape, in any order
+pub words-unordered : (s : Shape) {c e : List Word} → List·Permᴰ c e → T (all (isWord s) e) → T (all (isWord s) c)
+words-unordered s {c} {e} p t = all-of (isWord s) c (λ w m. all-at (isWord s) e t w (mem-of-perm p m))
 
 -- the three answers
 module _ (s : Shape) (c : List Word) where

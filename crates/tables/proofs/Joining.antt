@@ -9,18 +9,20 @@ use native.Mathlib.Omega.{arith}
 use lib.Dec.{T}
 use lib.ListN.{length, take, drop, length-take, length-drop, take-append-drop}
 use borrow.Author.Tests.{not-true}
-use Rattle.higman.specs.Words.{Word, count, digits, child}
+use Rattle.higman.specs.Words.{Shape, Word, count, digits, child}
 use Rattle.higman.specs.Tables.{Pair, Table, froms, sameTable}
-use Rattle.higman.specs.Normal.{gather, whole, parts, Joinable, Reduced, ordered}
+use Rattle.higman.specs.Normal.{gather, whole, parts, keep, Joinable, Reduced, ordered}
 use Rattle.higman.proofs.Tests.{passes, so, T-of, clash, and-left, and-right, and-intro, or-false, or-cases, or-true-left, or-true-right, count-bounds, digit-of-mem, same-table, same-table-refl}
 use Rattle.higman.proofs.Blocks.{mem-gather}
+use Rattle.higman.proofs.Columns.{deep-longest, proper-of-column}
 use Rattle.higman.proofs.Ordered.{Before, Sorted, sorted-of-test}
+use Rattle.higman.proofs.Reduced.{keep-of-reduced}
 use Rattle.words.specs.Packed.{unpack, last}
 use Rattle.words.proofs.Packing.{unpack-zero, unpack-injective}
 use Rattle.words.proofs.Children.{last-child, parent-of-child}
 use Rattle.columns.specs.Packed.{wordsOf, table, rowsAt}
 use Rattle.columns.specs.Columns.{wordAt}
-use Rattle.tables.specs.Reduction.{prefixed}
+use Rattle.tables.specs.Reduction.{prefixed, Reducible}
 use Rattle.tables.specs.Spreading.{pair}
 use Rattle.tables.specs.Joining.{isRooted, above, joinsFirst, hasJoin, isNormal}
 use Rattle.columns.proofs.Rearranged.{froms-table}
@@ -292,6 +294,12 @@ reduced-exactly (suc m) t h o = (
   λ e a b w v j. clash (test-of-join (a ∷ w) (b ∷ v) m tt tt t (sorted-of-test (froms t) o) j) e,
   none-of-reduced (suc m) t,
 )
+
+-- a table that may be reduced and in which the pass finds no join is kept as it is
+pub kept-without-join : (s : Shape) (t : Table) → 1 ≤ s .arity → Reducible s t → hasJoin (s .arity) t ≡ false → keep s t ≡ t
+kept-without-join s t h r e =
+    let proper = proper-of-column s (froms t) h (r .column) in
+    keep-of-reduced s t h proper (deep-longest s (froms t) h proper) (reduced-exactly (s .arity) t h (r .in-order) .0 e) (r .in-order)
 
 -- the two tests together say that a table is reduced and in order
 pub normal-exactly : (n : ℕ) (t : Table) → 1 ≤ n → T (isNormal n t) ↔ (Reduced n t × (ordered (froms t) ≡ true))

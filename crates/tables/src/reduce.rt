@@ -1,56 +1,26 @@
 // Reduction (document 01, "Plans"; document 004, Lemma 4.3): the reduced table of two packed columns whose from column is a basis in
-// order. A recursion over the blocks in digit order, with a cursor into the input: a block is listed, or its parts follow one
-// another. "The joins inside a block come before the join of the block itself"; a joined pair is written over the pairs it joins.
+// order. Where no pairs join the table is reduced as it is. Else a recursion over the blocks in digit order, with a cursor into the
+// input: a block is listed, or its parts follow one another. "The joins inside a block come before the join of the block itself"; a
+// joined pair is written over the pairs it joins.
 ghost use mathlib.Core.Path.{_≡_};
 ghost use mathlib.Core.List.{_++_};
 ghost use Prim.Native.Nat.{_+_, _-_, _≤_, _<_};
 ghost use lib.Dec.{T};
 ghost use lib.ListN.{length, drop};
 ghost use Rattle.higman.specs.Words.{child};
-ghost use Rattle.higman.specs.Bases.{sameWord};
-ghost use Rattle.higman.specs.Tables.{Table, sameTable};
-ghost use Rattle.higman.specs.Normal.{parts, joined, keep};
+ghost use Rattle.higman.specs.Tables.{Table};
+ghost use Rattle.higman.specs.Normal.{joined, keep};
 ghost use Rattle.higman.specs.Limits.{maxDigits, shapeInRange};
 ghost use Rattle.words.specs.Packed.{unpack};
 ghost use Rattle.words.specs.Bytes.{shape};
-ghost use Rattle.columns.specs.Packed.{table, rows, rowsAt};
+ghost use Rattle.columns.specs.Packed.{table, rows};
 ghost use Rattle.tables.specs.Reduction.{prefixed, Block, Parts, state, Places, ReducesBlock, ReducesParts, Reducible};
+use crate::joinable;
 
 // The places of the next pair to read and of the next pair to write.
 pub struct Cursor {
     pub read: usize,
     pub write: usize,
-}
-
-// Whether x is the i-th part of w.
-fn is_part(x: u64, w: u64, i: u8) -> bool
-    requires { ⌜ 1 ≤ i ⌝ }
-    ensures { λ r. ⌜ r ≡ sameWord (unpack x) (child (unpack w) i) ⌝ }
-{
-    if words::last(x) != i {
-        return false;
-    }
-    words::parent(x) == w
-}
-
-// Whether the pairs from the place at on are the n parts of w with the n parts of v, in the same order.
-pub fn are_parts(from: &[u64], to: &[u64], at: usize, w: u64, v: u64, arity: u8) -> bool
-    requires { ⌜ (arity ≤ 9) × (at + arity ≤ length (now from)) × (at + arity ≤ length (now to)) ⌝ }
-    ensures { λ r. ⌜ r ≡ sameTable (rowsAt at arity (now (from .entry)) (now (to .entry))) (prefixed (unpack w) (parts arity (unpack v))) ⌝ }
-{
-    let mut k = at;
-    let mut i: u8 = 1;
-    while i <= arity {
-        if !is_part(from[k], w, i) {
-            return false;
-        }
-        if !is_part(to[k], v, i) {
-            return false;
-        }
-        k += 1;
-        i += 1;
-    }
-    true
 }
 
 // Joins the pairs from the place start up to end into the one pair of the block w, if they are its parts with the parts of a word
@@ -68,7 +38,7 @@ fn join(from: &mut [u64], to: &mut [u64], start: usize, end: usize, w: u64, arit
     if v == 0 {
         return end;
     }
-    if !are_parts(from, to, start, w, v, arity) {
+    if !joinable::are_parts(from, to, start, w, v, arity) {
         return end;
     }
     from[start] = w;
@@ -145,6 +115,18 @@ fn reduce_ways(
     reduce_ways(from, to, out_from, out_to, w, i + 1, last, left, arity, c)
 }
 
+// Writes the pairs of the columns from and to into the lent columns, from their first place on.
+fn copy_pairs(from: &[u64], to: &[u64], out_from: &mut [u64], out_to: &mut [u64])
+    requires { ⌜ (length (now from) ≡ length (now to)) × (length (now from) ≤ length (now «out_from»))
+        × (length (now from) ≤ length (now «out_to»)) ⌝ }
+    ensures { λ _. ⌜ rows (length (now (from .entry))) (now («out_from» .exit)) (now («out_to» .exit))
+        ≡ table (now (from .entry)) (now (to .entry)) ⌝ }
+{
+    let n = from.len();
+    columns::sorting::copy(from, &mut out_from[..n]);
+    columns::sorting::copy(to, &mut out_to[..n]);
+}
+
 // Writes the reduced table of the columns from and to into the lent columns, from their first place on, and returns the number of its
 // pairs. The from column is in order and a basis.
 pub fn reduce(
@@ -160,6 +142,10 @@ pub fn reduce(
     ensures within { λ r. ⌜ r ≤ length (now (from .entry)) ⌝ }
     ensures keeps { λ r. ⌜ rows r (now («out_from» .exit)) (now («out_to» .exit)) ≡ keep (shape arity roots) (table (now (from .entry)) (now (to .entry))) ⌝ }
 {
+    if !joinable::has_join(from, to, arity) {
+        copy_pairs(from, to, out_from, out_to);
+        return from.len();
+    }
     let start = Cursor { read: 0, write: 0 };
     let c = reduce_ways(
         from,

@@ -15,9 +15,7 @@ use Rattle.words.specs.Packed.{unpack}
 use Rattle.words.specs.Bytes.{shape}
 use Rattle.words.proofs.Packing.{unpack-zero}
 use Rattle.columns.specs.Packed.{wordsOf}
-use Rattle.columns.specs.Columns.{AtBlock, Walked}
-use Rattle.columns.specs.declared.Cover.{Cover}
-use Rattle.columns.specs.declared.Cover.the-variants.{UpTo, Gap}
+use Rattle.columns.specs.Columns.{Walkable, AtBlock, Walked}
 use Rattle.columns.proofs.Covered.{all-done, all-stop, all-pass, gap-deep, longest-fits}
 use Rattle.columns.proofs.Walks.{at-start, at-later, walked-same}
 use Rattle.columns.proofs.has_gap.Statement.{statement}
@@ -40,11 +38,18 @@ abbrev μ-loop : tie.MeasureT-loop
 loop-holds : tie.Need-loop-holds Inv-loop μ-loop
 loop-holds c =
     let a = c .before .args in
-    let n : a .roots ≡ a .roots + 1 - 1 = omega arith in
-    (omega arith, omega arith, ap (λ m. all (rootCovered (a .column .now) (a .arity)) (count 1 m)) n, at-start (a .column .now) (1 ∷ []))
+    let n : a .roots ≡ a .roots + 1 - 1 = omega arith in (
+      omega arith,
+      omega arith,
+      ap (λ m. all (rootCovered (a .column .now) (a .arity)) (count 1 m)) n,
+      at-start (shape (a .arity) (a .roots)) (a .column .now) (c .before .pre .1 .3),
+    )
 
 -- what is left to look at decides
-gap-left : (c : tie.At-loop Inv-loop μ-loop) → let a = c .before .before .args in gap (shape (a .arity) (a .roots)) (wordsOf (a .column .now)) ≡ not (all (rootCovered (a .column .now) (a .arity)) (count (c .loop .root) (a .roots + 1 - c .loop .root)))
+gap-left : (c : tie.At-loop Inv-loop μ-loop)
+    → let a = c .before .before .args in
+    gap (shape (a .arity) (a .roots)) (wordsOf (a .column .now))
+    ≡ not (all (rootCovered (a .column .now) (a .arity)) (count (c .loop .root) (a .roots + 1 - c .loop .root)))
 unfolding maxDigits
 gap-left c =
     let start = c .before .before in
@@ -57,10 +62,13 @@ root-word : (c : tie.After-child Inv-loop μ-loop) → unpack (c .child .result)
 root-word c = c .child .ensures ∙ ap (λ w. child w (c .before .before .loop .root)) unpack-zero
 
 -- what the walk over the root answers
-root-walked : (c : tie.After-covered-block Inv-loop μ-loop) (r : Cover) → c .covered-block .result ≡ r → let l = c .before .before .before in let a = l .before .before .args in Walked (a .column .now) (l .loop .root ∷ []) (rootCovered (a .column .now) (a .arity) (l .loop .root)) r
-root-walked c r e =
+root-walked : (c : tie.After-covered-block Inv-loop μ-loop)
+    → let l = c .before .before .before in
+    let a = l .before .before .args in
+    Walked (a .column .now) (l .loop .root ∷ []) (rootCovered (a .column .now) (a .arity) (l .loop .root)) (c .covered-block .result)
+root-walked c =
     let a = c .before .before .before .before .before .args in
-    walked-same (a .column .now) (covered (a .arity) (wordsOf (a .column .now)) 15) (root-word (c .before)) e (c .covered-block .ensures)
+    walked-same (a .column .now) (covered (a .arity) (wordsOf (a .column .now)) 15) (root-word (c .before)) (c .covered-block .ensures)
 
 child-requires : tie.Need-child-requires Inv-loop μ-loop
 unfolding maxDigits
@@ -72,20 +80,20 @@ covered-block-requires c κs =
     let l = c .before .before in
     let start = l .before .before in
     let a = start .args in
-    (start .pre .0, (start .pre .1 .0, start .pre .1 .1, omega (arith, ap length (root-word c)), subst (λ w. AtBlock (a .column .now) w (l .loop .at)) (sym (root-word c)) (l .loop .inv .3)))
-
-enum-known-next : tie.Need-enum-known-next Inv-loop μ-loop
-enum-known-next c = search needs
-
-enum-told : tie.Need-enum-told Inv-loop μ-loop
-enum-told c = search needs
+    let (in-order, apart) = start .pre .0 in
+    let (low, high, few, words) = start .pre .1 in
+    let may : Walkable (a .arity) (a .column .now) = record { in-order = in-order; apart = apart; roots = a .roots; words = words } in
+    let one = ap length (root-word c) in
+    let here = subst (λ w. AtBlock (a .column .now) w (l .loop .at)) (sym (root-word c)) (l .loop .inv .3) in
+    ((may, low, high), (omega (arith, one), omega (arith, one), here))
 
 returns : tie.Need-returns Inv-loop μ-loop
 returns c =
-    let call = c .before .before in
+    let call = c .before in
     let l = call .before .before .before in
     let a = l .before .before .args in
-    let stop = all-stop (rootCovered (a .column .now) (a .arity)) (l .loop .root) (a .roots) (call .before .before .loop-test .taken) (root-walked call Gap (c .enum-told .given .1)) in
+    let missed = root-walked call .misses (c .if1 .taken) in
+    let stop = all-stop (rootCovered (a .column .now) (a .arity)) (l .loop .root) (a .roots) (call .before .before .loop-test .taken) missed in
     sym (gap-left l ∙ ap not stop)
 
 add-root : tie.Need-add-root Inv-loop μ-loop
@@ -96,15 +104,13 @@ loop-less c = omega arith
 
 loop-again : tie.Need-loop-again Inv-loop μ-loop
 loop-again c =
-    let known = c .before in
-    let call = known .before .before in
+    let call = c .before in
     let l = call .before .before .before in
     let a = l .before .before .args in
     let root = l .loop .root in
-    let next = known .next .given .0 .0 in
-    let walked = root-walked call (UpTo next) (known .next .given .1) in
+    let walked = root-walked call .covers (c .if1 .left) in
     let pass = all-pass (rootCovered (a .column .now) (a .arity)) root (a .roots) (call .before .before .loop-test .taken) (walked .0) in
-    (omega arith, omega arith, l .loop .inv .2 ∙ pass, at-later (a .column .now) [] next root (root + 1) (omega arith) (walked .1))
+    (omega arith, omega arith, l .loop .inv .2 ∙ pass, at-later (a .column .now) [] (call .covered-block .result) root (walked .1))
 
 returns-2 : tie.Need-returns-2 Inv-loop μ-loop
 returns-2 c =
@@ -115,16 +121,4 @@ returns-2 c =
 pub has-gap-spec : {M : Type 1} → statement M
 has-gap-spec =
     tie.close
-    (tie.spec
-    Inv-loop
-    μ-loop
-    loop-holds
-    child-requires
-    covered-block-requires
-    enum-known-next
-    enum-told
-    returns
-    add-root
-    loop-less
-    loop-again
-    returns-2)
+    (tie.spec Inv-loop μ-loop loop-holds child-requires covered-block-requires returns add-root loop-less loop-again returns-2)

@@ -20,7 +20,7 @@ use Rattle.operations.specs.declared.Closed.{Closed}
 use Rattle.operations.specs.Plans.{packed}
 use Rattle.operations.specs.Closing.{faultOf, verdictOf}
 use Rattle.operations.proofs.KeptValues.{pair-limit}
-use Rattle.operations.proofs.Verdicts.{verdictBy, closing-by, verdict-by-columns, accepted-bases}
+use Rattle.operations.proofs.Verdicts.{verdictBy, closing-by, verdict-by-columns, words-of-plan, accepted-bases}
 use Rattle.operations.proofs.Reordered.{SortedFront, front-keys-room, front-values-room, front-keys-long, front-values-long}
 use Rattle.operations.proofs.Reordered.{front-reducible, front-kept}
 use Rattle.operations.proofs.closing.close.Statement.{statement}
@@ -103,7 +103,13 @@ fault-in-requires : tie.Need-fault-in-requires
 fault-in-requires c κs =
     let z = c .before .before in
     let f = length-take-le (z .args .n) (z .args .from) (from-inside z) in
-    (f ∙ sym (length-take-le (z .args .n) (z .args .to) (to-inside z)), z .pre .in-range, omega (arith, f, z .pre .few))
+    let words = words-of-plan (s z) (wordsOf (take (z .args .n) (z .args .from))) (z .pre .from-words) in
+    (f ∙ sym (length-take-le (z .args .n) (z .args .to) (to-inside z)), z .pre .in-range, omega (arith, f, z .pre .few), words)
+
+fault-of-requires : tie.Need-fault-of-requires
+fault-of-requires c κs =
+    let z = entry (c .before .before .before .before) in
+    (z .pre .few, z .pre .in-range, words-of-plan (s z) (wordsOf (take (z .args .n) (z .args .to))) (z .pre .to-words))
 
 keep-sorted-requires : tie.Need-keep-sorted-requires
 keep-sorted-requires c κs =
@@ -146,7 +152,7 @@ close-spec =
     (λ c. search needs)
     (λ c κs. search needs)
     (λ c. search needs)
-    (λ c κs. search needs)
+    fault-of-requires
     (λ c. search needs)
     (λ c κs. search needs)
     (λ c. search needs)

@@ -24,7 +24,7 @@ unfolding maxPairs
 slice-aggregate-fault-in-2 c = simp length-take (omega arith)
 
 fault-in-requires : tie.Need-fault-in-requires
-fault-in-requires c κs = (search needs, search needs, simp length-take (omega arith))
+fault-in-requires c κs = (search needs, search needs, simp length-take (omega arith), search needs)
 
 pub fault-of-spec : {M : Type 1} → statement M
 fault-of-spec =

@@ -10,7 +10,7 @@ use Rattle.operations.specs.declared.Fault.{Fault}
 use Rattle.operations.specs.declared.Fault.the-variants.{Sound}
 use Rattle.operations.specs.declared.Verdict.{Verdict}
 use Rattle.operations.specs.Closing.{faultOf, verdictOf}
-use Rattle.operations.proofs.Verdicts.{verdictBy, verdict-by-columns}
+use Rattle.operations.proofs.Verdicts.{verdictBy, verdict-by-columns, words-of-plan}
 use Rattle.operations.proofs.closing.judge.Statement.{statement}
 use Rattle.operations.proofs.closing.judge.Tie as tie
 
@@ -40,6 +40,19 @@ both-faults c =
     ∙ ap (λ f. verdictBy f (to-fault (first .before))) (c .before .enum-told .given .1)
     ∙ ap (verdictBy Sound) (sym (c .fault-of2 .ensures))
 
+fault-of-requires : tie.Need-fault-of-requires
+fault-of-requires c κs =
+    let a = c .args in
+    let words = words-of-plan (shape (a .arity) (a .roots)) (wordsOf (take (a .n) (a .from))) (c .pre .from-words) in
+    (c .pre .few, c .pre .in-range, words)
+
+fault-of-requires-2 : tie.Need-fault-of-requires-2
+fault-of-requires-2 c κs =
+    let z = c .before .before .before in
+    let a = z .args in
+    let words = words-of-plan (shape (a .arity) (a .roots)) (wordsOf (take (a .n) (a .to))) (z .pre .to-words) in
+    (z .pre .few, z .pre .in-range, words)
+
 returns : tie.Need-returns
 returns c =
     let first = c .before .before .before in
@@ -55,10 +68,10 @@ pub judge-spec : {M : Type 1} → statement M
 judge-spec =
     tie.close
     (tie.spec
-    (λ c κs. search needs)
+    fault-of-requires
     (λ c. search needs)
     (λ c. search needs)
-    (λ c κs. search needs)
+    fault-of-requires-2
     (λ c. search needs)
     (λ c. search needs)
     returns

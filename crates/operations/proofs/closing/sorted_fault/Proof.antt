@@ -29,7 +29,7 @@ has-gap-requires : tie.Need-has-gap-requires
 has-gap-requires c κs =
     let z = entry c in
     let r = in-range (shape (z .args .arity) (z .args .roots)) (z .pre .1) in
-    ((z .pre .0, no-overlap c), (omega (arith, r .arity-low), r .arity-high, r .roots-high))
+    ((z .pre .0, no-overlap c), (omega (arith, r .arity-low), r .arity-high, r .roots-high, z .pre .2))
 
 returns-2 : tie.Need-returns-2
 returns-2 c =

@@ -7,7 +7,7 @@ use Rattle.higman.proofs.Tests.{T-of}
 use Rattle.operations.specs.Plans.{isDraft}
 use Rattle.operations.proofs.Sizes.{columns-even}
 use Rattle.plans.specs.Answers.{judgementBy}
-use Rattle.plans.proofs.DraftChecks.{draft-of, judged-none, judged-draft}
+use Rattle.plans.proofs.DraftChecks.{draft-of, draft-columns, judged-none, judged-draft}
 use Rattle.plans.proofs.drafts.verdict.Statement.{statement}
 use Rattle.plans.proofs.drafts.verdict.Tie as tie
 
@@ -25,8 +25,7 @@ judge-requires c κs =
     let test = c .before .before in
     let z = test .before .before in
     let p = z .args .draft in
-    let d = draft-of p (columns-even p _ (z .good .0)) (T-of (passed test)) in
-    (d .few, d .in-range)
+    draft-columns p (draft-of p (columns-even p _ (z .good .0)) (T-of (passed test)))
 
 returns-2 : tie.Need-returns-2
 returns-2 c =

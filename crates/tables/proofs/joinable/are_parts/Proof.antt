@@ -1,4 +1,4 @@
--- `tables::reduce::are_parts` meets its contract. The invariant: whether all pairs are alike is whether those still to compare are.
+-- `tables::joinable::are_parts` meets its contract. The invariant: whether all pairs are alike is whether those still to compare are.
 -- The measure is the number of these.
 use Prim.Native.Nat.{ℕ, _+_, _-_, _≤_}
 use mathlib.Core.Path.{_≡_, refl, sym, _∙_, ap}
@@ -12,8 +12,8 @@ use Rattle.higman.specs.Words.{child}
 use Rattle.higman.specs.Bases.{sameWord}
 use Rattle.words.specs.Packed.{unpack}
 use Rattle.tables.proofs.Joins.{alike, alike-none, alike-step}
-use Rattle.tables.proofs.reduce.are_parts.Statement.{statement}
-use Rattle.tables.proofs.reduce.are_parts.Tie as tie
+use Rattle.tables.proofs.joinable.are_parts.Statement.{statement}
+use Rattle.tables.proofs.joinable.are_parts.Tie as tie
 
 record Comparing (f t : List ℕ) (at w v n k i : ℕ) : Type 0 where
   digit : 1 ≤ i

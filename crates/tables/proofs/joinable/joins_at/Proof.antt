@@ -1,4 +1,4 @@
--- `tables::normal::joins_at` meets its contract: in each of the four ways out before the parts are compared the first pair is not a
+-- `tables::joinable::joins_at` meets its contract: in each of the four ways out before the parts are compared the first pair is not a
 -- first part, or has no word of at least a belt above it.
 use Prim.Native.Nat.{_<_}
 use mathlib.Core.Path.{sym, _∙_}
@@ -6,8 +6,8 @@ use borrow.Author.Needs.{needs}
 use native.Mathlib.Omega.{arith}
 use lib.ListN.{length}
 use Rattle.tables.proofs.Joining.{from-digit, to-digit, from-belt, to-belt, by-parts}
-use Rattle.tables.proofs.normal.joins_at.Statement.{statement}
-use Rattle.tables.proofs.normal.joins_at.Tie as tie
+use Rattle.tables.proofs.joinable.joins_at.Statement.{statement}
+use Rattle.tables.proofs.joinable.joins_at.Tie as tie
 
 -- a pair stands at the place
 from-place : (z : tie.Start) → z .args .at < length (z .args .from .now)

@@ -1,10 +1,10 @@
--- `tables::reduce::is_part` meets its contract: the last digit tells one part from another, and the rest the block.
+-- `tables::joinable::is_part` meets its contract: the last digit tells one part from another, and the rest the block.
 use mathlib.Core.Path.{sym, _∙_}
 use borrow.Author.Needs.{needs}
 use Rattle.words.specs.Packed.{unpack}
 use Rattle.tables.proofs.Joins.{other-last, part-of}
-use Rattle.tables.proofs.reduce.is_part.Statement.{statement}
-use Rattle.tables.proofs.reduce.is_part.Tie as tie
+use Rattle.tables.proofs.joinable.is_part.Statement.{statement}
+use Rattle.tables.proofs.joinable.is_part.Tie as tie
 
 last-requires : tie.Need-last-requires
 last-requires c κs = search needs

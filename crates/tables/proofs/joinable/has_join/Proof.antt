@@ -1,4 +1,4 @@
--- `tables::normal::has_join` meets its contract. The invariant: pairs join exactly if pairs from the place on do. The measure is what is
+-- `tables::joinable::has_join` meets its contract. The invariant: pairs join exactly if pairs from the place on do. The measure is what is
 -- left of the column; fewer than n pairs do not join.
 use Prim.Native.Nat.{_+_, _-_, _≤_}
 use mathlib.Core.Path.{_≡_, refl, sym, _∙_, ap}
@@ -9,8 +9,8 @@ use lib.ListN.{length, drop}
 use Rattle.columns.specs.Packed.{table}
 use Rattle.tables.specs.Joining.{hasJoin}
 use Rattle.tables.proofs.Joining.{joins-from, joins-few}
-use Rattle.tables.proofs.normal.has_join.Statement.{statement}
-use Rattle.tables.proofs.normal.has_join.Tie as tie
+use Rattle.tables.proofs.joinable.has_join.Statement.{statement}
+use Rattle.tables.proofs.joinable.has_join.Tie as tie
 
 abbrev Inv-loop : tie.InvT-loop
 Inv-loop from to arity n at₀ at = (at ≤ length from) × (hasJoin arity (table from to) ≡ hasJoin arity (table (drop at from) (drop at to)))
