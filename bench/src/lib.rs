@@ -1,6 +1,8 @@
-//! The calls of the library of plans in plain Rust, written for speed: what the
-//! proved library is measured against. The program in `main.rs` measures.
+//! The calls of the library of plans and a desk in plain Rust, written for
+//! speed: what the proved ones are measured against. The program in `main.rs`
+//! measures the library, and the one in `bin/feeding.rs` a desk.
 
 pub mod arrays;
 pub mod measure;
+pub mod sessions;
 pub mod work;

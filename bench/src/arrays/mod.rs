@@ -3,6 +3,7 @@
 //! halves for codes. Every check of the library is made here too.
 
 mod columns;
+pub mod desk;
 mod table;
 mod words;
 

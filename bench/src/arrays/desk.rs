@@ -1,0 +1,256 @@
+//! A desk on arrays, for the records that are measured: P, M, E, F, I, K and W,
+//! from the bytes of a line to those of its reply. What stands in a slot is
+//! known to be a plan and isn't checked again. Changes aren't counted, and any
+//! other record is refused with 1.
+
+use std::io::Write;
+
+use library::{Plan, PLACES};
+
+use super::columns::{verdict, Column};
+use super::table::product;
+use super::words::{self, digits, Shape};
+use super::{inverse, kept, matching, power};
+use super::{BEYOND_LIMITS, SHAPES_DIFFER, SHORT_CODE, WRONG_CODE, WRONG_EXPONENT, WRONG_SLOT};
+
+const NO_RECORD: u8 = 1;
+const OUT_OF_TURN: u8 = 2;
+const WRONG_SHAPE: u8 = 3;
+const TOO_MANY_PAIRS: u8 = 5;
+const EMPTY_SLOT: u8 = 9;
+
+/// The most bytes of a line.
+const LINE_BYTES: usize = 1100;
+
+/// The number of a refusal, with the letter of a column or 0.
+struct Refusal(u8, u8);
+
+type Done = Result<(), Refusal>;
+
+fn no<T>(number: u8) -> Result<T, Refusal> {
+    Err(Refusal(number, 0))
+}
+
+/// Eight plans, the pairs of an open one and the beginning of a line.
+pub struct Desk {
+    slots: [Plan; 8],
+    draft: Plan,
+    open: Option<usize>,
+    begun: Vec<u8>,
+}
+
+impl Default for Desk {
+    fn default() -> Desk {
+        Desk {
+            slots: [Plan::ZERO; 8],
+            draft: Plan::ZERO,
+            open: None,
+            begun: Vec::new(),
+        }
+    }
+}
+
+impl Desk {
+    /// Takes the next bytes of input and adds the replies to all lines they
+    /// complete. A whole line is answered where it stands.
+    pub fn feed(&mut self, bytes: &[u8], out: &mut Vec<u8>) {
+        let mut rest = bytes;
+        while let Some(end) = rest.iter().position(|byte| *byte == b'\n') {
+            if self.begun.is_empty() {
+                self.answer(&rest[..end], out);
+            } else {
+                let mut line = std::mem::take(&mut self.begun);
+                line.extend_from_slice(&rest[..end]);
+                self.answer(&line, out);
+            }
+            rest = &rest[end + 1..];
+        }
+        self.begun.extend_from_slice(rest);
+    }
+
+    fn answer(&mut self, line: &[u8], out: &mut Vec<u8>) {
+        if let Err(Refusal(number, column)) = self.work(line, out) {
+            self.open = None;
+            out.extend(format!("no\t{number}").bytes());
+            if column != 0 {
+                out.extend([b'\t', column]);
+            }
+            out.push(b'\n');
+        }
+    }
+
+    fn work(&mut self, line: &[u8], out: &mut Vec<u8>) -> Done {
+        let mut fields = [&line[..0]; 5];
+        let mut parts = line.split(|byte| *byte == b'\t');
+        let count = fields
+            .iter_mut()
+            .zip(&mut parts)
+            .map(|(field, part)| *field = part)
+            .count();
+        if line.len() > LINE_BYTES {
+            return no(NO_RECORD);
+        }
+        match fields[..count] {
+            [b"W", &[a], code] => self.route(a, code, out),
+            [b"M", from, to] => self.pair(from, to),
+            [b"P", &[slot], &[n @ b'0'..=b'9'], &[r @ b'0'..=b'9']] => {
+                self.start(slot, n - b'0', r - b'0')
+            }
+            [b"E"] => self.close(out),
+            [b"F", &[a], &[b], &[c]] => self.follow([a, b, c], out),
+            [b"I", &[a], &[c]] => self.invert([a, c], out),
+            [b"K", &[a], k, &[c]] => self.raise([a, c], numeral(k)?, out),
+            _ => no(NO_RECORD),
+        }
+    }
+
+    fn start(&mut self, slot: u8, arity: u8, roots: u8) -> Done {
+        let [slot] = self.places([slot])?;
+        if !(2..=9).contains(&arity) || !(1..=9).contains(&roots) {
+            return no(WRONG_SHAPE);
+        }
+        self.open = Some(slot);
+        self.draft = Plan {
+            arity,
+            roots,
+            ..Plan::ZERO
+        };
+        Ok(())
+    }
+
+    fn pair(&mut self, from: &[u8], to: &[u8]) -> Done {
+        if self.open.is_none() {
+            return no(OUT_OF_TURN);
+        }
+        let draft = &mut self.draft;
+        let shape = shape(draft);
+        if from.len().max(to.len()) > 16
+            || !words::is_code(shape, from)
+            || !words::is_code(shape, to)
+        {
+            return no(WRONG_CODE);
+        }
+        if draft.pairs == PLACES {
+            return no(TOO_MANY_PAIRS);
+        }
+        draft.from[draft.pairs] = packed(from);
+        draft.to[draft.pairs] = packed(to);
+        draft.pairs += 1;
+        Ok(())
+    }
+
+    fn close(&mut self, out: &mut Vec<u8>) -> Done {
+        let Some(slot) = self.open else {
+            return no(OUT_OF_TURN);
+        };
+        let verdict = verdict(shape(&self.draft), &self.draft);
+        if verdict.number != 0 {
+            return Err(Refusal(verdict.number, verdict.column));
+        }
+        self.open = None;
+        let plan = kept(&self.draft);
+        self.keep(slot, plan, out)
+    }
+
+    fn follow(&mut self, letters: [u8; 3], out: &mut Vec<u8>) -> Done {
+        let [a, b, c] = self.places(letters)?;
+        let (a, b) = (self.held(a)?, self.held(b)?);
+        if shape(a) != shape(b) {
+            return no(SHAPES_DIFFER);
+        }
+        let starts = Column::new(&b.from, b.pairs);
+        match product(shape(a), a, b, &starts) {
+            None => no(BEYOND_LIMITS),
+            Some(plan) => self.keep(c, plan, out),
+        }
+    }
+
+    fn invert(&mut self, letters: [u8; 2], out: &mut Vec<u8>) -> Done {
+        let [a, c] = self.places(letters)?;
+        let plan = inverse(self.held(a)?);
+        self.keep(c, plan, out)
+    }
+
+    fn raise(&mut self, letters: [u8; 2], k: i32, out: &mut Vec<u8>) -> Done {
+        let [a, c] = self.places(letters)?;
+        if !(-1000..=1000).contains(&k) {
+            return no(WRONG_EXPONENT);
+        }
+        let a = self.held(a)?;
+        let base = if k < 0 { inverse(a) } else { *a };
+        match power(shape(a), &base, k.unsigned_abs()) {
+            None => no(BEYOND_LIMITS),
+            Some(plan) => self.keep(c, plan, out),
+        }
+    }
+
+    fn route(&mut self, letter: u8, code: &[u8], out: &mut Vec<u8>) -> Done {
+        let [a] = self.places([letter])?;
+        let plan = self.held(a)?;
+        if !words::is_code(shape(plan), code) {
+            return no(WRONG_CODE);
+        }
+        let Some(place) = matching(plan, code) else {
+            return no(SHORT_CODE);
+        };
+        let mut image = [0; 16];
+        let length = words::write(plan.to[place], &mut image);
+        out.extend_from_slice(b"ok\t");
+        out.extend_from_slice(&image[..length]);
+        out.extend_from_slice(&code[digits(plan.from[place]) as usize..]);
+        out.push(b'\n');
+        Ok(())
+    }
+
+    /// The slots of letters, for a record that comes while no plan is open.
+    fn places<const N: usize>(&self, letters: [u8; N]) -> Result<[usize; N], Refusal> {
+        if self.open.is_some() {
+            return no(OUT_OF_TURN);
+        }
+        if !letters.iter().all(|letter| (b'A'..=b'H').contains(letter)) {
+            return no(WRONG_SLOT);
+        }
+        Ok(letters.map(|letter| usize::from(letter - b'A')))
+    }
+
+    fn held(&self, slot: usize) -> Result<&Plan, Refusal> {
+        let plan = &self.slots[slot];
+        if plan.pairs == 0 {
+            return no(EMPTY_SLOT);
+        }
+        Ok(plan)
+    }
+
+    fn keep(&mut self, slot: usize, plan: Plan, out: &mut Vec<u8>) -> Done {
+        self.slots[slot] = plan;
+        writeln!(out, "ok\t{}", plan.pairs).expect("a vector takes all");
+        Ok(())
+    }
+}
+
+fn shape(plan: &Plan) -> Shape {
+    Shape {
+        arity: plan.arity,
+        roots: plan.roots,
+    }
+}
+
+fn packed(word: &[u8]) -> u64 {
+    word.iter()
+        .fold(0, |packed, byte| packed << 4 | u64::from(byte - b'0'))
+}
+
+/// "k an optional minus and one to four digits, no leading zero and no minus
+/// zero".
+fn numeral(field: &[u8]) -> Result<i32, Refusal> {
+    let (sign, size) = match field {
+        [b'-', size @ ..] => (-1, size),
+        size => (1, size),
+    };
+    let digits = matches!(size.len(), 1..=4) && size.iter().all(u8::is_ascii_digit);
+    if !digits || size[0] == b'0' && field.len() > 1 {
+        return no(NO_RECORD);
+    }
+    let number = |number, digit: &u8| number * 10 + i32::from(digit - b'0');
+    Ok(sign * size.iter().fold(0, number))
+}

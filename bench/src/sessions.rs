@@ -1,0 +1,102 @@
+//! Inputs of a desk that are measured: eight plans of 128 pairs, typed into the
+//! slots A to H, and then many records of one kind, made from a fixed seed. The
+//! plans permute the words of one basis, so that products and powers of them
+//! stay within the limits.
+
+use library::random::bases::{even_basis, splits_within};
+use library::random::{plans, Rng};
+use reference::{Shape, Word};
+
+/// The shape of all plans that are measured: that of binary trees.
+const SHAPE: Shape = Shape { arity: 2, roots: 1 };
+const PAIRS: usize = 128;
+
+/// An input, how many records of its kind there are to share the time, and how
+/// many records are to be refused.
+pub struct Session {
+    pub name: &'static str,
+    pub records: usize,
+    pub refused: usize,
+    pub input: String,
+}
+
+/// All inputs, in the order of the table. Operands are in A to D, results go
+/// to E to H. M by itself is a plan that is typed and then dropped, because a
+/// record that doesn't belong to it is refused.
+pub fn sessions() -> Vec<Session> {
+    let rng = &mut Rng::new(2026);
+    let words = even_basis(rng, SHAPE, splits_within(SHAPE, PAIRS));
+    let typed = typed(rng, &words);
+    let session = |name, records: usize, record: &mut dyn FnMut(usize) -> String| {
+        let mut input = typed.concat();
+        (0..records).for_each(|place| input += &record(place));
+        Session {
+            name,
+            records,
+            refused: 0,
+            input,
+        }
+    };
+    let mut all = vec![
+        session("W, 12 to 40 digits", 1_000_000, &mut |_| {
+            format!("W\t{}\t{}\n", letter(rng, b'A', 8), code(rng, &words))
+        }),
+        session("F", 20_000, &mut |_| {
+            let [a, b] = [(); 2].map(|()| letter(rng, b'A', 4));
+            format!("F\t{a}\t{b}\t{}\n", letter(rng, b'E', 4))
+        }),
+        session("I", 50_000, &mut |_| {
+            format!("I\t{}\t{}\n", letter(rng, b'A', 4), letter(rng, b'E', 4))
+        }),
+        session("K, power 10", 2_000, &mut |_| {
+            let a = letter(rng, b'A', 4);
+            format!("K\t{a}\t10\t{}\n", letter(rng, b'E', 4))
+        }),
+        session("a plan: P, 128 M, E", 2_000, &mut |place| {
+            typed[place % 8].clone()
+        }),
+        session("M", 2_000, &mut |place| {
+            typed[place % 8].replace("E\n", "W\tA\t1\n")
+        }),
+    ];
+    if let Some(pairs) = all.last_mut() {
+        pairs.refused = pairs.records;
+        pairs.records *= PAIRS;
+    }
+    all
+}
+
+/// The records that keep a plan of 128 pairs in each slot, in any order.
+fn typed(rng: &mut Rng, words: &[Word]) -> Vec<String> {
+    (b'A'..=b'H')
+        .map(|slot| loop {
+            let mut rows = plans::permuted(rng, words);
+            if plans::kept(SHAPE, &rows).size() == PAIRS {
+                rng.shuffle(&mut rows);
+                let pairs: String = rows
+                    .iter()
+                    .map(|(from, to)| format!("M\t{}\t{}\n", digits(from), digits(to)))
+                    .collect();
+                return format!("P\t{}\t2\t1\n{pairs}E\n", char::from(slot));
+            }
+        })
+        .collect()
+}
+
+fn digits(word: &Word) -> String {
+    word.iter().map(|digit| char::from(*digit)).collect()
+}
+
+fn letter(rng: &mut Rng, first: u8, count: usize) -> char {
+    char::from(first + rng.below(count) as u8)
+}
+
+/// A code of 12 to 40 digits that begins with a word of the basis.
+fn code(rng: &mut Rng, words: &[Word]) -> String {
+    let mut code = digits(rng.pick(words));
+    let length = rng.between(12, 40);
+    while code.len() < length {
+        code.push(if rng.chance(50) { '1' } else { '2' });
+    }
+    code
+}

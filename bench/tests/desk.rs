@@ -1,0 +1,31 @@
+//! The desk on arrays held to the second implementation, on random sessions
+//! without the records that it doesn't know, whole and cut into pieces.
+
+use bench::arrays::desk::Desk;
+
+/// The letters of the records that aren't measured.
+const UNKNOWN: &[u8] = b"SLCTU";
+
+#[test]
+fn random_sessions() {
+    for seed in 0..100 {
+        let input = known(&sessions::session(seed));
+        let mut expected = Vec::new();
+        reference::Desk::new().feed(&input, &mut expected);
+        for size in [input.len(), 97] {
+            let mut desk = Desk::default();
+            let mut replies = Vec::new();
+            for piece in input.chunks(size) {
+                desk.feed(piece, &mut replies);
+            }
+            assert!(replies == expected, "seed {seed}, pieces of {size} bytes");
+        }
+    }
+}
+
+/// The lines that don't begin with an unknown letter, each with its byte 10.
+fn known(input: &[u8]) -> Vec<u8> {
+    let lines = input.split(|byte| *byte == b'\n');
+    let known = lines.filter(|line| line.first().is_none_or(|letter| !UNKNOWN.contains(letter)));
+    known.flat_map(|line| [line, b"\n"].concat()).collect()
+}
