@@ -9,6 +9,9 @@ ghost use Rattle.replies.specs.Sizes.{maxReply};
 ghost use Rattle.asking.specs.Asked.{Asked};
 ghost use Rattle.slots.specs.Desks.{deskOf};
 ghost use Rattle.desk_core.specs.Lines.{Working, LineDone, droppedHead, SettledBy, Answered};
+
+pub mod feeding;
+
 use records::Record;
 use slots::Head;
 use slots::Reply;
