@@ -1,0 +1,2 @@
+-- The law that the proofs of this crate's functions cite.
+pub mod Ends
