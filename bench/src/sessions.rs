@@ -41,18 +41,18 @@ pub fn sessions() -> Vec<Session> {
         session("W, 12 to 40 digits", 1_000_000, &mut |_| {
             format!("W\t{}\t{}\n", letter(rng, b'A', 8), code(rng, &words))
         }),
-        session("F", 20_000, &mut |_| {
+        session("F", 10_000, &mut |_| {
             let [a, b] = [(); 2].map(|()| letter(rng, b'A', 4));
             format!("F\t{a}\t{b}\t{}\n", letter(rng, b'E', 4))
         }),
         session("I", 50_000, &mut |_| {
             format!("I\t{}\t{}\n", letter(rng, b'A', 4), letter(rng, b'E', 4))
         }),
-        session("K, power 10", 2_000, &mut |_| {
+        session("K, power 10", 1_000, &mut |_| {
             let a = letter(rng, b'A', 4);
             format!("K\t{a}\t10\t{}\n", letter(rng, b'E', 4))
         }),
-        session("a plan: P, 128 M, E", 2_000, &mut |place| {
+        session("a plan: P, 128 M, E", 1_000, &mut |place| {
             typed[place % 8].clone()
         }),
         session("M", 2_000, &mut |place| {

@@ -14,7 +14,7 @@ use bench::arrays::desk;
 use bench::sessions::{sessions, Session};
 
 /// How often each program is run on each input; the best run counts.
-const ROUNDS: usize = 9;
+const ROUNDS: usize = 15;
 
 /// The bytes that are read at once.
 const PIECE: usize = 65536;
