@@ -16,9 +16,9 @@ use Rattle.slots.specs.Desks.{deskOf, HoldsDesk}
 use Rattle.slots.specs.Works.{deskOrder}
 use Rattle.desk_core.specs.declared.feeding.State.{State}
 use Rattle.desk_core.specs.declared.feeding.Finished.{Finished}
-use Rattle.desk_core.specs.Lines.{droppedHead}
+use Rattle.lines.specs.Lines.{droppedHead}
 use Rattle.desk_core.specs.Feeding.{stateOf, begunAt, HoldsState, LastAnswered, FinishedBy}
-use Rattle.desk_core.proofs.Settled.{dropped-is, holds-dropped}
+use Rattle.lines.proofs.Settled.{dropped-is, holds-dropped}
 
 -- a line has begun where some of it is held or it is too long
 pub ended-overlong : (s : State) → s .overlong ≡ true → isIdle (stateOf s) ≡ false

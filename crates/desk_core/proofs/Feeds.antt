@@ -23,10 +23,10 @@ use Rattle.replies.proofs.EveryReply.{replies-fit}
 use Rattle.slots.specs.Desks.{deskOf, HoldsDesk}
 use Rattle.slots.specs.Works.{deskOrder}
 use Rattle.slots.proofs.Windows.{written-length}
-use Rattle.desk_core.specs.declared.Stepped.{Stepped}
+use Rattle.lines.specs.declared.Stepped.{Stepped}
 use Rattle.desk_core.specs.declared.feeding.Begun.{Begun as Grown}
 use Rattle.desk_core.specs.declared.feeding.State.{State}
-use Rattle.desk_core.specs.Lines.{Answered}
+use Rattle.lines.specs.Lines.{Answered}
 use Rattle.desk_core.specs.Feeding.{stateOf, begunAt, HoldsState, Held, FedTo, LineEnd, grownLine, grownAt, GrownBy}
 use Rattle.desk_core.proofs.Runs.{run-next}
 use Rattle.desk_core.proofs.Grown.{begun-grows, some-line}

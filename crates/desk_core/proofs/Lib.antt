@@ -1,6 +1,4 @@
 -- The laws of lines and of input in pieces; the proofs of the functions cite them.
-pub mod Settled
-pub mod Performed
 pub mod Runs
 pub mod Grown
 pub mod Ended

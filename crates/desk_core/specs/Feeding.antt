@@ -16,12 +16,12 @@ use Rattle.replies.specs.Sizes.{maxReply}
 use Rattle.slots.specs.Desks.{deskOf, HoldsDesk}
 use Rattle.slots.specs.Works.{deskOrder}
 use Rattle.slots.specs.declared.Head.{Head}
-use Rattle.desk_core.specs.declared.Stepped.{Stepped}
+use Rattle.lines.specs.declared.Stepped.{Stepped}
 use Rattle.desk_core.specs.declared.feeding.Begun.{Begun}
 use Rattle.desk_core.specs.declared.feeding.State.{State}
 use Rattle.desk_core.specs.declared.feeding.Fed.{Fed}
 use Rattle.desk_core.specs.declared.feeding.Finished.{Finished}
-use Rattle.desk_core.specs.Lines.{Answered}
+use Rattle.lines.specs.Lines.{Answered}
 
 -- the desk, and what is held of the line that has begun
 unfoldable pub stateOf : State → StateOf

@@ -8,9 +8,9 @@ ghost use Rattle.higman.specs.Buffers.{written};
 ghost use Rattle.desk.specs.Desk.{freshDesk};
 ghost use Rattle.desk.specs.Session.{idle, effectOf};
 ghost use Rattle.asking.specs.Asked.{Asked};
-ghost use Rattle.desk_core.specs.Lines.{Answered};
+ghost use Rattle.lines.specs.Lines.{Answered};
 ghost use Rattle.desk_core.specs.Feeding.{stateOf, begunAt, HoldsState, Held, GrownBy, LineAnswered, LineEnd, FedBy, Finishing, LastAnswered, FinishedBy};
-use crate::Stepped;
+use lines::Stepped;
 use slots::COLUMNS;
 use slots::Desk;
 use slots::Head;
@@ -132,9 +132,9 @@ fn end_line(head: Head, columns: &mut [u64], line: &[u8], overlong: bool, out: &
 {
     if overlong {
         let work = slots::refused(head, numbers::NO_RECORD);
-        return crate::settle(work, out);
+        return lines::settle(work, out);
     }
-    crate::step(head, columns, line, out)
+    lines::step(head, columns, line, out)
 }
 
 // The rest of a line that has begun, up to its byte 10. A line that lies whole in the input is answered where it lies.
@@ -155,7 +155,7 @@ fn whole_line(
 {
     if begun == 0 {
         if !overlong {
-            return crate::step(head, columns, part, out);
+            return lines::step(head, columns, part, out);
         }
     }
     let grown = grow(line, begun, overlong, part);
@@ -247,7 +247,7 @@ fn last_line(
 {
     let mut words = columns;
     let s = end_line(head, &mut words, &line[..n], overlong, out);
-    let left = crate::dropped(s.head);
+    let left = lines::dropped(s.head);
     Finished {
         desk: Desk {
             head: left,
@@ -271,7 +271,7 @@ pub fn finish(state: State, out: &mut [u8]) -> Finished
         return last_line(head, columns, line, n, overlong, out);
     }
     if n == 0 {
-        let left = crate::dropped(head);
+        let left = lines::dropped(head);
         return Finished {
             desk: Desk {
                 head: left,

@@ -5,7 +5,7 @@ use mathlib.Core.Bool.{true, false}
 use borrow.Author.Needs.{needs}
 use Rattle.desk.specs.Session.{effectOf}
 use Rattle.slots.specs.Desks.{deskOf}
-use Rattle.desk_core.specs.Lines.{Answered}
+use Rattle.lines.specs.Lines.{Answered}
 use Rattle.desk_core.specs.Feeding.{begunAt}
 use Rattle.desk_core.proofs.Grown.{long-line, long-done, short-effect, long-effect}
 use Rattle.desk_core.proofs.feeding.end_line.Statement.{statement}

@@ -5,7 +5,7 @@ use native.Mathlib.Omega.{arith}
 use lib.Seq.{length-take-le}
 use Rattle.desk.specs.Desk.{dropped}
 use Rattle.slots.specs.Desks.{deskOf, HoldsDesk}
-use Rattle.desk_core.proofs.Settled.{dropped-is, holds-dropped}
+use Rattle.lines.proofs.Settled.{dropped-is, holds-dropped}
 use Rattle.desk_core.proofs.feeding.last_line.Statement.{statement}
 use Rattle.desk_core.proofs.feeding.last_line.Tie as tie
 

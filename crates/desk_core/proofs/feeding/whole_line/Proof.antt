@@ -10,7 +10,7 @@ use lib.Seq.{length-take-le}
 use Rattle.desk.specs.Replies.{respondLine}
 use Rattle.desk.specs.Session.{effectOf}
 use Rattle.slots.specs.Desks.{deskOf}
-use Rattle.desk_core.specs.Lines.{Answered}
+use Rattle.lines.specs.Lines.{Answered}
 use Rattle.desk_core.specs.Feeding.{grownAt, grownLine}
 use Rattle.desk_core.proofs.Grown.{grown-whole}
 use Rattle.desk_core.proofs.feeding.whole_line.Statement.{statement}
