@@ -36,11 +36,11 @@ pub fed-in-pieces : FedInPieces
 fed-in-pieces = record { two = feed-append; any = feed-pieces }
 
 -- a state answers for a line that has begun: it holds the line, or the line is too long
-data Begun (d : Desk) : State → Bytes → Type 0 where
+pub data Begun (d : Desk) : State → Bytes → Type 0 where
   kept : (l : Bytes) → length l ≤ maxLine → Begun d (record { desk = d; line = l; overlong = false }) l
   lost : (l : Bytes) → maxLine < length l → Begun d (record { desk = d; line = []; overlong = true }) l
 
-begun-effect : {d : Desk} {s : State} {l : Bytes} → Begun d s l → effectOf s ≡ respondLine d l
+pub begun-effect : {d : Desk} {s : State} {l : Bytes} → Begun d s l → effectOf s ≡ respondLine d l
 unfolding _>>=_ respondLine lineOperation
 begun-effect (kept l h) = refl
 begun-effect {d} (lost l h) = by-length (leb (length l) maxLine) refl
@@ -67,7 +67,7 @@ module _ (order : Order) where
   unfolding feedByte
   byte-ends s b e = rw (e, feedByte)
 
-  byte-inside : (s : State) (b : ℕ) → eqb b lineEnd ≡ false → feedByte order s b ≡ (grown s b, [])
+  pub byte-inside : (s : State) (b : ℕ) → eqb b lineEnd ≡ false → feedByte order s b ≡ (grown s b, [])
   unfolding feedByte
   byte-inside s b e = rw (e, feedByte)
 
@@ -96,10 +96,10 @@ unfolding session
 session-fed order input = fed-lines order input (kept [] zero-le)
 
 -- bytes without byte 10, by the first of them
-inside-first : (b : ℕ) (l : Bytes) → T (unended (b ∷ l)) → eqb b lineEnd ≡ false
+pub inside-first : (b : ℕ) (l : Bytes) → T (unended (b ∷ l)) → eqb b lineEnd ≡ false
 inside-first b l h = not-true (eqb b lineEnd) (so (not (eqb b lineEnd)) (all-head (λ c. not (eqb c lineEnd)) b l h))
 
-inside-rest : (b : ℕ) (l : Bytes) → T (unended (b ∷ l)) → T (unended l)
+pub inside-rest : (b : ℕ) (l : Bytes) → T (unended (b ∷ l)) → T (unended l)
 inside-rest b l h = all-tail (λ c. not (eqb c lineEnd)) b l h
 
 -- the lines of some bytes
@@ -125,7 +125,7 @@ lines-exact =
 
 module _ (order : Order) where
   -- a line that has begun, fed to its end
-  fed-line : (line rest : Bytes) {d : Desk} {s : State} {l : Bytes} → Begun d s l → T (unended line)
+  pub fed-line : (line rest : Bytes) {d : Desk} {s : State} {l : Bytes} → Begun d s l → T (unended line)
       → feed order s (line ++ lineEnd ∷ rest) ≡ thenFed order (respondLine d (l ++ line)) rest
   unfolding feed feedByte
   fed-line [] rest {d} {s} {l} g h = ap (λ e. thenFed order e rest) (begun-effect g ∙ ap (respondLine d) (sym (append-nil l)))
@@ -134,7 +134,7 @@ module _ (order : Order) where
       (fed-line line rest (begun-grown b g) (inside-rest b line h) ∙ ap (λ x. thenFed order (respondLine d x) rest) (append-assoc l (b ∷ []) line))
 
   -- and one that the input ends
-  fed-last : (line : Bytes) {d : Desk} {s : State} {l : Bytes} → Begun d s l → T (unended line)
+  pub fed-last : (line : Bytes) {d : Desk} {s : State} {l : Bytes} → Begun d s l → T (unended line)
       → Begun d (feed order s line .0) (l ++ line)
   unfolding feed
   fed-last [] {d} {s} {l} g h = subst (Begun d s) (sym (append-nil l)) g
@@ -143,7 +143,7 @@ module _ (order : Order) where
       subst (λ x. Begun d (feed order (x .0) line .0) (l ++ b ∷ line)) (sym (byte-inside order s b (inside-first b line h)))
       (subst (Begun d (feed order (grown s b) line .0)) (append-assoc l (b ∷ []) line) more)
 
-  finished : {d : Desk} {s : State} {b : ℕ} {l : Bytes} → Begun d s (b ∷ l)
+  pub finished : {d : Desk} {s : State} {b : ℕ} {l : Bytes} → Begun d s (b ∷ l)
       → finish order s ≡ (dropped (respondLine d (b ∷ l) .0), replyBytes order (respondLine d (b ∷ l) .1))
   unfolding finish
   finished (kept (b ∷ l) h) = refl

@@ -15,7 +15,7 @@ use Rattle.slots.specs.declared.Head.{Head}
 use Rattle.slots.specs.declared.Work.{Work}
 use Rattle.slots.specs.Desks.{deskOf, HoldsDesk}
 use Rattle.slots.specs.Works.{deskOrder, DoneBy}
-use Rattle.desk_core.specs.declared.Stepped.{Stepped}
+use Rattle.lines.specs.declared.Stepped.{Stepped}
 
 -- a desk, room for any reply, and a record that was read of a line
 pub record Working (h : Head) (columns : List ℕ) (line : Bytes) (r : Record) (out : List ℕ) : Type 0 where

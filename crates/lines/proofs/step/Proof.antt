@@ -1,4 +1,4 @@
--- `desk_core::step` meets its contract: what is read of a line means the record that the definitions read.
+-- `lines::step` meets its contract: what is read of a line means the record that the definitions read.
 use mathlib.Core.Path.{_≡_, sym, _∙_, ap, subst}
 use borrow.Author.Needs.{needs}
 use native.Mathlib.Omega.{arith}
@@ -10,8 +10,8 @@ use Rattle.records.specs.Reading.{meant, InBounds}
 use Rattle.records.proofs.Reading.{read-exact}
 use Rattle.slots.specs.Desks.{deskOf}
 use Rattle.slots.specs.Works.{DoneBy}
-use Rattle.desk_core.proofs.step.Statement.{statement}
-use Rattle.desk_core.proofs.step.Tie as tie
+use Rattle.lines.proofs.step.Statement.{statement}
+use Rattle.lines.proofs.step.Tie as tie
 
 abbrev start : tie.After-read → tie.Start
 start c = c .before .before .before .before

@@ -1,4 +1,4 @@
--- `desk_core::perform` meets its contract: each record goes to its work, with the parts of the line that it names.
+-- `lines::perform` meets its contract: each record goes to its work, with the parts of the line that it names.
 use Prim.Native.Nat.{ℕ, _^_, _<_}
 use mathlib.Core.Path.{_≡_, refl, sym, _∙_, ap, subst}
 use borrow.Author.Needs.{needs}
@@ -12,9 +12,9 @@ use Rattle.records.specs.declared.Record.the-variants.{Open, Pair, Close, Follo
 use Rattle.records.specs.Reading.{Within, InBounds}
 use Rattle.operations.proofs.Signs.{read, read-is}
 use Rattle.slots.specs.Works.{Done}
-use Rattle.desk_core.proofs.Performed.{line-done, no-line, small-fits}
-use Rattle.desk_core.proofs.perform.Statement.{statement}
-use Rattle.desk_core.proofs.perform.Tie as tie
+use Rattle.lines.proofs.Performed.{line-done, no-line, small-fits}
+use Rattle.lines.proofs.perform.Statement.{statement}
+use Rattle.lines.proofs.perform.Tie as tie
 
 abbrev start : tie.After-slice-known2 → tie.Start
 start c = c .before .before .before

@@ -19,7 +19,7 @@ use Rattle.slots.specs.declared.Work.{Work}
 use Rattle.slots.specs.Desks.{deskOf, HoldsDesk}
 use Rattle.slots.specs.Works.{refusing, DoneBy, Done}
 use Rattle.slots.proofs.Steps.{done-by-refusal}
-use Rattle.desk_core.specs.Lines.{LineDone}
+use Rattle.lines.specs.Lines.{LineDone}
 
 module _ (h : Head) (columns : List ℕ) (line : Bytes) (r : Record) (out : List ℕ) (w : Work) (columns′ out′ : List ℕ) where
   pub line-done : (x : Record) (m : DeskRecord) → r ≡ x → meant line x ≡ pass m → Done m h columns out w columns′ out′

@@ -22,8 +22,8 @@ use Rattle.slots.specs.declared.Work.{Work}
 use Rattle.slots.specs.Blocks.{valueAt}
 use Rattle.slots.specs.Desks.{deskOf, HoldsDesk}
 use Rattle.slots.specs.Works.{deskOrder, direct, told, deskAfter, replyTo, DoneBy}
-use Rattle.desk_core.specs.declared.Stepped.{Stepped}
-use Rattle.desk_core.specs.Lines.{droppedHead, Answered}
+use Rattle.lines.specs.declared.Stepped.{Stepped}
+use Rattle.lines.specs.Lines.{droppedHead, Answered}
 
 -- the open plan dropped
 pub dropped-is : (h : Head) (columns : List ℕ) → deskOf (droppedHead h) columns ≡ dropped (deskOf h columns)

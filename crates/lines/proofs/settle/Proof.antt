@@ -1,11 +1,11 @@
--- `desk_core::settle` meets its contract, by the form of the reply.
+-- `lines::settle` meets its contract, by the form of the reply.
 use mathlib.Core.Path.{_≡_}
 use borrow.Author.Needs.{needs}
 use native.Mathlib.Omega.{arith}
 use Rattle.replies.proofs.Sizes.{rooms}
-use Rattle.desk_core.proofs.Settled.{settled-silent, settled-written, settled-ok, settled-number, settled-refused, settled-column}
-use Rattle.desk_core.proofs.settle.Statement.{statement}
-use Rattle.desk_core.proofs.settle.Tie as tie
+use Rattle.lines.proofs.Settled.{settled-silent, settled-written, settled-ok, settled-number, settled-refused, settled-column}
+use Rattle.lines.proofs.settle.Statement.{statement}
+use Rattle.lines.proofs.settle.Tie as tie
 
 abbrev start : tie.After-head → tie.Start
 start c = c .before .before

@@ -1,0 +1,127 @@
+// The desk's answer to a line of bytes (document 01, "Records"): the line becomes a record, the record is worked on a head and lent
+// columns, and the reply is written at the front of the lent output. `step` promises an equality with `respondLine` of the crate `desk`,
+// through the desk that the head and columns hold.
+ghost use mathlib.Core.Path.{_≡_};
+ghost use Prim.Native.Nat.{_≤_};
+ghost use lib.ListN.{length};
+ghost use Rattle.desk.specs.Replies.{respondLine};
+ghost use Rattle.replies.specs.Sizes.{maxReply};
+ghost use Rattle.asking.specs.Asked.{Asked};
+ghost use Rattle.slots.specs.Desks.{deskOf};
+ghost use Rattle.lines.specs.Lines.{Working, LineDone, droppedHead, SettledBy, Answered};
+use records::Record;
+use slots::Head;
+use slots::Reply;
+use slots::Work;
+use slots::numbers;
+
+// A line that was answered: the head after it, and how many bytes its reply has.
+pub struct Stepped {
+    pub head: Head,
+    pub used: usize,
+}
+
+// "Any refusal drops an open plan and changes nothing else."
+pub fn dropped(head: Head) -> Head
+    ensures { λ r. ⌜ r ≡ droppedHead head ⌝ }
+{
+    let mut h = head;
+    h.is_open = false;
+    h
+}
+
+// The reply is written, unless it stands in the output already, and a refusal drops the open plan.
+pub fn settle(work: Work, out: &mut [u8]) -> Stepped
+    requires { ⌜ maxReply ≤ length (now out) ⌝ }
+    ensures { λ r. ⌜ SettledBy work (now (out .entry)) r (now (out .exit)) ⌝ }
+{
+    let head = work.head;
+    let reply = work.reply;
+    match reply {
+        Reply::Silent => Stepped {
+            head: head,
+            used: 0,
+        },
+        Reply::Written(used) => Stepped {
+            head: head,
+            used: used,
+        },
+        Reply::Ok => {
+            let used = replies::ok(out, 0);
+            Stepped {
+                head: head,
+                used: used,
+            }
+        }
+        Reply::Number(k) => {
+            let used = replies::ok_number(k, out, 0);
+            Stepped {
+                head: head,
+                used: used,
+            }
+        }
+        Reply::Refused(number) => {
+            let used = replies::no(number, out, 0);
+            let left = dropped(head);
+            Stepped {
+                head: left,
+                used: used,
+            }
+        }
+        Reply::RefusedIn(number, letter) => {
+            let used = replies::no_column(number, letter, out, 0);
+            let left = dropped(head);
+            Stepped {
+                head: left,
+                used: used,
+            }
+        }
+    }
+}
+
+// The work of the record that was read of a line.
+fn perform(head: Head, columns: &mut [u64], line: &[u8], record: Record, out: &mut [u8]) -> Work
+    requires { ⌜ Working head (now columns) (now line) «record» (now out) ⌝ }
+    ensures { λ r. ⌜ LineDone head (now (columns .entry)) (now (line .entry)) «record» (now (out .entry)) r (now (columns .exit)) (now (out .exit)) ⌝ }
+{
+    match record {
+        Record::Open { slot, arity, roots } => opening::open(head, slot, arity, roots),
+        Record::Pair { from, to } => {
+            let from_start = from.start;
+            let from_end = from.end;
+            let to_start = to.start;
+            let to_end = to.end;
+            opening::pair(
+                head,
+                columns,
+                &line[from_start..from_end],
+                &line[to_start..to_end],
+            )
+        }
+        Record::Close => changing::close(head, columns),
+        Record::Follow { a, b, c } => changing::follow(head, columns, a, b, c),
+        Record::Invert { a, c } => changing::invert(head, columns, a, c),
+        Record::Power { a, k, c } => changing::power(head, columns, a, k, c),
+        Record::Same { a, b } => asking::compare(head, columns, a, b),
+        Record::Route { a, code } => {
+            let start = code.start;
+            let end = code.end;
+            asking::route(head, columns, a, &line[start..end], out)
+        }
+        Record::List { a } => asking::list(head, columns, a, out),
+        Record::Empty { a } => changing::empty(head, columns, a),
+        Record::Count => asking::count(head),
+        Record::Survey => asking::survey(head, out),
+        Record::NoRecord => slots::refused(head, numbers::NO_RECORD),
+    }
+}
+
+// One line: the reply at the front of the output, and how long it is.
+pub fn step(head: Head, columns: &mut [u64], line: &[u8], out: &mut [u8]) -> Stepped
+    requires { ⌜ Asked head (now columns) (now out) ⌝ }
+    ensures { λ r. ⌜ Answered (respondLine (deskOf head (now (columns .entry))) (now (line .entry))) (now (out .entry)) r (now (columns .exit)) (now (out .exit)) ⌝ }
+{
+    let record = records::read(line);
+    let work = perform(head, columns, line, record, out);
+    settle(work, out)
+}
