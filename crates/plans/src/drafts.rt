@@ -16,7 +16,7 @@ ghost use Rattle.operations.specs.Plans.{zeros, isColumn, isDraft};
 ghost use Rattle.plans.specs.Answers.{judgementBy, judged};
 
 // Whether each number of a column holds a word that a plan of the shape may hold.
-fn are_words(column: &[u64], arity: u8, roots: u8) -> bool
+pub fn are_words(column: &[u64], arity: u8, roots: u8) -> bool
     ensures { λ r. ⌜ r ≡ all (isPlanWord (shape arity roots)) (wordsOf (now (column .entry))) ⌝ }
 {
     let mut i = 0;
@@ -30,7 +30,7 @@ fn are_words(column: &[u64], arity: u8, roots: u8) -> bool
 }
 
 // Whether nothing stands in a column.
-fn are_zeros(column: &[u64]) -> bool
+pub fn are_zeros(column: &[u64]) -> bool
     ensures { λ r. ⌜ r ≡ zeros (now (column .entry)) ⌝ }
 {
     let mut i = 0;

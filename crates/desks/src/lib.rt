@@ -1,0 +1,100 @@
+// Whether a head and columns that somebody made hold a desk (document 01, "When each operation says no": "a plan or desk handed in isn't
+// one as described above"): each slot holds a kept plan or nothing, an open plan is one as P and M make it, and the count is in its range.
+ghost use mathlib.Core.Path.{_≡_};
+ghost use Prim.Native.Nat.{_≤_};
+ghost use Rattle.higman.specs.Limits.{maxPairs};
+ghost use Rattle.slots.specs.Desks.{draftBlock};
+ghost use Rattle.slots.specs.Blocks.{InColumns, sizeAt, valueAt};
+ghost use Rattle.desks.specs.Tested.{slotTest, slotsTest, openTest, holdsTest};
+use operations::MAX_PAIRS;
+use operations::Plan;
+use operations::shapes;
+use plans::drafts;
+use slots::BLOCK;
+use slots::DRAFT;
+use slots::Desk;
+use slots::Head;
+use slots::blocks;
+
+// `maxChanges` of desk's Limits.antt, and the slots.
+const MAX_CHANGES: u32 = 4_000_000_000;
+
+const SLOTS: usize = 8;
+
+// Where the columns of the open plan start.
+const FROM: usize = DRAFT * BLOCK;
+
+const TO: usize = FROM + MAX_PAIRS;
+
+// Whether a slot may hold a value: a kept plan, or no pairs and no words.
+fn is_held(value: Plan) -> bool
+    ensures { λ r. ⌜ r ≡ slotTest value ⌝ }
+{
+    let from = value.from;
+    let to = value.to;
+    if value.pairs == 0 {
+        if !drafts::are_zeros(&from) {
+            return false;
+        }
+        return drafts::are_zeros(&to);
+    }
+    plans::kept::is_plan(value)
+}
+
+// Whether an open plan, if there is one, is as P and M make one.
+fn is_open_plan(head: Head, columns: &[u64]) -> bool
+    requires { ⌜ InColumns draftBlock (now columns) ⌝ }
+    requires { ⌜ sizeAt head draftBlock .pairs ≤ maxPairs ⌝ }
+    ensures { λ r. ⌜ r ≡ openTest head (valueAt head (now (columns .entry)) draftBlock) ⌝ }
+{
+    if !head.is_open {
+        return true;
+    }
+    let size = head.sizes[DRAFT];
+    let n = size.pairs;
+    if SLOTS <= head.slot {
+        return false;
+    }
+    if !shapes::in_range(size.arity, size.roots) {
+        return false;
+    }
+    if !drafts::are_words(blocks::part(columns, FROM, n), size.arity, size.roots) {
+        return false;
+    }
+    drafts::are_words(blocks::part(columns, TO, n), size.arity, size.roots)
+}
+
+// Whether each slot holds a kept plan or nothing.
+fn are_slots(head: Head, columns: &[u64]) -> bool
+    requires { ⌜ InColumns draftBlock (now columns) ⌝ }
+    ensures { λ r. ⌜ r ≡ slotsTest head (now (columns .entry)) ⌝ }
+{
+    let mut i = 0;
+    while i < SLOTS {
+        let value = blocks::value(head, columns, i);
+        if !is_held(value) {
+            return false;
+        }
+        i += 1;
+    }
+    true
+}
+
+// "a .. desk handed in isn't one as described above": whether it is one.
+pub fn is_desk(desk: Desk) -> bool
+    ensures { λ r. ⌜ r ≡ holdsTest (desk .head) (desk .columns) ⌝ }
+{
+    let head = desk.head;
+    let columns = desk.columns;
+    if MAX_CHANGES < head.changes {
+        return false;
+    }
+    let size = head.sizes[DRAFT];
+    if MAX_PAIRS < size.pairs {
+        return false;
+    }
+    if !is_open_plan(head, &columns) {
+        return false;
+    }
+    are_slots(head, &columns)
+}
