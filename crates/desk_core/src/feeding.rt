@@ -9,7 +9,8 @@ ghost use Rattle.desk.specs.Desk.{freshDesk};
 ghost use Rattle.desk.specs.Session.{idle, effectOf};
 ghost use Rattle.asking.specs.Asked.{Asked};
 ghost use Rattle.lines.specs.Lines.{Answered};
-ghost use Rattle.desk_core.specs.Feeding.{stateOf, begunAt, HoldsState, Held, GrownBy, LineAnswered, LineEnd, FedBy, Finishing, LastAnswered, FinishedBy};
+ghost use Rattle.desk_core.specs.Feeding.{stateOf, begunAt, HoldsState, Held, GrownBy, LineEnd};
+ghost use Rattle.desk_core.specs.Feeding.{LineAnswered, FedBy, Finishing, LastAnswered, FinishedBy};
 use lines::Stepped;
 use slots::COLUMNS;
 use slots::Desk;
@@ -128,7 +129,8 @@ fn grow(line: &mut [u8], begun: usize, overlong: bool, part: &[u8]) -> Begun
 // A line is whole: "a longer one, up to its byte 10, is one refusal".
 fn end_line(head: Head, columns: &mut [u64], line: &[u8], overlong: bool, out: &mut [u8]) -> Stepped
     requires { ⌜ Asked head (now columns) (now out) ⌝ }
-    ensures { λ r. ⌜ Answered (effectOf (begunAt head (now (columns .entry)) (now (line .entry)) overlong)) (now (out .entry)) r (now (columns .exit)) (now (out .exit)) ⌝ }
+    ensures { λ r. ⌜ Answered (effectOf (begunAt head (now (columns .entry)) (now (line .entry)) overlong)) (now (out .entry)) r
+        (now (columns .exit)) (now (out .exit)) ⌝ }
 {
     if overlong {
         let work = slots::refused(head, numbers::NO_RECORD);

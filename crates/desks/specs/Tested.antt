@@ -33,10 +33,12 @@ slotsTest h columns = all (λ i. slotTest (valueAt h columns i)) (count 0 slotCo
 abbrev pub wordsTest : Plan → List ℕ → Bool
 wordsTest v column = all (isPlanWord (shapeOf v)) (wordsOf (take (v .pairs) column))
 
--- an open plan as P and M make one
+-- an open plan as P and M make one: for a slot, of a shape in its range, with words in both columns
+abbrev pub draftTest : ℕ → Plan → Bool
+draftTest slot v = leb (suc slot) slotCount && shapeInRange (shapeOf v) && wordsTest v (v .from) && wordsTest v (v .to)
+
 abbrev pub openTest : Head → Plan → Bool
-openTest h v =
-    elim (h .is_open) [ false ↦ true | true ↦ leb (suc (h .slot)) slotCount && shapeInRange (shapeOf v) && wordsTest v (v .from) && wordsTest v (v .to) ]
+openTest h v = elim (h .is_open) [ false ↦ true | true ↦ draftTest (h .slot) v ]
 
 unfoldable pub holdsTest : Head → List ℕ → Bool
 holdsTest h columns =
@@ -49,9 +51,11 @@ value = record { arity = 2; roots = 1; pairs = 0; from = 0x11 ∷ []; to = 0x11 
 -- the test says what a desk in code is
 abbrev pub HoldsExact : Type 0
 HoldsExact =
-    (h : Head) (columns : List ℕ) → length (h .sizes) ≡ blockCount → length columns ≡ columnsSize → T (holdsTest h columns) ↔ HoldsDesk h columns
+    (h : Head) (columns : List ℕ) → length (h .sizes) ≡ blockCount → length columns ≡ columnsSize
+    → T (holdsTest h columns) ↔ HoldsDesk h columns
 
 -- no plan; a word without a pair; the plan that moves nothing, and the same on two pairs, which is not reduced
-slotTest-example : map slotTest (blank ∷ value ∷ value21 (row 1 1 ∷ []) ∷ value21 (row 11 11 ∷ row 12 12 ∷ []) ∷ []) ≡ true ∷ false ∷ true ∷ false ∷ []
+slotTest-example : map slotTest (blank ∷ value ∷ value21 (row 1 1 ∷ []) ∷ value21 (row 11 11 ∷ row 12 12 ∷ []) ∷ [])
+    ≡ true ∷ false ∷ true ∷ false ∷ []
 unfolding isPlan inTable isKept shapeInRange granted maxPairs maxDigits verdict keep normalForm normal joined packed blank pack packOn unpack unpackIn
 slotTest-example = refl

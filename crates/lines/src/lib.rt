@@ -82,7 +82,8 @@ pub fn settle(work: Work, out: &mut [u8]) -> Stepped
 // The work of the record that was read of a line.
 fn perform(head: Head, columns: &mut [u64], line: &[u8], record: Record, out: &mut [u8]) -> Work
     requires { ⌜ Working head (now columns) (now line) «record» (now out) ⌝ }
-    ensures { λ r. ⌜ LineDone head (now (columns .entry)) (now (line .entry)) «record» (now (out .entry)) r (now (columns .exit)) (now (out .exit)) ⌝ }
+    ensures { λ r. ⌜ LineDone head (now (columns .entry)) (now (line .entry)) «record» (now (out .entry)) r
+        (now (columns .exit)) (now (out .exit)) ⌝ }
 {
     match record {
         Record::Open { slot, arity, roots } => opening::open(head, slot, arity, roots),
@@ -119,7 +120,8 @@ fn perform(head: Head, columns: &mut [u64], line: &[u8], record: Record, out: &m
 // One line: the reply at the front of the output, and how long it is.
 pub fn step(head: Head, columns: &mut [u64], line: &[u8], out: &mut [u8]) -> Stepped
     requires { ⌜ Asked head (now columns) (now out) ⌝ }
-    ensures { λ r. ⌜ Answered (respondLine (deskOf head (now (columns .entry))) (now (line .entry))) (now (out .entry)) r (now (columns .exit)) (now (out .exit)) ⌝ }
+    ensures { λ r. ⌜ Answered (respondLine (deskOf head (now (columns .entry))) (now (line .entry))) (now (out .entry)) r
+        (now (columns .exit)) (now (out .exit)) ⌝ }
 {
     let record = records::read(line);
     let work = perform(head, columns, line, record, out);

@@ -2,17 +2,19 @@
 use Prim.Native.Nat.{ℕ, _≤_, _<_}
 use mathlib.Core.Path.{_≡_, refl}
 use mathlib.Core.Bool.{true, false}
-use mathlib.Core.List.{List, map}
+use mathlib.Core.List.{List, [], _∷_, _++_, map}
 use mathlib.Core.Option.{Option, none, some}
 use lib.Dec.{T, eqb}
-use lib.ListN.{length}
+use lib.ListN.{length, replicate}
 use Rattle.higman.specs.Words.{count}
+use Rattle.higman.specs.Tables.{row}
 use Rattle.higman.specs.Limits.{Plan as PlanOf, maxPairs, slotCount}
-use Rattle.desk.specs.Desk.{Draft, Desk, IsDesk}
+use Rattle.words.specs.Packed.{unpackIn, unpack}
+use Rattle.desk.specs.Desk.{Draft, Desk, IsDesk, freshDesk, changed}
 use Rattle.operations.specs.declared.Plan.{Plan}
-use Rattle.operations.specs.Plans.{shapeOf, rowsOf, planOf, inTable}
+use Rattle.operations.specs.Plans.{shapeOf, rowsOf, planOf, inTable, blank}
 use Rattle.slots.specs.declared.Head.{Head}
-use Rattle.slots.specs.Blocks.{blockCount, columnsSize, sizeAt, valueAt}
+use Rattle.slots.specs.Blocks.{blockCount, columnsSize, noSize, sizeAt, valueAt, put, filledHead}
 
 -- the block of the open plan, behind those of the slots
 abbrev pub draftBlock : ℕ
@@ -47,3 +49,21 @@ pub record HoldsDesk (h : Head) (columns : List ℕ) : Type 0 where
   pub in-tables : (i : ℕ) → i < slotCount → T (inTable (valueAt h columns i))
   -- an open plan has its pairs in its block
   pub few : sizeAt h draftBlock .pairs ≤ maxPairs
+
+-- 11→12, 12→11 in slot A, as the columns hold it, and the slot emptied again
+abbrev heldHead : Head
+heldHead = record { sizes = record { arity = 2; roots = 1; pairs = 2 } ∷ replicate 8 noSize; is_open = false; slot = 0; changes = 1 }
+
+abbrev heldColumns : List ℕ
+heldColumns = (0x11 ∷ 0x12 ∷ replicate 126 0) ++ (0x12 ∷ 0x11 ∷ replicate 126 0)
+
+abbrev exchange : PlanOf
+exchange = record { shape = record { arity = 2; roots = 1 }; rows = row 11 12 ∷ row 12 11 ∷ [] }
+
+deskOf-example : deskOf heldHead heldColumns ≡ changed freshDesk 0 (some exchange)
+unfolding deskOf valueAt slotCount freshDesk changed maxPairs unpack unpackIn
+deskOf-example = refl
+
+emptied-example : deskOf (filledHead heldHead 0 blank) (put heldColumns 0 blank) ≡ changed (changed freshDesk 0 (some exchange)) 0 none
+unfolding deskOf valueAt filledHead put blank slotCount freshDesk changed maxPairs unpack unpackIn
+emptied-example = refl

@@ -1,14 +1,15 @@
 -- What a record does to a head and its columns, and its reply: `operation` of desk's Replies.antt, through the desk that they hold. The
 -- reply is told by a value, and written later, but for an image, a listing and a survey, which are written where they are found.
 use Prim.Native.Nat.{ℕ, _<_}
-use mathlib.Core.Path.{_≡_}
+use mathlib.Core.Path.{_≡_, refl}
 use mathlib.Core.Bool.{true, false}
-use mathlib.Core.List.{List, []}
+use mathlib.Core.List.{List, [], _∷_, map}
 use mathlib.Core.Option.{none, some}
 use lib.ListN.{length}
 use Rattle.higman.specs.Limits.{Plan, Kept, slotCount}
 use Rattle.higman.specs.Answers.{Answer, Granted}
-use Rattle.higman.specs.Text.{Bytes}
+use Rattle.higman.specs.Words.{spell}
+use Rattle.higman.specs.Text.{Bytes, bytes}
 use Rattle.higman.specs.Refusals.{Letter, letterByte}
 use Rattle.higman.specs.Buffers.{written}
 use Rattle.desk.specs.Desk.{Desk}
@@ -109,3 +110,13 @@ pub record Keepable (h : Head) (columns : List ℕ) (i : ℕ) (made : Making) : 
 abbrev pub DoneKeeping : Head → ℕ → Making → List ℕ → Work → List ℕ → Type 0
 DoneKeeping h i made columns w columns′ =
     (r : Record) (answer : Answer) → Makes made answer → ToKeep r (deskOf h columns) i answer → DoneSilently r h columns w columns′
+
+-- a reply by its form; "ok⇥12" and byte 10 are six bytes
+told-example : map told (silent ∷ okNumber 3 ∷ okWord (spell 12) ∷ refuses 9 none ∷ refuses 7 (some Letter.T) ∷ [])
+    ≡ Silent ∷ Number 3 ∷ Written 6 ∷ Refused 9 ∷ RefusedIn 7 84 ∷ []
+unfolding replyBytes deskOrder
+told-example = refl
+
+direct-example : map direct (okNumber 3 ∷ okWord (spell 12) ∷ []) ≡ [] ∷ bytes "ok\t12\n" ∷ []
+unfolding replyBytes deskOrder
+direct-example = refl
