@@ -44,7 +44,7 @@ enum {
     DESK_PLACES = 128,        /* the places of a column */
     DESK_WORDS = 2304,        /* two columns for each block */
     DESK_LONGEST_LINE = 1100, /* the bytes of a line; a longer one is refused with 1 */
-    DESK_LONGEST_REPLY = 4618 /* the bytes that desk_line can need: the listing of 128 pairs with words of 16 digits */
+    DESK_LONGEST_REPLY = 4618 /* no reply has more bytes: a listing of 128 lines with two words of 16 digits each, and two lines */
 };
 
 #define DESK_MOST_CHANGES 4000000000u

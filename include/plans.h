@@ -31,8 +31,8 @@ extern "C" {
 
 enum {
     PLANS_PLACES = 128,          /* the places of a column */
-    PLANS_LONGEST_IMAGE = 1039,  /* the bytes that plans_route can need: a to-word of 16 digits and 1,023 digits behind it */
-    PLANS_LONGEST_LISTING = 4618 /* the bytes that plans_list can need: 128 lines of 36 bytes and two more lines */
+    PLANS_LONGEST_IMAGE = 1039,  /* no image has more digits: a to-word of 16 and the 1,023 behind the belt of a code */
+    PLANS_LONGEST_LISTING = 4618 /* no listing has more bytes: 128 lines with two words of 16 digits each, and two lines */
 };
 
 /*

@@ -15,6 +15,16 @@ fn the_session_of_the_paper_in_jobs() {
 }
 
 #[test]
+fn refusals_of_calls_in_the_paper() {
+    paper::refusals_of_calls(&Library);
+}
+
+#[test]
+fn full_desks() {
+    sessions::of_full_desks(&Library);
+}
+
+#[test]
 fn sessions_of_lines() {
     sessions::of_lines(&Library);
 }

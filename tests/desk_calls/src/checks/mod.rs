@@ -17,9 +17,10 @@ use crate::calls::Calls;
 pub type Check = (&'static str, fn(&dyn Calls));
 
 /// Every check, those that take long behind the others.
-pub const ALL: [Check; 14] = [
+pub const ALL: [Check; 16] = [
     ("paper::session", paper::session),
     ("paper::session_in_jobs", paper::session_in_jobs),
+    ("paper::refusals_of_calls", paper::refusals_of_calls),
     ("lines::of_any_bytes", lines::of_any_bytes),
     ("lines::at_the_limit", lines::at_the_limit),
     ("lines::for_every_slot", lines::for_every_slot),
@@ -30,6 +31,7 @@ pub const ALL: [Check; 14] = [
     ("refusals::one_after_another", refusals::one_after_another),
     ("damage::of_every_kind", damage::of_every_kind),
     ("damage::of_any_word", damage::of_any_word),
+    ("sessions::of_full_desks", sessions::of_full_desks),
     ("sessions::of_lines", sessions::of_lines),
     ("sessions::with_jobs", sessions::with_jobs),
 ];

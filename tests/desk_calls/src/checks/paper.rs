@@ -1,5 +1,6 @@
 //! The session of document 01 in full, with the replies that it gives, in lines
-//! and as far as that goes in jobs. Nothing here asks the second implementation.
+//! and as far as that goes in jobs; and what only calls refuse, in so many words.
+//! Nothing here asks the second implementation.
 
 use crate::calls::Calls;
 use crate::values::{Desk, Done, Job, Written};
@@ -77,4 +78,51 @@ pub fn session_in_jobs(calls: &dyn Calls) {
     for (job, answer) in jobs {
         assert_eq!(calls.job(&mut desk, job), answer, "to {job:?}");
     }
+}
+
+/// "Library calls put 15 before all these"; "such a desk has no open plan to
+/// drop and is left as it came". "Calls that write bytes put 14 last", and "any
+/// refusal drops an open plan and changes nothing else".
+pub fn refusals_of_calls(calls: &dyn Calls) {
+    let mut fresh = calls.fresh();
+    for line in PLAN {
+        reply(calls, &mut fresh, line, "");
+    }
+    let open = fresh;
+    for (line, number) in [("T", 2), ("", 1), ("M\t3\t1", 4), ("P\tZ\t0\t0", 2)] {
+        let mut desk = open;
+        let mut out = [b'.'; 9];
+        let answer = calls.line(&mut desk, line.as_bytes(), &mut out);
+        assert_eq!(answer, Written::refused(number, 0), "to {line}");
+        assert_eq!((desk, out), (Desk::FRESH, [b'.'; 9]), "after {line}");
+    }
+    let mut desk = open;
+    let mut out = [b'.'; 4];
+    assert_eq!(
+        calls.line(&mut desk, b"E", &mut out),
+        Written::refused(14, 0)
+    );
+    assert_eq!((desk, out), (Desk::FRESH, [b'.'; 4]));
+
+    let mut no_desk = open;
+    no_desk.changes = 4_000_000_001;
+    assert!(calls.is_desk(&open) && !calls.is_desk(&no_desk));
+    for line in ["E", "", "T", "M\t3\t1"] {
+        let mut desk = no_desk;
+        let mut out = [b'.'; 9];
+        let answer = calls.line(&mut desk, line.as_bytes(), &mut out);
+        assert_eq!(answer, Written::refused(15, 0), "to {line}");
+        assert_eq!((desk, out), (no_desk, [b'.'; 9]), "after {line}");
+    }
+    let mut desk = no_desk;
+    let job = Job {
+        letter: b'E',
+        ..Job::default()
+    };
+    assert_eq!(calls.job(&mut desk, job), Done::refused(15, 0));
+    assert_eq!(desk, no_desk);
+    desk.changes -= 1;
+    assert_eq!(calls.job(&mut desk, job), Done::refused(16, 0));
+    assert_eq!((desk.open, desk.changes), (0, 4_000_000_000));
+    assert!(desk.is_empty(0) && desk.is_empty(8));
 }

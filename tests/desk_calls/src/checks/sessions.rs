@@ -7,6 +7,7 @@ use reference::COUNT_LIMIT;
 
 use super::side_by_side::{SideBySide, AMPLE};
 use crate::calls::Calls;
+use crate::random::desks::full;
 use crate::random::jobs::some_job;
 use crate::random::Rng;
 use crate::values::Desk;
@@ -31,6 +32,40 @@ pub fn with_jobs(calls: &dyn Calls) {
         run(calls, seed, 25, &mut tally);
     }
     tally.demand(10, &ANSWERS);
+}
+
+/// Desks with no room left: the longest replies, and products that mostly are
+/// too large.
+pub fn of_full_desks(calls: &dyn Calls) {
+    let mut rng = Rng::new(201);
+    let mut both = SideBySide::new(calls, &Desk::FRESH);
+    let lines: [&[u8]; 9] = [
+        b"U",
+        b"L\tA",
+        b"L\tH",
+        b"F\tA\tB\tC",
+        b"I\tD\tD",
+        b"S\tD\tH",
+        b"K\tE\t2\tE",
+        b"C\tH",
+        b"U",
+    ];
+    for _ in 0..24 {
+        let desk = full(&mut rng);
+        for line in [&b"E"[..], b"M\t1\t1"] {
+            both.start(&desk);
+            assert!(both.is_desk(), "sound: {desk:?}");
+            both.line(line);
+        }
+        both.start(&desk.without_open());
+        for line in lines {
+            both.line(line);
+        }
+        for _ in 0..10 {
+            both.job(some_job(&mut rng));
+        }
+    }
+    both.tally.demand(5, &["0", "5", "6F", "11"]);
 }
 
 /// Seventy-two seeds in a row meet every shape.

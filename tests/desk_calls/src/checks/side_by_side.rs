@@ -73,9 +73,10 @@ impl<'a> SideBySide<'a> {
         let before = self.expected;
         let (mut room, mut expected_room) = (self.room(length), self.room(length));
         let lent = GUARD..GUARD + length;
+        let read = line.to_vec();
         let answer = self
             .calls
-            .line(&mut self.desk, line, &mut room[lent.clone()]);
+            .line(&mut self.desk, &read, &mut room[lent.clone()]);
         let expected = self
             .second
             .line(&mut self.expected, line, &mut expected_room[lent]);
@@ -84,6 +85,7 @@ impl<'a> SideBySide<'a> {
             format!("{line:?} with a buffer of {length} bytes on {before:?}")
         };
         assert_eq!(answer, expected, "to {}", asked());
+        assert!(read == line, "the line is changed by {}", asked());
         if line == b"U" && answer.number == 0 {
             for room in [&mut room, &mut expected_room] {
                 order_lines(&mut room[GUARD..GUARD + answer.length]);

@@ -70,6 +70,23 @@ pub fn some_desk(rng: &mut Rng) -> Desk {
     desk
 }
 
+/// A desk with a plan of as many pairs as fit in every slot, and as many pairs
+/// as fit in the open plan.
+pub fn full(rng: &mut Rng) -> Desk {
+    let shape = some_shape(rng);
+    let mut desk = Desk::FRESH;
+    for block in 0..=OPEN {
+        let rows = plans::paired(rng, shape, most_splits(shape));
+        desk.put(block, &plan_value(&plans::kept(shape, &rows)));
+    }
+    let belts = value(shape, &vec![(b"1".to_vec(), b"1".to_vec()); 128]);
+    desk.open = letter(rng.below(SLOTS));
+    if rng.chance(50) {
+        desk.put(OPEN, &belts);
+    }
+    desk
+}
+
 fn some_count(rng: &mut Rng) -> u32 {
     let limit = COUNT_LIMIT as u32;
     match rng.below(6) {
