@@ -7,123 +7,9 @@ use library::{packed, Plan};
 use reference::COUNT_LIMIT;
 
 use crate::calls::Calls;
-use crate::checks::{buffers, damage, jobs, lines, paper, refusals, sessions};
+use crate::faults::Fault;
 use crate::second::Second;
 use crate::values::{Desk, Done, Job, Written, OPEN, SLOTS};
-
-/// What is wrong.
-#[derive(Clone, Copy, Debug, PartialEq, Eq)]
-pub enum Fault {
-    /// 14 is answered, and the work done all the same.
-    WorkBeforeShortBuffer,
-    /// 14 leaves the open plan open.
-    OpenAfterShortBuffer,
-    /// 14 isn't answered where one byte is missing: the reply is cut.
-    CutReply,
-    /// A refusal leaves the open plan open.
-    OpenAfterRefusal,
-    /// A refusal unnames the open plan and leaves its words.
-    WordsAfterRefusal,
-    /// A refusal raises the count.
-    CountedRefusal,
-    /// The `no` line is written into the buffer.
-    WrittenRefusal,
-    /// A byte 0 is put behind the reply.
-    ByteBehind,
-    /// All of the buffer behind the reply is cleared.
-    ClearedBuffer,
-    /// 15 drops the open plan.
-    DroppedByNoDesk,
-    /// 15 clears the desk.
-    ClearedNoDesk,
-    /// 15 comes after 1: a line that is no record is refused for that.
-    FormBeforeNoDesk,
-    /// Words behind the pairs aren't looked at.
-    BehindIgnored,
-    /// Words of slots without a block aren't looked at.
-    EmptyIgnored,
-    /// Slots out of order are taken.
-    OrderIgnored,
-    /// Slots that aren't reduced are taken.
-    JoinsIgnored,
-    /// Slots whose columns are no bases are taken.
-    BasesIgnored,
-    /// Counts of pairs are looked at in their low 32 bits.
-    NarrowCount,
-    /// Whatever isn't a slot's letter stands for no open plan.
-    LetterIgnored,
-    /// What is left where no plan is open isn't looked at.
-    LeftIgnored,
-    /// An open plan has to be one that could be kept.
-    OpenMustBePlan,
-    /// The count of changes isn't looked at.
-    ChangesIgnored,
-    /// The column of 6 and 7 isn't named.
-    NoColumn,
-    /// A line is read up to its 1,100th byte.
-    LongLineCut,
-    /// A line is read up to a byte 10.
-    LineEndsAtTen,
-    /// A line is read up to a byte 0.
-    LineEndsAtZero,
-    /// U leaves out the last held slot.
-    SlotMissing,
-    /// U gives the first held slot twice instead of the second.
-    SlotTwice,
-    /// A job of a listing's letter is done.
-    ListingTaken,
-    /// The target of I and K is read from the third field.
-    TargetThird,
-    /// The exponent is read as 16 bits.
-    NarrowExponent,
-    /// Jobs read n and r as digits.
-    DigitsInJobs,
-    /// The value of S is left at 0.
-    NoValue,
-    /// An emptied slot keeps its words.
-    WordsAfterClear,
-    /// A plan of fewer pairs leaves words of the one before it.
-    WordsAfterKeep,
-}
-
-/// Each fault, and a check that has to see it.
-pub const FAULTS: [(Fault, fn(&dyn Calls)); 35] = [
-    (Fault::WorkBeforeShortBuffer, buffers::of_every_length),
-    (Fault::OpenAfterShortBuffer, buffers::of_every_length),
-    (Fault::CutReply, buffers::of_every_length),
-    (Fault::OpenAfterRefusal, refusals::one_after_another),
-    (Fault::WordsAfterRefusal, refusals::one_after_another),
-    (Fault::CountedRefusal, refusals::one_after_another),
-    (Fault::WrittenRefusal, refusals::one_after_another),
-    (Fault::ByteBehind, buffers::of_every_length),
-    (Fault::ClearedBuffer, buffers::of_every_length),
-    (Fault::DroppedByNoDesk, damage::of_every_kind),
-    (Fault::ClearedNoDesk, damage::of_every_kind),
-    (Fault::FormBeforeNoDesk, damage::of_every_kind),
-    (Fault::BehindIgnored, damage::of_every_kind),
-    (Fault::EmptyIgnored, damage::of_every_kind),
-    (Fault::OrderIgnored, damage::of_every_kind),
-    (Fault::JoinsIgnored, damage::of_every_kind),
-    (Fault::BasesIgnored, damage::of_every_kind),
-    (Fault::NarrowCount, damage::of_every_kind),
-    (Fault::LetterIgnored, damage::of_any_word),
-    (Fault::LeftIgnored, damage::of_any_word),
-    (Fault::OpenMustBePlan, damage::of_any_word),
-    (Fault::ChangesIgnored, damage::of_every_kind),
-    (Fault::NoColumn, refusals::one_after_another),
-    (Fault::LongLineCut, lines::at_the_limit),
-    (Fault::LineEndsAtTen, lines::of_any_bytes),
-    (Fault::LineEndsAtZero, lines::of_any_bytes),
-    (Fault::SlotMissing, buffers::of_every_length),
-    (Fault::SlotTwice, buffers::of_every_length),
-    (Fault::ListingTaken, jobs::of_every_letter),
-    (Fault::TargetThird, jobs::of_every_number),
-    (Fault::NarrowExponent, jobs::of_every_number),
-    (Fault::DigitsInJobs, jobs::of_every_number),
-    (Fault::NoValue, paper::session_in_jobs),
-    (Fault::WordsAfterClear, paper::session_in_jobs),
-    (Fault::WordsAfterKeep, sessions::of_lines),
-];
 
 /// The second implementation with a fault.
 pub struct Broken {
@@ -146,8 +32,8 @@ impl Broken {
     /// The desk as the faulty test of desks sees it.
     fn seen(&self, desk: &Desk) -> Desk {
         let mut seen = *desk;
-        let sound = self.second.is_desk(desk);
-        if sound && !self.is(Fault::OpenMustBePlan) {
+        // the other faults are blind to what makes a value no desk
+        if self.second.is_desk(desk) && !self.is(Fault::OpenMustBePlan) {
             return seen;
         }
         match self.fault {
@@ -174,11 +60,7 @@ impl Broken {
                 seen = seen.without_open();
             }
             Fault::LeftIgnored if seen.open == 0 => seen = seen.without_open(),
-            Fault::OpenMustBePlan if seen.open != 0 => {
-                if packed::kept(&seen.value(OPEN)).is_none() {
-                    seen.open = 1;
-                }
-            }
+            Fault::OpenMustBePlan if is_mere_draft(&seen) => seen.open = 1,
             Fault::ChangesIgnored => seen.changes = seen.changes.min(COUNT_LIMIT as u32),
             _ => {}
         }
@@ -369,6 +251,11 @@ impl Calls for Broken {
         }
         answer
     }
+}
+
+/// Whether a plan is open that couldn't be kept as it stands.
+fn is_mere_draft(desk: &Desk) -> bool {
+    desk.open != 0 && packed::kept(&desk.value(OPEN)).is_none()
 }
 
 fn clear_behind(desk: &mut Desk, block: usize) {

@@ -1,6 +1,6 @@
 //! The calls of the desk compared with the second implementation. `values` and
 //! `bindings` are the C interface, `second` answers the same calls by the
-//! reference, `broken` answers them wrongly in one way each, `random` makes
+//! reference, `broken` answers them wrongly with one of `faults`, `random` makes
 //! desks, and `checks` compares any offer of the calls with the second
 //! implementation. `tests/` runs the checks on the proved desk, and shows that
 //! they tell every broken offer from a sound one.
@@ -9,6 +9,7 @@ pub mod bindings;
 pub mod broken;
 pub mod calls;
 pub mod checks;
+pub mod faults;
 pub mod random;
 pub mod second;
 pub mod values;

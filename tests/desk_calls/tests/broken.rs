@@ -3,8 +3,9 @@
 
 use std::panic::{catch_unwind, AssertUnwindSafe};
 
-use desk_calls::broken::{Broken, FAULTS};
+use desk_calls::broken::Broken;
 use desk_calls::checks::ALL;
+use desk_calls::faults::FAULTS;
 use desk_calls::{Calls, Second};
 
 /// Whether the check fails; what it says is kept from the log of a test that

@@ -94,7 +94,8 @@ pub fn of_any_word(calls: &dyn Calls) {
 fn ask(rng: &mut Rng, both: &mut SideBySide, desk: &Desk) {
     both.start(desk);
     both.is_desk();
-    both.line(*rng.pick(&LINES));
+    let line = *rng.pick(&LINES);
+    both.line(line);
     both.start(desk);
     both.job(some_job(rng));
 }
