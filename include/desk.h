@@ -64,7 +64,7 @@ struct desk_block {
  */
 struct desk {
     struct desk_block blocks[DESK_BLOCKS]; /* slots 'A' to 'H', then the open plan */
-    uint8_t open;                          /* the slot that the open plan is meant for, 'A' to 'H'; 0 if no plan is open */
+    uint8_t opened;                        /* the slot that the open plan is meant for, 'A' to 'H'; 0 if no plan is open */
     uint32_t changes;                      /* 0 to DESK_MOST_CHANGES; E, F, I, K and C raise it by one */
     uint64_t columns[DESK_WORDS];
 };

@@ -142,7 +142,7 @@ static void check_desk(void)
     size_t i;
 
     check("desk_size", desk_size() == sizeof(struct desk));
-    check("desk_fresh", d.open == 0 && d.changes == 0 && d.blocks[0].pairs == 0 && desk_is_desk(d));
+    check("desk_fresh", d.opened == 0 && d.changes == 0 && d.blocks[0].pairs == 0 && desk_is_desk(d));
     for (i = 0; i < sizeof session / sizeof session[0]; i++) {
         written = say(&d, session[i][0], out, sizeof out);
         snprintf(what, sizeof what, "desk_line, record %d of the session", (int)i + 1);
@@ -164,10 +164,10 @@ static void check_desk(void)
     job.b = 2;
     job.c = 1;
     done = desk_do(&d, job);
-    check("desk_do opens a plan", done.number == 0 && d.open == 'A');
+    check("desk_do opens a plan", done.number == 0 && d.opened == 'A');
     job.letter = 'E';
     done = desk_do(&d, job);
-    check("desk_do names the column", done.number == REFUSED_GAP && done.column == FROM_COLUMN && d.open == 0);
+    check("desk_do names the column", done.number == REFUSED_GAP && done.column == FROM_COLUMN && d.opened == 0);
     d.changes = DESK_MOST_CHANGES;
     check("desk_is_desk at the limit", desk_is_desk(d));
     written = say(&d, "C\tA", out, sizeof out);

@@ -46,7 +46,7 @@ class Desk(ctypes.Structure):
 
     _fields_ = [
         ("blocks", Block * 9),
-        ("open", ctypes.c_uint8),
+        ("opened", ctypes.c_uint8),
         ("changes", ctypes.c_uint32),
         ("columns", ctypes.c_uint64 * 2304),
     ]

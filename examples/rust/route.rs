@@ -45,7 +45,7 @@ struct Block {
 #[allow(dead_code)]
 struct Desk {
     blocks: [Block; 9],
-    open: u8,
+    opened: u8,
     changes: u32,
     columns: [u64; 2304],
 }

@@ -56,11 +56,11 @@ impl Broken {
                 .blocks
                 .iter_mut()
                 .for_each(|block| block.pairs &= 0xffff_ffff),
-            Fault::LetterIgnored if !seen.open.is_ascii_uppercase() || seen.open > b'H' => {
+            Fault::LetterIgnored if !seen.opened.is_ascii_uppercase() || seen.opened > b'H' => {
                 seen = seen.without_open();
             }
-            Fault::LeftIgnored if seen.open == 0 => seen = seen.without_open(),
-            Fault::OpenMustBePlan if is_mere_draft(&seen) => seen.open = 1,
+            Fault::LeftIgnored if seen.opened == 0 => seen = seen.without_open(),
+            Fault::OpenMustBePlan if is_mere_draft(&seen) => seen.opened = 1,
             Fault::ChangesIgnored => seen.changes = seen.changes.min(COUNT_LIMIT as u32),
             _ => {}
         }
@@ -255,7 +255,7 @@ impl Calls for Broken {
 
 /// Whether a plan is open that couldn't be kept as it stands.
 fn is_mere_draft(desk: &Desk) -> bool {
-    desk.open != 0 && packed::kept(&desk.value(OPEN)).is_none()
+    desk.opened != 0 && packed::kept(&desk.value(OPEN)).is_none()
 }
 
 fn clear_behind(desk: &mut Desk, block: usize) {

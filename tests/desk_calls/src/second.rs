@@ -114,7 +114,7 @@ impl Second {
 /// The open plan of a value, or none; nothing at all if the value is no desk
 /// for the sake of its open plan.
 fn open_plan(desk: &Desk) -> Option<Option<OpenPlan>> {
-    match desk.open {
+    match desk.opened {
         0 => desk.is_empty(OPEN).then_some(None),
         slot @ b'A'..=b'H' => {
             let (shape, typed) = packed::draft(&desk.value(OPEN))?;
@@ -133,7 +133,7 @@ fn pack(held: &reference::Desk) -> Desk {
         }
     }
     if let Some(open) = held.open_plan() {
-        desk.open = open.slot;
+        desk.opened = open.slot;
         desk.put(OPEN, &packed::value(open.shape, &open.typed));
     }
     desk
@@ -218,7 +218,7 @@ mod tests {
         ] {
             assert_eq!(second.line(&mut desk, line.as_bytes(), &mut out).number, 0);
         }
-        assert_eq!((desk.open, desk.changes), (b'A', 1));
+        assert_eq!((desk.opened, desk.changes), (b'A', 1));
         assert_eq!(desk.columns[512..514], [0x11, 0x12]);
         assert_eq!(desk.columns[640..642], [0x12, 0x11]);
         assert_eq!((desk.columns[2048], desk.columns[2176]), (0x13, 0x2));

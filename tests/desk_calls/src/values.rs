@@ -30,7 +30,7 @@ pub struct Block {
 #[derive(Clone, Copy, PartialEq, Eq)]
 pub struct Desk {
     pub blocks: [Block; BLOCKS],
-    pub open: u8,
+    pub opened: u8,
     pub changes: u32,
     pub columns: [u64; WORDS],
 }
@@ -43,7 +43,7 @@ impl Desk {
             roots: 0,
             pairs: 0,
         }; BLOCKS],
-        open: 0,
+        opened: 0,
         changes: 0,
         columns: [0; WORDS],
     };
@@ -91,7 +91,7 @@ impl Desk {
     /// The desk without its open plan.
     pub fn without_open(&self) -> Desk {
         let mut desk = *self;
-        desk.open = 0;
+        desk.opened = 0;
         desk.put(OPEN, &Plan::ZERO);
         desk
     }
@@ -105,7 +105,7 @@ impl Desk {
 /// The head, and the blocks that aren't all zeros.
 impl fmt::Debug for Desk {
     fn fmt(&self, f: &mut fmt::Formatter) -> fmt::Result {
-        write!(f, "open {}, {} changes", self.open, self.changes)?;
+        write!(f, "open {}, {} changes", self.opened, self.changes)?;
         for block in (0..BLOCKS).filter(|block| !self.is_empty(*block)) {
             write!(f, "\n  block {block}: {:?}", self.value(block))?;
         }

@@ -63,7 +63,7 @@ pub fn of_any_word(calls: &dyn Calls) {
     for desk in desks {
         for open in 0..=255 {
             let mut changed = desk;
-            changed.open = open;
+            changed.opened = open;
             ask(&mut rng, &mut both, &changed);
         }
         // every fifth place, and the two at the ends of each column

@@ -35,7 +35,7 @@ pub fn in_chains(calls: &dyn Calls) {
     for _ in 0..60 {
         both.start(&some_desk(&mut rng));
         for _ in 0..40 {
-            let open = both.job(some_job(&mut rng)).number == 0 && both.desk().open != 0;
+            let open = both.job(some_job(&mut rng)).number == 0 && both.desk().opened != 0;
             if open && rng.chance(70) {
                 both.line(b"M\t1\t1");
             }

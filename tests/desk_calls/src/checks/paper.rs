@@ -30,11 +30,11 @@ pub fn session(calls: &dyn Calls) {
         assert!(calls.is_desk(&desk));
         reply(calls, &mut desk, line, "");
     }
-    assert_eq!((desk.open, desk.blocks[8].pairs), (b'A', 3));
+    assert_eq!((desk.opened, desk.blocks[8].pairs), (b'A', 3));
     assert_eq!(desk.columns[2048..2051], [0x111, 0x112, 0x12]);
     assert_eq!(desk.columns[2176..2179], [0x11, 0x121, 0x122]);
     reply(calls, &mut desk, "E", "ok\t3\n");
-    assert_eq!((desk.open, desk.changes), (0, 1));
+    assert_eq!((desk.opened, desk.changes), (0, 1));
     assert!(desk.is_empty(8));
     reply(calls, &mut desk, "W\tA\t1122", "ok\t1212\n");
     reply(calls, &mut desk, "K\tA\t2\tB", "ok\t4\n");
@@ -123,6 +123,6 @@ pub fn refusals_of_calls(calls: &dyn Calls) {
     assert_eq!(desk, no_desk);
     desk.changes -= 1;
     assert_eq!(calls.job(&mut desk, job), Done::refused(16, 0));
-    assert_eq!((desk.open, desk.changes), (0, 4_000_000_000));
+    assert_eq!((desk.opened, desk.changes), (0, 4_000_000_000));
     assert!(desk.is_empty(0) && desk.is_empty(8));
 }

@@ -82,7 +82,7 @@ fn run(calls: &dyn Calls, seed: u64, jobs: usize, tally: &mut Tally) {
     std::mem::swap(tally, &mut both.tally);
     for line in sessions::session(seed).split(|byte| *byte == b'\n') {
         // seldom while a plan is open, which it drops
-        let chance = if both.desk().open == 0 { 1 } else { 200 };
+        let chance = if both.desk().opened == 0 { 1 } else { 200 };
         if rng.below(100 * chance) < jobs {
             both.job(some_job(&mut rng));
         }

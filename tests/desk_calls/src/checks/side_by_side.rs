@@ -155,7 +155,7 @@ fn placed(desk: &Desk, padding: u8) -> Box<Desk> {
             block.roots = value.roots;
             block.pairs = value.pairs;
         }
-        placed.open = desk.open;
+        placed.opened = desk.opened;
         placed.changes = desk.changes;
         placed.columns = desk.columns;
         Box::from_raw(Box::into_raw(place).cast())

@@ -116,17 +116,17 @@ pub const OF_EMPTY: [Named; 5] = [
 /// What is done to a desk with an open plan.
 pub const OF_OPEN: [Named; 11] = [
     ("open for no slot", |rng, desk| {
-        desk.open = no_slot(rng);
+        desk.opened = no_slot(rng);
     }),
-    ("open plan without a letter", |_, desk| desk.open = 0),
+    ("open plan without a letter", |_, desk| desk.opened = 0),
     ("letter without an open plan", |rng, desk| {
         let letter = b'A' + rng.below(SLOTS) as u8;
         *desk = desk.without_open();
-        desk.open = letter;
+        desk.opened = letter;
     }),
     ("no slot and no open plan", |rng, desk| {
         *desk = desk.without_open();
-        desk.open = no_slot(rng);
+        desk.opened = no_slot(rng);
     }),
     ("size left when none is open", |rng, desk| {
         *desk = desk.without_open();

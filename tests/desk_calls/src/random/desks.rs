@@ -35,7 +35,7 @@ pub fn prepared() -> Desk {
 pub fn with_psi_open(desk: &Desk, slot: u8) -> Desk {
     let psi = desk.value(0);
     let mut desk = *desk;
-    desk.open = slot;
+    desk.opened = slot;
     desk.put(OPEN, &psi);
     desk
 }
@@ -80,7 +80,7 @@ pub fn full(rng: &mut Rng) -> Desk {
         desk.put(block, &plan_value(&plans::kept(shape, &rows)));
     }
     let belts = value(shape, &vec![(b"1".to_vec(), b"1".to_vec()); 128]);
-    desk.open = letter(rng.below(SLOTS));
+    desk.opened = letter(rng.below(SLOTS));
     if rng.chance(50) {
         desk.put(OPEN, &belts);
     }
@@ -112,6 +112,6 @@ pub fn open_some(rng: &mut Rng, desk: &mut Desk) {
         2 => rows.iter_mut().for_each(|row| row.1.truncate(1)),
         _ => {}
     }
-    desk.open = letter(rng.below(SLOTS));
+    desk.opened = letter(rng.below(SLOTS));
     desk.put(OPEN, &value(shape, &rows));
 }
