@@ -7,13 +7,20 @@ use mathlib.Core.List.{List, [], _∷_, map}
 use mathlib.Core.Option.{Option, none, some}
 use lib.Dec.{eqb}
 use lib.IntN.{ℤ, pos}
-use Rattle.higman.specs.Text.{Bytes, byte}
+use Rattle.higman.specs.Text.{Bytes, byte, bytes}
+use Rattle.higman.specs.Limits.{maxPairs, slotCount}
 use Rattle.higman.specs.Refusals.{noRecord, invalidValue, Letter, letterByte}
-use Rattle.desk.specs.Desk.{Desk as DeskOf}
-use Rattle.desk.specs.Records.{Record, P, E, F, I, K, S, C, T}
+use Rattle.desk.specs.Limits.{maxChanges, maxLine}
+use Rattle.desk.specs.Desk.{Desk as DeskOf, isDesk, freshDesk, dropped}
+use Rattle.desk.specs.Records.{Record, P, E, F, I, K, S, C, T, parse, grammar, needsOpen, slotsNamed, isChange}
 use Rattle.desk.specs.Replies.{Reply, silent, ok, okNumber, okWord, lists, surveys, refuses, Outcome, refuse, pass, _>>=_, operation, lineOperation}
-use Rattle.desk.specs.Buffers.{Work, Lent, lentCall, plainCall}
-use Rattle.slots.specs.Blocks.{blockCount, columnsSize}
+use Rattle.desk.specs.Replies.{job as jobOf}
+use Rattle.desk.specs.Bytes.{replyBytes}
+use Rattle.desk.specs.Buffers.{Work, Lent, lent, lentCall, plainCall}
+use Rattle.operations.specs.Plans.{inTable, packed, blank}
+use Rattle.slots.specs.Blocks.{blockCount, columnsSize, valueAt}
+use Rattle.slots.specs.Desks.{deskOf}
+use Rattle.desks.specs.Tested.{holdsTest}
 use Rattle.slots.specs.Works.{deskOrder}
 use Rattle.desk_values.specs.declared.Desk.{Desk}
 use Rattle.desk_values.specs.Values.{deskIn, isDeskValue, packedDesk}
@@ -139,3 +146,22 @@ job letter = record { letter = letter; a = 65; b = 66; c = 67; k = pos 2 }
 -- K⇥A⇥2⇥B; M is none of them
 jobRecord-example : map (λ b. jobRecord (job b)) (byte "K" ∷ byte "M" ∷ []) ≡ pass (K 65 (pos 2) 66) ∷ refuse 1 none ∷ []
 jobRecord-example = refl
+
+-- T on a fresh desk, with room for its reply and with too little
+served-example : map (served (bytes "T") (packedDesk freshDesk)) (bytes "......." ∷ bytes "...." ∷ [])
+    ≡ record { desk = packedDesk freshDesk; answer = record { number = 0; column = 0; length = 5 } } ∷ refusedWith (packedDesk freshDesk) 14 0 ∷ []
+unfolding served isDeskValue deskIn packedDesk deskOf valueAt holdsTest inTable packed blank maxPairs slotCount maxChanges freshDesk dropped lentCall lent isDesk
+    lineOperation operation jobOf needsOpen slotsNamed isChange parse grammar maxLine replyBytes deskOrder _>>=_
+served-example = refl
+
+buffer-example : map (bufferAfter (bytes "T") (packedDesk freshDesk)) (bytes "......." ∷ bytes "...." ∷ []) ≡ bytes "ok\t0\n.." ∷ bytes "...." ∷ []
+unfolding bufferAfter isDeskValue deskIn packedDesk deskOf valueAt holdsTest inTable packed blank maxPairs slotCount maxChanges freshDesk dropped lentCall lent
+    isDesk lineOperation operation jobOf needsOpen slotsNamed isChange parse grammar maxLine replyBytes deskOrder _>>=_
+buffer-example = refl
+
+-- S of two empty slots: 9
+worked-example : worked (jobWork (job (byte "S"))) (packedDesk freshDesk)
+    ≡ record { desk = packedDesk freshDesk; answer = record { number = 9; column = 0; value = 0 } }
+unfolding worked jobWork isDeskValue deskIn packedDesk deskOf valueAt holdsTest inTable packed blank maxPairs slotCount maxChanges freshDesk dropped plainCall
+    isDesk operation jobOf needsOpen slotsNamed isChange _>>=_
+worked-example = refl

@@ -7,14 +7,19 @@ use mathlib.Core.Bool.{Bool, true, false, _&&_, not}
 use mathlib.Core.List.{List, [], _∷_, _++_, map}
 use mathlib.Core.Option.{Option, none, some}
 use lib.Dec.{T, leb, eqb}
-use lib.ListN.{length, getD, replicate}
+use lib.ListN.{length, getD, set}
 use Rattle.higman.specs.Words.{count}
 use Rattle.higman.specs.Bases.{all}
-use Rattle.higman.specs.Limits.{Plan as PlanOf, slotCount}
+use Rattle.higman.specs.Tables.{row}
+use Rattle.higman.specs.Normal.{joined, normal, normalForm, keep}
+use Rattle.higman.specs.Limits.{Plan as PlanOf, slotCount, maxPairs, maxDigits, shapeInRange, granted, isPlanWord}
+use Rattle.higman.specs.Answers.{verdict, isKept}
 use Rattle.higman.specs.Listing.{isSlot, slotByte, slotNumber}
-use Rattle.desk.specs.Desk.{Draft, Desk as DeskOf, IsDesk}
+use Rattle.words.specs.Packed.{packOn, pack, unpackIn, unpack}
+use Rattle.desk.specs.Limits.{maxChanges}
+use Rattle.desk.specs.Desk.{Draft, Desk as DeskOf, IsDesk, freshDesk, changed, withDraft}
 use Rattle.operations.specs.declared.Plan.{Plan}
-use Rattle.operations.specs.Plans.{inTable, packed, blank}
+use Rattle.operations.specs.Plans.{inTable, isPlan, packed, blank}
 use Rattle.slots.specs.declared.Size.{Size}
 use Rattle.slots.specs.declared.Head.{Head}
 use Rattle.slots.specs.Blocks.{blockCount, columnsSize, noSize, sizeOf, valueAt}
@@ -103,3 +108,38 @@ pub record Whole (d : Desk) : Type 0 where
 pub record DeskValues : Type 0 where
   pub holds : (d : Desk) → Whole d → T (isDeskValue d) → IsDesk (deskIn d)
   pub one-value : (d : Desk) → Whole d → T (isDeskValue d) → packedDesk (deskIn d) ≡ d
+
+-- 11→12, 12→11 in slot A; and with it a plan open for B that has one pair
+abbrev exchange : PlanOf
+exchange = record { shape = record { arity = 2; roots = 1 }; rows = row 11 12 ∷ row 12 11 ∷ [] }
+
+abbrev held : DeskOf
+held = changed freshDesk 0 (some exchange)
+
+abbrev opened : DeskOf
+opened = withDraft held (record { slot = 1; shape = record { arity = 2; roots = 1 }; rows = row 12 1 ∷ [] })
+
+-- their values are desks, and hold them
+isDeskValue-example : map (λ d. isDeskValue (packedDesk d)) (freshDesk ∷ held ∷ opened ∷ []) ≡ true ∷ true ∷ true ∷ []
+unfolding isDeskValue packedDesk valueAt holdsTest isPlan inTable isKept shapeInRange granted isPlanWord maxPairs maxDigits maxChanges slotCount verdict keep
+    normalForm normal joined packed blank pack packOn unpack unpackIn freshDesk changed withDraft
+isDeskValue-example = refl
+
+deskIn-example : deskIn (packedDesk opened) ≡ opened
+unfolding deskIn packedDesk deskOf valueAt maxPairs slotCount packed blank pack packOn unpack unpackIn freshDesk changed withDraft
+deskIn-example = refl
+
+-- a word behind the pairs of a slot; a shape of an empty slot; a letter where no plan is open; a byte that is no slot's
+abbrev spoiled : List Desk
+spoiled =
+    let v = packedDesk held in
+    record { blocks = v .blocks; opened = 0; changes = 1; columns = set (v .columns) 2 0x11 }
+    ∷ record { blocks = set (v .blocks) 1 (record { arity = 2; roots = 1; pairs = 0 }); opened = 0; changes = 1; columns = v .columns }
+    ∷ record { blocks = v .blocks; opened = 65; changes = 1; columns = v .columns }
+    ∷ record { blocks = v .blocks; opened = 1; changes = 1; columns = v .columns }
+    ∷ []
+
+spoiled-example : map isDeskValue spoiled ≡ false ∷ false ∷ false ∷ false ∷ []
+unfolding isDeskValue packedDesk valueAt holdsTest isPlan inTable isKept shapeInRange granted isPlanWord maxPairs maxDigits maxChanges slotCount verdict keep
+    normalForm normal joined packed blank pack packOn unpack unpackIn freshDesk changed withDraft
+spoiled-example = refl
