@@ -1,5 +1,6 @@
-/* A read and a write that go wrong as FAULT says, for tests/program: loaded before the C library, so that the program's calls on standard
-   input and output come here. What is not to go wrong is the system's call itself. */
+/* A read and a write that go wrong as FAULT says, for tests/program, or bring the input byte by byte or line by line, for tests/cut: loaded
+   before the C library, so that the program's calls on standard input and output come here. What is not to go wrong is the system's call
+   itself. */
 #define _GNU_SOURCE
 #include <errno.h>
 #include <stdlib.h>
@@ -23,12 +24,25 @@ static int interrupted(void) {
     return is("interrupted") && ++calls % 500;
 }
 
+/* As many bytes as there are up to byte 10, and that byte. */
+static ssize_t read_line(int fd, char *bytes, size_t size) {
+    size_t got = 0;
+    while (got < size) {
+        ssize_t one = syscall(SYS_read, fd, bytes + got, 1);
+        if (one <= 0) return got ? (ssize_t)got : one;
+        if (bytes[got++] == 10) break;
+    }
+    return (ssize_t)got;
+}
+
 ssize_t read(int fd, void *bytes, size_t size) {
     static unsigned calls;
     if (fd == 0) {
         if (interrupted()) return failed(EINTR);
         if (is("input breaks") && calls++) return failed(EIO);
         if (is("short") && size > 3) size = 1 + calls++ % 3;
+        if (is("lines")) return read_line(fd, bytes, size);
+        if (is("bytes") && size > 1) size = 1;
     }
     return syscall(SYS_read, fd, bytes, size);
 }
