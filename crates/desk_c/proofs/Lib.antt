@@ -2,3 +2,4 @@
 pub mod Replied
 pub mod Lent
 pub mod Jobs
+pub mod Stays

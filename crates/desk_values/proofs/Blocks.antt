@@ -98,7 +98,7 @@ filling-length n l h k =
     let rest = length-replicate {A = ℕ} (maxPairs - n) 0 in
     omega (arith, length-append (take n l) (replicate (maxPairs - n) 0), length-take-le n l h)
 
-blank-places : (length (blank .from) ≡ maxPairs) × (length (blank .to) ≡ maxPairs)
+pub blank-places : (length (blank .from) ≡ maxPairs) × (length (blank .to) ≡ maxPairs)
 unfolding blank
 blank-places =
     let all : maxPairs - 0 ≡ maxPairs = omega arith in

@@ -1,4 +1,4 @@
--- The values that pass the test are those of desks: `DeskValues`.
+-- A value that passes the test holds a desk, and is what that desk packs into.
 use Prim.Native.Nat.{ℕ, zero, suc, _+_, _≤_, _<_}
 use mathlib.Core.Path.{_≡_, refl, sym, _∙_, ap, ap₂}
 use mathlib.Core.Bool.{Bool, true, false, _&&_, not}
@@ -27,7 +27,7 @@ use Rattle.desks.specs.Tested.{holdsTest}
 use Rattle.desks.proofs.Exact.{holds-exact}
 use Rattle.desk_values.specs.declared.Desk.{Desk}
 use Rattle.desk_values.specs.Values.{openedTest, headOf, deskIn, noShape, sizeTest, sizesTest, blankTest, draftTest, isDeskValue}
-use Rattle.desk_values.specs.Values.{heldValue, draftValue, openedBy, tidySize, tidySizes, packedDesk, Whole, DeskValues}
+use Rattle.desk_values.specs.Values.{heldValue, draftValue, openedBy, tidySize, tidySizes, packedDesk, Whole}
 use Rattle.desk_values.proofs.Desk.{the-row}
 use Rattle.desk_values.proofs.Blocks.{unused-zeros, no-pairs, from-places, to-places, held-value, draft-closed, draft-opened, draft-filled}
 use Rattle.desk_values.proofs.Blocks.{words-are, sizes-packed}
@@ -48,7 +48,7 @@ tidy-size z t = by (eqb (z .pairs) 0) refl t
     by false e t = refl
 
 -- a list by its places
-by-place : {A : Type 0} (l : List A) (z : A) (n a : ℕ) → a + n ≤ length l → drop a l ≡ map (λ i. getD l i z) (count a n) ++ drop (a + n) l
+pub by-place : {A : Type 0} (l : List A) (z : A) (n a : ℕ) → a + n ≤ length l → drop a l ≡ map (λ i. getD l i z) (count a n) ++ drop (a + n) l
 by-place l z zero a h = let none : a ≡ a + 0 = omega arith in ap (λ k. drop k l) none
 by-place l z (suc n) a h =
     let next : suc a + n ≡ a + suc n = omega arith in
@@ -163,6 +163,3 @@ whole-of-good d values good =
       headed = sym (length-map (d .blocks) _) ∙ good .1 .1 .0 .1 .0 .1;
       sized = sym (length-map (d .columns) (λ (x : ℕ). x)) ∙ good .1 .1 .1 .1 .1 .0 .1 .0 .1;
     }
-
-pub desk-values : DeskValues
-desk-values = record { holds = holds-desk; one-value = one-value }

@@ -1,3 +1,4 @@
 -- The laws of desks as values, which the proofs of the functions cite.
 pub mod Blocks
 pub mod Exact
+pub mod Taken

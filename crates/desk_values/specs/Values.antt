@@ -2,11 +2,10 @@
 -- just those of desks is a statement, `DeskValues`, with a term of it in proofs/.
 use Prim.Native.Nat.{ℕ}
 use mathlib.Core.Path.{_≡_, refl}
-use mathlib.Core.Logic.{_↔_}
 use mathlib.Core.Bool.{Bool, true, false, _&&_, not}
 use mathlib.Core.List.{List, [], _∷_, _++_, map}
 use mathlib.Core.Option.{Option, none, some}
-use lib.Dec.{T, leb, eqb}
+use lib.Dec.{T, eqb}
 use lib.ListN.{length, getD, set}
 use Rattle.higman.specs.Words.{count}
 use Rattle.higman.specs.Bases.{all}
@@ -104,10 +103,13 @@ pub record Whole (d : Desk) : Type 0 where
   pub headed : length (d .blocks) ≡ blockCount
   pub sized : length (d .columns) ≡ columnsSize
 
--- The values that pass the test are those of desks: each holds a desk, and is the one value of it.
+-- The values that pass the test are those of desks: each holds a desk, and is the one value of it; and the value of a desk passes, and holds
+-- that desk. So a desk that a call leaves is one for the next.
 pub record DeskValues : Type 0 where
-  pub holds : (d : Desk) → Whole d → T (isDeskValue d) → IsDesk (deskIn d)
-  pub one-value : (d : Desk) → Whole d → T (isDeskValue d) → packedDesk (deskIn d) ≡ d
+  pub holds : (v : Desk) → Whole v → T (isDeskValue v) → IsDesk (deskIn v)
+  pub one-value : (v : Desk) → Whole v → T (isDeskValue v) → packedDesk (deskIn v) ≡ v
+  pub taken : (d : DeskOf) → IsDesk d → Whole (packedDesk d) × T (isDeskValue (packedDesk d))
+  pub held : (d : DeskOf) → IsDesk d → deskIn (packedDesk d) ≡ d
 
 -- 11→12, 12→11 in slot A; and with it a plan open for B that has one pair
 abbrev exchange : PlanOf

@@ -1,9 +1,9 @@
 -- The value that holds a kept plan is a plan, and the plan that it holds is that one.
-use Prim.Native.Nat.{ℕ, zero, suc, _-_}
+use Prim.Native.Nat.{ℕ, zero, suc, _-_, _≤_}
 use mathlib.Core.Path.{_≡_, sym, _∙_, subst}
 use mathlib.Core.Bool.{true, _&&_}
 use mathlib.Core.List.{map}
-use lib.Dec.{T, leb}
+use lib.Dec.{T, leb, leb→le, le→leb}
 use lib.ListN.{length, drop, replicate, length-map}
 use lib.Seq.{drop-at}
 use Rattle.higman.specs.Bases.{all}
@@ -21,7 +21,8 @@ all-zero : (m : ℕ) → T (zeros (replicate m 0))
 all-zero zero = tt
 all-zero (suc m) = all-zero m
 
-module _ (q : Plan) (K : Kept q) where
+-- the value that holds a table has zeros behind its pairs
+module _ (q : Plan) (few : length (q .rows) ≤ maxPairs) where
   abbrev t : Table
   t = q .rows
 
@@ -31,19 +32,25 @@ module _ (q : Plan) (K : Kept q) where
   to-count : length (map pack (tos t)) ≡ length t
   to-count = length-map (tos t) pack ∙ length-map t (λ p. p .to)
 
-  pub holds : planOf (packed q) ≡ q
-  unfolding packed
-  holds = λ i. record { shape = q .shape; rows = rows-of-packed (q .shape) t (K .in-range) (member-of-kept q K .element) i }
-
-  pub packed-is-plan : isPlan (packed q) ≡ true
-  unfolding isPlan inTable packed granted
-  packed-is-plan =
+  pub packed-in-table : T (inTable (packed q))
+  unfolding inTable packed
+  packed-in-table =
       let small = leb (length t) maxPairs in
       let from = zeros (drop (length t) (column (froms t))) in
       let to = zeros (drop (length t) (column (tos t))) in
       let from-rest = subst (λ l. T (zeros l)) (sym (drop-at (map pack (froms t)) (replicate (maxPairs - length (froms t)) 0) (length t) from-count)) (all-zero (maxPairs - length (froms t))) in
       let to-rest = subst (λ l. T (zeros l)) (sym (drop-at (map pack (tos t)) (replicate (maxPairs - length (tos t)) 0) (length t) to-count)) (all-zero (maxPairs - length (tos t))) in
+      and-intro (small && from) to (and-intro small from (le→leb (length t) maxPairs few) from-rest) to-rest
+
+module _ (q : Plan) (K : Kept q) where
+  pub holds : planOf (packed q) ≡ q
+  unfolding packed
+  holds = λ i. record { shape = q .shape; rows = rows-of-packed (q .shape) (q .rows) (K .in-range) (member-of-kept q K .element) i }
+
+  pub packed-is-plan : isPlan (packed q) ≡ true
+  unfolding isPlan granted
+  packed-is-plan =
+      let few = leb→le (length (q .rows)) maxPairs (and-left (leb (length (q .rows)) maxPairs) (all pairFits (q .rows)) (K .within)) in
       so (isPlan (packed q))
-      (and-intro (small && from && to) (isKept (planOf (packed q)))
-      (and-intro (small && from) to (and-intro small from (and-left small (all pairFits t) (K .within)) from-rest) to-rest)
+      (and-intro (inTable (packed q)) (isKept (planOf (packed q))) (packed-in-table q few)
       (subst (λ p. T (isKept p)) (sym holds) (answers-exact .kept-test q .1 K)))

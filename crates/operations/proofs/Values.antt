@@ -13,7 +13,7 @@ use Rattle.higman.specs.Words.{Shape, Word, count}
 use Rattle.higman.specs.Tables.{Pair, Table, froms, tos}
 use Rattle.higman.specs.Normal.{keep}
 use Rattle.higman.specs.Limits.{maxPairs, shapeInRange}
-use Rattle.higman.proofs.Tests.{Ways, and-left, pair-path}
+use Rattle.higman.proofs.Tests.{Ways, IsWord, and-left, pair-path}
 use Rattle.higman.proofs.KeptPlans.{in-range}
 use Rattle.higman.proofs.Elements.{Element}
 use Rattle.words.specs.Packed.{pack}
@@ -121,20 +121,29 @@ table-packed (p ∷ t) h =
     let (a, b) = h p (List·Memᴰ·head refl) in
     ap₂ (λ q u. q ∷ u) (pair-path (unpack-pack (p .from) a) (unpack-pack (p .to) b)) (table-packed t (λ q m. h q (List·Memᴰ·tail m)))
 
-spelt : (s : Shape) (t : Table) → T (shapeInRange s) → Element s t → Spelt t
-spelt s t r E p m =
+-- words of a shape
+abbrev pub Worded : Shape → Table → Type 0
+Worded s t = (p : Pair) → List·Memᴰ p t → IsWord s (p .from) × IsWord s (p .to)
+
+spelt : (s : Shape) (t : Table) → T (shapeInRange s) → Worded s t → Spelt t
+spelt s t r w p m =
     let range = in-range s r in
     let a : s .arity ≤ 15 = omega (arith, range .arity-high) in
-    let b : s .roots ≤ 15 = omega (arith, range .roots-high) in (
-      ways-of-word s (p .from) a b (E .from-proper .words (p .from) (Memᴰ·map (λ q. q .from) m)),
-      ways-of-word s (p .to) a b (E .to-proper .words (p .to) (Memᴰ·map (λ q. q .to) m)),
-    )
+    let b : s .roots ≤ 15 = omega (arith, range .roots-high) in
+    let (from, to) = w p m in
+    (ways-of-word s (p .from) a b from, ways-of-word s (p .to) a b to)
 
--- the pairs of the value that holds a plan
-pub rows-of-packed : (s : Shape) (t : Table) → T (shapeInRange s) → Element s t → rowsOf (packed (record { shape = s; rows = t })) ≡ t
+-- the pairs of the value that holds words of a shape
+pub rows-of-words : (s : Shape) (t : Table) → T (shapeInRange s) → Worded s t → rowsOf (packed (record { shape = s; rows = t })) ≡ t
 unfolding packed
-rows-of-packed s t r E =
+rows-of-words s t r w =
     ap₂ table
     (take-at (map pack (froms t)) (replicate (maxPairs - length (froms t)) 0) (length t) (length-map (froms t) pack ∙ length-map t (λ p. p .from)))
     (take-at (map pack (tos t)) (replicate (maxPairs - length (tos t)) 0) (length t) (length-map (tos t) pack ∙ length-map t (λ p. p .to)))
-    ∙ table-packed t (spelt s t r E)
+    ∙ table-packed t (spelt s t r w)
+
+-- and of that which holds a plan
+pub rows-of-packed : (s : Shape) (t : Table) → T (shapeInRange s) → Element s t → rowsOf (packed (record { shape = s; rows = t })) ≡ t
+rows-of-packed s t r E =
+    rows-of-words s t r
+    (λ p m. (E .from-proper .words (p .from) (Memᴰ·map (λ q. q .from) m), E .to-proper .words (p .to) (Memᴰ·map (λ q. q .to) m)))
