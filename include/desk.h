@@ -4,7 +4,8 @@
  *
  * A desk has eight slots 'A' to 'H' for plans (plans.h says what a plan is), at most one open plan, and a count of changes. It is
  * a value of the caller's: the library keeps nothing, allocates nothing and prints nothing. Calls on different desks may run at the
- * same time, calls on one desk may not. A desk may be copied and stored like any other struct.
+ * same time, calls on one desk may not. A desk may be copied and stored like any other struct. A call needs some
+ * 140 KB of stack.
  *
  * desk_line takes the records that the desk program reads, one line a call, and desk_do those that have no text, by number:
  *
@@ -16,7 +17,7 @@
  *     T  the count of changes                                U  lists the held slots: slot, n, r, pairs; in no fixed order
  *
  * Every answer begins with a number, 0 for a job done and else that of the first refusal that holds (refusals.h). First of all comes
- * REFUSED_VALUE (15): the struct is no desk; then nothing at all is changed. Any other refusal drops the open plan, if there is one,
+ * REFUSED_VALUE (15): the struct is no desk; then no field of it is changed. Any other refusal drops the open plan, if there is one,
  * and changes nothing else. The order behind 15 is
  *
  *     every record: 1, not a record; 2, M or E with no plan open, or any other record while one is open; and then

@@ -13,7 +13,8 @@ use Rattle.higman.specs.Refusals.{noRecord, invalidValue, Letter, letterByte}
 use Rattle.desk.specs.Limits.{maxChanges, maxLine}
 use Rattle.desk.specs.Desk.{Desk as DeskOf, isDesk, freshDesk, dropped}
 use Rattle.desk.specs.Records.{Record, P, E, F, I, K, S, C, T, parse, grammar, needsOpen, slotsNamed, isChange}
-use Rattle.desk.specs.Replies.{Reply, silent, ok, okNumber, okWord, lists, surveys, refuses, Outcome, refuse, pass, _>>=_, operation, lineOperation}
+use Rattle.desk.specs.Replies.{Reply, silent, ok, okNumber, okWord, lists, surveys, refuses, Outcome, refuse, pass, _>>=_}
+use Rattle.desk.specs.Replies.{operation, lineOperation}
 use Rattle.desk.specs.Replies.{job as jobOf}
 use Rattle.desk.specs.Bytes.{replyBytes}
 use Rattle.desk.specs.Buffers.{Work, Lent, lent, lentCall, plainCall}
@@ -30,7 +31,8 @@ use Rattle.desk_c.specs.declared.Done.{Done}
 use Rattle.desk_c.specs.declared.serving.Served.{Served}
 use Rattle.desk_c.specs.declared.serving.Worked.{Worked}
 
--- the bytes of a desk in C: 16 for the size of each block, 8 for the letter and the count, and 8 for each word
+-- the bytes of a desk in C: 16 for the size of each block, 8 for the letter and the count, and 8 for each word; tests/headers compares it
+-- with what C says
 abbrev pub deskSize : ℕ
 deskSize = blockCount * 16 + 8 + columnsSize * 8
 
@@ -130,7 +132,12 @@ plainOf call = record { desk = packedDesk (call .0); answer = doneOf (call .1) }
 
 -- What such a call leaves of a value, and its answer.
 unfoldable pub worked : Work → Desk → Worked
-worked work d = elim (isDeskValue d) [ true ↦ plainOf (plainCall (deskIn d) work) | false ↦ record { desk = d; answer = doneOf (refuse invalidValue none) } ]
+worked work d =
+    elim
+    (isDeskValue d) [
+      | true ↦ plainOf (plainCall (deskIn d) work)
+      | false ↦ record { desk = d; answer = doneOf (refuse invalidValue none) }
+    ]
 
 deskSize-example : deskSize ≡ 18_584
 deskSize-example = refl
@@ -149,19 +156,34 @@ jobRecord-example = refl
 
 -- T on a fresh desk, with room for its reply and with too little
 served-example : map (served (bytes "T") (packedDesk freshDesk)) (bytes "......." ∷ bytes "...." ∷ [])
-    ≡ record { desk = packedDesk freshDesk; answer = record { number = 0; column = 0; length = 5 } } ∷ refusedWith (packedDesk freshDesk) 14 0 ∷ []
-unfolding served isDeskValue deskIn packedDesk deskOf valueAt holdsTest inTable packed blank maxPairs slotCount maxChanges freshDesk dropped lentCall lent isDesk
+    ≡ record { desk = packedDesk freshDesk; answer = record { number = 0; column = 0; length = 5 } }
+    ∷ refusedWith (packedDesk freshDesk) 14 0
+    ∷ []
+unfolding served isDeskValue deskIn packedDesk deskOf valueAt holdsTest inTable packed blank maxPairs slotCount maxChanges
+    freshDesk dropped lentCall lent isDesk
     lineOperation operation jobOf needsOpen slotsNamed isChange parse grammar maxLine replyBytes deskOrder _>>=_
 served-example = refl
 
-buffer-example : map (bufferAfter (bytes "T") (packedDesk freshDesk)) (bytes "......." ∷ bytes "...." ∷ []) ≡ bytes "ok\t0\n.." ∷ bytes "...." ∷ []
-unfolding bufferAfter isDeskValue deskIn packedDesk deskOf valueAt holdsTest inTable packed blank maxPairs slotCount maxChanges freshDesk dropped lentCall lent
+buffer-example : map (bufferAfter (bytes "T") (packedDesk freshDesk)) (bytes "......." ∷ bytes "...." ∷ [])
+    ≡ bytes "ok\t0\n.." ∷ bytes "...." ∷ []
+unfolding bufferAfter isDeskValue deskIn packedDesk deskOf valueAt holdsTest inTable packed blank maxPairs slotCount maxChanges
+    freshDesk dropped lentCall lent
     isDesk lineOperation operation jobOf needsOpen slotsNamed isChange parse grammar maxLine replyBytes deskOrder _>>=_
 buffer-example = refl
 
 -- S of two empty slots: 9
 worked-example : worked (jobWork (job (byte "S"))) (packedDesk freshDesk)
     ≡ record { desk = packedDesk freshDesk; answer = record { number = 9; column = 0; value = 0 } }
-unfolding worked jobWork isDeskValue deskIn packedDesk deskOf valueAt holdsTest inTable packed blank maxPairs slotCount maxChanges freshDesk dropped plainCall
+unfolding worked jobWork isDeskValue deskIn packedDesk deskOf valueAt holdsTest inTable packed blank maxPairs slotCount maxChanges
+    freshDesk dropped plainCall
     isDesk operation jobOf needsOpen slotsNamed isChange _>>=_
 worked-example = refl
+
+-- a value with a letter that is no slot's is no desk: 15, and it is left as it came
+abbrev noDesk : Desk
+noDesk = record { blocks = []; opened = 1; changes = 0; columns = [] }
+
+no-desk-example : (served (bytes "T") noDesk (bytes ".......") ≡ refusedWith noDesk 15 0)
+    × (bufferAfter (bytes "T") noDesk (bytes ".") ≡ bytes ".")
+unfolding served bufferAfter isDeskValue slotCount
+no-desk-example = (refl, refl)

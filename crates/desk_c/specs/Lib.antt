@@ -1,5 +1,5 @@
--- The definitions that the contracts of this crate cite: what the calls answer, and what the functions beneath them promise; and what holds of a
--- desk that a call leaves.
+-- The definitions that the contracts of this crate cite, what the calls answer and what the functions beneath them promise; and the
+-- statement that a desk that a call leaves is one for the next.
 pub mod Calls
 pub mod Settling
 pub mod Theorems

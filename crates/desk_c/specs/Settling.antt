@@ -1,4 +1,5 @@
--- What the functions beneath the calls promise: how the outcome of a work on a head and columns is told. Inner; a reader may stop at Calls.antt.
+-- What the functions beneath the calls promise: how the outcome of a work on a head and columns is told. These are inner: a reader may
+-- stop at Calls.antt and Theorems.antt.
 use Prim.Native.Nat.{ℕ}
 use mathlib.Core.Path.{_≡_}
 use mathlib.Core.List.{List}
@@ -50,7 +51,8 @@ pub record Settled (d : DeskOf) (line : Bytes) (out : List ℕ) (r : Replied) (c
 
 abbrev pub WroteBy : Work → List ℕ → Replied → List ℕ → Type 0
 WroteBy w out r out′ =
-    (d : DeskOf) (line : Bytes) (out₀ columns′ : List ℕ) → DoneBy d (lineOperation d line) out₀ w columns′ out → Settled d line out₀ r columns′ out′
+    (d : DeskOf) (line : Bytes) (out₀ columns′ : List ℕ) → DoneBy d (lineOperation d line) out₀ w columns′ out
+    → Settled d line out₀ r columns′ out′
 
 -- a record without text is done
 abbrev pub JobDone : Job → Head → List ℕ → Work → List ℕ → Type 0

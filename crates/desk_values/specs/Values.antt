@@ -1,5 +1,5 @@
--- A desk as one value: the desk that a value holds, the test that it is one, and the value of a desk. That the values that pass the test are
--- just those of desks is a statement, `DeskValues`, with a term of it in proofs/.
+-- A desk as one value: the desk that a value holds, the test that it is one, and the value of a desk. That the values that pass the test
+-- are just those of desks is a statement, `DeskValues`, with a term of it in proofs/.
 use Prim.Native.Nat.{ℕ}
 use mathlib.Core.Path.{_≡_, refl}
 use mathlib.Core.Bool.{Bool, true, false, _&&_, not}
@@ -103,8 +103,8 @@ pub record Whole (d : Desk) : Type 0 where
   pub headed : length (d .blocks) ≡ blockCount
   pub sized : length (d .columns) ≡ columnsSize
 
--- The values that pass the test are those of desks: each holds a desk, and is the one value of it; and the value of a desk passes, and holds
--- that desk. So a desk that a call leaves is one for the next.
+-- The values that pass the test are those of desks: each holds a desk, and is the one value of it; and the value of a desk passes, and
+-- holds that desk.
 pub record DeskValues : Type 0 where
   pub holds : (v : Desk) → Whole v → T (isDeskValue v) → IsDesk (deskIn v)
   pub one-value : (v : Desk) → Whole v → T (isDeskValue v) → packedDesk (deskIn v) ≡ v
@@ -123,8 +123,9 @@ opened = withDraft held (record { slot = 1; shape = record { arity = 2; roots = 
 
 -- their values are desks, and hold them
 isDeskValue-example : map (λ d. isDeskValue (packedDesk d)) (freshDesk ∷ held ∷ opened ∷ []) ≡ true ∷ true ∷ true ∷ []
-unfolding isDeskValue packedDesk valueAt holdsTest isPlan inTable isKept shapeInRange granted isPlanWord maxPairs maxDigits maxChanges slotCount verdict keep
-    normalForm normal joined packed blank pack packOn unpack unpackIn freshDesk changed withDraft
+unfolding isDeskValue packedDesk valueAt holdsTest isPlan inTable isKept shapeInRange granted isPlanWord maxPairs maxDigits
+    maxChanges slotCount verdict keep normalForm normal joined packed blank pack packOn unpack unpackIn freshDesk changed
+    withDraft
 isDeskValue-example = refl
 
 deskIn-example : deskIn (packedDesk opened) ≡ opened
@@ -142,6 +143,7 @@ spoiled =
     ∷ []
 
 spoiled-example : map isDeskValue spoiled ≡ false ∷ false ∷ false ∷ false ∷ []
-unfolding isDeskValue packedDesk valueAt holdsTest isPlan inTable isKept shapeInRange granted isPlanWord maxPairs maxDigits maxChanges slotCount verdict keep
-    normalForm normal joined packed blank pack packOn unpack unpackIn freshDesk changed withDraft
+unfolding isDeskValue packedDesk valueAt holdsTest isPlan inTable isKept shapeInRange granted isPlanWord maxPairs maxDigits
+    maxChanges slotCount verdict keep normalForm normal joined packed blank pack packOn unpack unpackIn freshDesk changed
+    withDraft
 spoiled-example = refl
