@@ -129,9 +129,12 @@ job-answers d Tᴿ = passes tt
 job-answers d U = passes tt
 
 -- only a refusal replies as one
+pub operation-answers : (d : Desk) (r : Record) → Passes Answered (operation d r)
+operation-answers d r = passes-operation d r (λ _. job-answers d r)
+
 pub line-answers : (d : Desk) (line : Bytes) → Passes Answered (lineOperation d line)
 unfolding lineOperation
-line-answers d line = any-then _ (λ r. passes-operation d r (λ _. job-answers d r))
+line-answers d line = any-then _ (operation-answers d)
 
 settled-refusal : (d : Desk) (o : Outcome Effect) → Passes Answered o → (n : ℕ) (c : Option Letter) → settle d o .1 ≡ refuses n c
     → settle d o .0 ≡ dropped d

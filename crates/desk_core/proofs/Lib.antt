@@ -4,3 +4,4 @@ pub mod Grown
 pub mod Ended
 pub mod Fresh
 pub mod Feeds
+pub mod Ends

@@ -91,7 +91,7 @@ fn line_end(input: &[u8], at: usize) -> usize
 }
 
 // Bytes copied behind the beginning of a line.
-fn copy(line: &mut [u8], begun: usize, part: &[u8])
+pub fn copy(line: &mut [u8], begun: usize, part: &[u8])
     requires { ⌜ begun + length (now part) ≤ length (now line) ⌝ }
     ensures { λ _. ⌜ now (line .exit) ≡ written (now (line .entry)) begun (now (part .entry)) ⌝ }
 {

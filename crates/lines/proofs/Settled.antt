@@ -82,7 +82,7 @@ told-number (surveys hs) n e = let z : _≡_ {A = ℕ} 0 1 = cc in absurd (omega
 told-number (refuses k none) n e = let z : _≡_ {A = ℕ} 0 1 = cc in absurd (omega arith)
 told-number (refuses k (some c)) n e = let z : _≡_ {A = ℕ} 0 1 = cc in absurd (omega arith)
 
-told-refused : (p : Reply) (n : ℕ) → told p ≡ Refused n → p ≡ refuses n none
+pub told-refused : (p : Reply) (n : ℕ) → told p ≡ Refused n → p ≡ refuses n none
 told-refused silent n e = let z : _≡_ {A = ℕ} 0 1 = cc in absurd (omega arith)
 told-refused ok n e = let z : _≡_ {A = ℕ} 0 1 = cc in absurd (omega arith)
 told-refused (okNumber k) n e = let z : _≡_ {A = ℕ} 0 1 = cc in absurd (omega arith)
@@ -92,7 +92,7 @@ told-refused (surveys hs) n e = let z : _≡_ {A = ℕ} 0 1 = cc in absurd (omeg
 told-refused (refuses k none) n e = cc
 told-refused (refuses k (some c)) n e = let z : _≡_ {A = ℕ} 0 1 = cc in absurd (omega arith)
 
-told-column : (p : Reply) (n l : ℕ) → told p ≡ RefusedIn n l → (c : Letter) × (p ≡ refuses n (some c)) × (l ≡ letterByte c)
+pub told-column : (p : Reply) (n l : ℕ) → told p ≡ RefusedIn n l → (c : Letter) × (p ≡ refuses n (some c)) × (l ≡ letterByte c)
 told-column silent n l e = let z : _≡_ {A = ℕ} 0 1 = cc in absurd (omega arith)
 told-column ok n l e = let z : _≡_ {A = ℕ} 0 1 = cc in absurd (omega arith)
 told-column (okNumber k) n l e = let z : _≡_ {A = ℕ} 0 1 = cc in absurd (omega arith)

@@ -80,7 +80,7 @@ pub fn settle(work: Work, out: &mut [u8]) -> Stepped
 }
 
 // The work of the record that was read of a line.
-fn perform(head: Head, columns: &mut [u64], line: &[u8], record: Record, out: &mut [u8]) -> Work
+pub fn perform(head: Head, columns: &mut [u64], line: &[u8], record: Record, out: &mut [u8]) -> Work
     requires { ⌜ Working head (now columns) (now line) «record» (now out) ⌝ }
     ensures { λ r. ⌜ LineDone head (now (columns .entry)) (now (line .entry)) «record» (now (out .entry)) r
         (now (columns .exit)) (now (out .exit)) ⌝ }

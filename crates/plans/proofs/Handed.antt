@@ -50,7 +50,7 @@ words-pack =
       packed-again = pack-unpack;
     }
 
-zeros-replicated : (l : List ℕ) → T (zeros l) → l ≡ replicate (length l) 0
+pub zeros-replicated : (l : List ℕ) → T (zeros l) → l ≡ replicate (length l) 0
 zeros-replicated [] t = refl
 zeros-replicated (x ∷ l) t =
     ap₂ _∷_ (eqb→eq x 0 (all-head (λ y. eqb y 0) x l t)) (zeros-replicated l (all-tail (λ y. eqb y 0) x l t))
@@ -67,7 +67,7 @@ module _ (n : ℕ) (l : List ℕ) (z : T (zeros (drop n l))) where
       let place : n + (i - n) ≡ i = omega arith in
       ap (λ j. getD l j 0) (sym place) ∙ sym (getD-drop n l (i - n) 0) ∙ zero-at (drop n l) z (i - n)
 
-  filled-again : length l ≡ maxPairs → filling n l ≡ l
+  pub filled-again : length l ≡ maxPairs → filling n l ≡ l
   filled-again e =
       ap (λ k. take n l ++ replicate k 0) (ap (λ k. k - n) (sym e) ∙ sym (length-drop n l))
       ∙ ap (λ u. take n l ++ u) (sym (zeros-replicated (drop n l) z))

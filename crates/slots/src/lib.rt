@@ -20,6 +20,7 @@ pub const BLOCKS: usize = 9;
 pub const DRAFT: usize = 8;
 
 // The shape and the number of pairs of what a block holds; a slot that holds no plan has no pairs.
+#[repr(C)]
 pub struct Size {
     pub arity: u8,
     pub roots: u8,

@@ -16,7 +16,7 @@ pub const COUNT_LIMIT: u64 = 4_000_000_000;
 pub const LINE_BYTES: usize = 1100;
 
 /// The reply to a record, or the refusal of it.
-type Reply = Result<Vec<u8>, Refusal>;
+pub type Reply = Result<Vec<u8>, Refusal>;
 
 /// The desk with the line that is being read.
 #[derive(Clone, Debug, Default)]
@@ -29,11 +29,11 @@ pub struct Desk {
 
 /// A plan between its P and its E. The pairs stay as typed, since a word may
 /// be there twice until E looks.
-#[derive(Clone, Debug)]
-struct OpenPlan {
-    slot: u8,
-    shape: Shape,
-    typed: Vec<(Word, Word)>,
+#[derive(Clone, Debug, PartialEq, Eq)]
+pub struct OpenPlan {
+    pub slot: u8,
+    pub shape: Shape,
+    pub typed: Vec<(Word, Word)>,
 }
 
 /// The bytes of a line so far. Of a line that is too long only the fact is
@@ -50,14 +50,6 @@ impl Line {
             self.bytes.push(byte);
         } else {
             self.too_long = true;
-        }
-    }
-
-    fn record(&self) -> Result<Record<'_>, Refusal> {
-        if self.too_long {
-            Err(Refusal::Form)
-        } else {
-            Record::read(&self.bytes)
         }
     }
 }
@@ -87,6 +79,19 @@ impl Desk {
         }
     }
 
+    /// A desk with these contents, for the calls that are handed one: it may
+    /// have come about in any way.
+    pub fn with_contents(slots: BTreeMap<u8, Plan>, open: Option<OpenPlan>, count: u64) -> Desk {
+        let targets = open.iter().map(|open| &open.slot);
+        let letters: Vec<u8> = slots.keys().chain(targets).copied().collect();
+        assert!(slots_in_range(&letters).is_ok(), "slots are A to H");
+        Desk {
+            slots,
+            open,
+            ..Desk::with_count(count)
+        }
+    }
+
     pub fn count(&self) -> u64 {
         self.count
     }
@@ -94,6 +99,11 @@ impl Desk {
     /// The plan in this slot, if it holds one.
     pub fn plan(&self, slot: u8) -> Option<&Plan> {
         self.slots.get(&slot)
+    }
+
+    /// The open plan, if there is one.
+    pub fn open_plan(&self) -> Option<&OpenPlan> {
+        self.open.as_ref()
     }
 
     /// Takes the next bytes of input and adds the replies to all lines they
@@ -119,14 +129,25 @@ impl Desk {
 
     fn end_line(&mut self, out: &mut Vec<u8>) {
         let line = std::mem::take(&mut self.line);
-        let reply = line.record().and_then(|record| self.answer(record));
-        match reply {
+        let record = if line.too_long {
+            Err(Refusal::Form)
+        } else {
+            Record::read(&line.bytes)
+        };
+        match self.reply(record) {
             Ok(lines) => out.extend(lines),
-            Err(refusal) => {
-                self.open = None;
-                out.extend(refusal.line().bytes());
-            }
+            Err(refusal) => out.extend(refusal.line().bytes()),
         }
+    }
+
+    /// The reply to a record as it was read. "Any refusal drops an open plan
+    /// and changes nothing else."
+    pub fn reply(&mut self, record: Result<Record, Refusal>) -> Reply {
+        let reply = record.and_then(|record| self.answer(record));
+        if reply.is_err() {
+            self.open = None;
+        }
+        reply
     }
 
     fn answer(&mut self, record: Record) -> Reply {

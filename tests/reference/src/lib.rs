@@ -13,7 +13,8 @@ pub mod refusal;
 pub mod words;
 
 pub use basis::{Fault, Flaw, Side};
-pub use desk::{session, Desk, COUNT_LIMIT};
+pub use desk::{session, Desk, OpenPlan, COUNT_LIMIT, LINE_BYTES};
 pub use plan::Plan;
+pub use records::Record;
 pub use refusal::Refusal;
 pub use words::{Shape, Word, CODE_DIGITS, PAIRS, WORD_DIGITS};

@@ -1,6 +1,6 @@
 -- `piecewise::run` meets its contract: what the end of input is answered with has room.
 use borrow.Author.Needs.{needs}
-use Rattle.piecewise.proofs.Ends.{finished-fits}
+use Rattle.desk_core.proofs.Ends.{finished-fits}
 use Rattle.piecewise.proofs.run.Statement.{statement}
 use Rattle.piecewise.proofs.run.Tie as tie
 

@@ -1,0 +1,4 @@
+-- The laws of the calls, each file after those it leans on; the proofs of the functions cite them.
+pub mod Replied
+pub mod Lent
+pub mod Jobs

@@ -1,0 +1,3 @@
+-- The laws of desks as values, which the proofs of the functions cite.
+pub mod Blocks
+pub mod Exact

@@ -1,0 +1,36 @@
+-- `desk_values::packed` meets its contract.
+use mathlib.Core.Path.{_≡_, _∙_, ap}
+use borrow.Author.Needs.{needs}
+use Rattle.operations.specs.declared.Plan.{Plan}
+use Rattle.slots.specs.Blocks.{sizeOf, put}
+use Rattle.slots.specs.Desks.{draftBlock}
+use Rattle.desk_values.specs.Values.{tidySizes}
+use Rattle.desk_values.proofs.Blocks.{desk-packed}
+use Rattle.desk_values.proofs.packed.Statement.{statement}
+use Rattle.desk_values.proofs.packed.Tie as tie
+
+returns : tie.Need-returns
+returns c =
+    let p = c .before .before .before in
+    let o = p .before .before in
+    let d = o .before .before in
+    let s = d .before .before in
+    let h = s .args .head in
+    let draft = d .draft-of .ensures in
+    let sizes = c .tidied-sizes .ensures ∙ ap (λ (v : Plan). tidySizes (h .sizes) (sizeOf v)) draft in
+    let words = p .put .ensures ∙ ap (put (s .args .columns) draftBlock) draft in
+    let opened = o .opened-by .ensures in
+    (λ i. record { blocks = sizes i; opened = opened i; changes = h .changes; columns = words i }) ∙ desk-packed h (s .args .columns) (s .pre)
+
+pub packed-spec : {M : Type 1} → statement M
+packed-spec =
+    tie.close
+    (tie.spec
+    (λ c. search needs)
+    (λ c κs. search needs)
+    (λ c. search needs)
+    (λ c κs. search needs)
+    (λ c. search needs)
+    (λ c κs. search needs)
+    (λ c κs. search needs)
+    returns)

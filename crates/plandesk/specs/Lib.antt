@@ -1,0 +1,2 @@
+-- What the program promises of its state.
+pub mod Session

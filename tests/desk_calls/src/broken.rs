@@ -1,0 +1,268 @@
+//! Copies of the second implementation that are wrong in one way each, as a desk
+//! might well be. The checks must tell every one of them from a sound one; that
+//! shows what an agreement of the proved desk with the second implementation is
+//! worth.
+
+use library::{packed, Plan};
+use reference::COUNT_LIMIT;
+
+use crate::calls::Calls;
+use crate::faults::Fault;
+use crate::second::Second;
+use crate::values::{Desk, Done, Job, Written, OPEN, SLOTS};
+
+/// The second implementation with a fault.
+pub struct Broken {
+    fault: Fault,
+    second: Second,
+}
+
+impl Broken {
+    pub fn new(fault: Fault) -> Broken {
+        Broken {
+            fault,
+            second: Second::default(),
+        }
+    }
+
+    fn is(&self, fault: Fault) -> bool {
+        self.fault == fault
+    }
+
+    /// The desk as the faulty test of desks sees it.
+    fn seen(&self, desk: &Desk) -> Desk {
+        let mut seen = *desk;
+        // the other faults are blind to what makes a value no desk
+        if self.second.is_desk(desk) && !self.is(Fault::OpenMustBePlan) {
+            return seen;
+        }
+        match self.fault {
+            Fault::BehindIgnored => (0..=OPEN).for_each(|block| clear_behind(&mut seen, block)),
+            Fault::EmptyIgnored => {
+                for slot in 0..SLOTS {
+                    if seen.blocks[slot] == Default::default() {
+                        seen.words(slot).fill(0);
+                    }
+                }
+            }
+            Fault::OrderIgnored | Fault::JoinsIgnored | Fault::BasesIgnored => {
+                for slot in 0..SLOTS {
+                    if let Some(value) = self.repaired(&seen.value(slot)) {
+                        seen.put(slot, &value);
+                    }
+                }
+            }
+            Fault::NarrowCount => seen
+                .blocks
+                .iter_mut()
+                .for_each(|block| block.pairs &= 0xffff_ffff),
+            Fault::LetterIgnored if !seen.opened.is_ascii_uppercase() || seen.opened > b'H' => {
+                seen = seen.without_open();
+            }
+            Fault::LeftIgnored if seen.opened == 0 => seen = seen.without_open(),
+            Fault::OpenMustBePlan if is_mere_draft(&seen) => seen.opened = 1,
+            Fault::ChangesIgnored => seen.changes = seen.changes.min(COUNT_LIMIT as u32),
+            _ => {}
+        }
+        seen
+    }
+
+    /// A slot's value made into a plan where the fault takes it for one.
+    fn repaired(&self, value: &Plan) -> Option<Plan> {
+        let (shape, mut rows) = packed::draft(value)?;
+        let Ok(plan) = reference::Plan::keep(shape, &rows) else {
+            let belts = packed::plan_value(&reference::Plan::identity(shape));
+            return (self.is(Fault::BasesIgnored) && !rows.is_empty()).then_some(belts);
+        };
+        let kept = packed::plan_value(&plan);
+        let in_order = rows.windows(2).all(|pair| pair[0].0 < pair[1].0);
+        rows.sort();
+        let reduced = plan.pair_list() == rows;
+        match self.fault {
+            Fault::OrderIgnored => reduced.then_some(kept),
+            Fault::JoinsIgnored => in_order.then_some(kept),
+            _ => None,
+        }
+    }
+
+    /// The line as the faulty reading sees it.
+    fn read<'a>(&self, line: &'a [u8]) -> &'a [u8] {
+        let end = match self.fault {
+            Fault::LongLineCut => Some(1100),
+            Fault::LineEndsAtTen => line.iter().position(|byte| *byte == 10),
+            Fault::LineEndsAtZero => line.iter().position(|byte| *byte == 0),
+            _ => None,
+        };
+        &line[..end.unwrap_or(line.len()).min(line.len())]
+    }
+
+    /// What is left of a desk that was refused with 15.
+    fn leave_no_desk(&self, desk: &mut Desk) {
+        match self.fault {
+            Fault::DroppedByNoDesk => *desk = desk.without_open(),
+            Fault::ClearedNoDesk => *desk = Desk::FRESH,
+            _ => {}
+        }
+    }
+
+    /// What a refusal, that with this number, leaves besides a sound desk.
+    fn leave_refused(&self, before: &Desk, desk: &mut Desk, number: u8) {
+        match self.fault {
+            Fault::OpenAfterShortBuffer if number == 14 => *desk = *before,
+            Fault::OpenAfterRefusal if number != 14 => *desk = *before,
+            Fault::WordsAfterRefusal => {
+                desk.put(OPEN, &before.value(OPEN));
+                desk.blocks[OPEN] = Default::default();
+            }
+            Fault::CountedRefusal if number == 11 => desk.changes += 1,
+            _ => {}
+        }
+    }
+
+    /// What a job done leaves besides a sound desk.
+    fn leave_done(&self, before: &Desk, desk: &mut Desk) {
+        for slot in 0..SLOTS {
+            let (was, is) = (before.value(slot), desk.value(slot));
+            let cleared = is.pairs == 0 && self.is(Fault::WordsAfterClear);
+            let shorter = is.pairs > 0 && self.is(Fault::WordsAfterKeep);
+            if (cleared || shorter) && is.pairs < was.pairs {
+                let mut left = is;
+                left.from[is.pairs..].copy_from_slice(&was.from[is.pairs..]);
+                left.to[is.pairs..].copy_from_slice(&was.to[is.pairs..]);
+                desk.put(slot, &left);
+            }
+        }
+    }
+
+    /// What is wrong with the buffer after an answer.
+    fn spoil_buffer(&self, line: &[u8], answer: &mut Written, out: &mut [u8]) {
+        let end = answer.length;
+        match self.fault {
+            Fault::WrittenRefusal if answer.number != 0 && answer.number != 15 => {
+                let text = format!("no\t{}\n", answer.number);
+                if let Some(front) = out.get_mut(..text.len()) {
+                    front.copy_from_slice(text.as_bytes());
+                }
+            }
+            Fault::ByteBehind if answer.number == 0 && end < out.len() => out[end] = 0,
+            Fault::ClearedBuffer if answer.number == 0 => out[end..].fill(0),
+            Fault::SlotMissing | Fault::SlotTwice if line == b"U" && answer.number == 0 => {
+                let lines: Vec<Vec<u8>> = out[..end]
+                    .split_inclusive(|byte| *byte == b'\n')
+                    .map(<[u8]>::to_vec)
+                    .collect();
+                if lines.len() > 2 {
+                    let mut wrong = lines.clone();
+                    if self.is(Fault::SlotTwice) {
+                        wrong[1] = wrong[0].clone();
+                    } else {
+                        wrong.remove(lines.len() - 2);
+                    }
+                    let wrong = wrong.concat();
+                    if wrong.len() <= out.len() {
+                        out[..wrong.len()].copy_from_slice(&wrong);
+                        answer.length = wrong.len();
+                    }
+                }
+            }
+            _ => {}
+        }
+    }
+}
+
+impl Calls for Broken {
+    fn fresh(&self) -> Desk {
+        self.second.fresh()
+    }
+
+    fn size(&self) -> usize {
+        self.second.size()
+    }
+
+    fn is_desk(&self, desk: &Desk) -> bool {
+        self.second.is_desk(&self.seen(desk))
+    }
+
+    fn line(&self, desk: &mut Desk, line: &[u8], out: &mut [u8]) -> Written {
+        let before = *desk;
+        let line = self.read(line);
+        if !self.is_desk(desk) {
+            self.leave_no_desk(desk);
+            let form = line.is_empty() && self.is(Fault::FormBeforeNoDesk);
+            return Written::refused(if form { 1 } else { 15 }, 0);
+        }
+        let mut after = self.seen(desk);
+        let mut answer = self.second.line(&mut after, line, out);
+        if answer.number == 14 {
+            let (mut done, mut whole) = (self.seen(&before), [0; 5000]);
+            let written = self.second.line(&mut done, line, &mut whole);
+            if self.is(Fault::WorkBeforeShortBuffer) {
+                after = done;
+            }
+            if self.is(Fault::CutReply) && written.length == out.len() + 1 {
+                out.copy_from_slice(&whole[..out.len()]);
+                after = done;
+                answer = Written::bytes(out.len());
+            }
+        }
+        *desk = after;
+        if answer.number == 0 {
+            self.leave_done(&before, desk);
+        } else {
+            self.leave_refused(&before, desk, answer.number);
+        }
+        self.spoil_buffer(line, &mut answer, out);
+        if self.is(Fault::NoColumn) {
+            answer.column = 0;
+        }
+        answer
+    }
+
+    fn job(&self, desk: &mut Desk, job: Job) -> Done {
+        let before = *desk;
+        let mut job = job;
+        match self.fault {
+            Fault::TargetThird if matches!(job.letter, b'I' | b'K') => job.b = job.c,
+            Fault::NarrowExponent => job.k = i32::from(job.k as i16),
+            Fault::DigitsInJobs if job.letter == b'P' => {
+                job.b = job.b.wrapping_sub(b'0');
+                job.c = job.c.wrapping_sub(b'0');
+            }
+            // a survey in its place, which has a number for a value
+            Fault::ListingTaken if job.letter == b'U' => job.letter = b'T',
+            _ => {}
+        }
+        if !self.is_desk(desk) {
+            self.leave_no_desk(desk);
+            return Done::refused(15, 0);
+        }
+        let mut after = self.seen(desk);
+        let mut answer = self.second.job(&mut after, job);
+        *desk = after;
+        if answer.number == 0 {
+            self.leave_done(&before, desk);
+        } else {
+            self.leave_refused(&before, desk, answer.number);
+        }
+        match self.fault {
+            Fault::NoColumn => answer.column = 0,
+            Fault::NoValue if job.letter == b'S' => answer.value = 0,
+            _ => {}
+        }
+        answer
+    }
+}
+
+/// Whether a plan is open that couldn't be kept as it stands.
+fn is_mere_draft(desk: &Desk) -> bool {
+    desk.opened != 0 && packed::kept(&desk.value(OPEN)).is_none()
+}
+
+fn clear_behind(desk: &mut Desk, block: usize) {
+    let mut value = desk.value(block);
+    if value.pairs > 0 && value.pairs <= value.from.len() {
+        value.from[value.pairs..].fill(0);
+        value.to[value.pairs..].fill(0);
+        desk.put(block, &value);
+    }
+}

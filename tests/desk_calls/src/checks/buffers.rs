@@ -1,0 +1,47 @@
+//! Every record that replies, with buffers that fit, are short by one, are empty
+//! or have more room than is needed; with a plan open and without.
+
+use super::side_by_side::{SideBySide, AMPLE};
+use crate::calls::Calls;
+use crate::random::desks::{prepared, with_psi_open};
+use crate::values::Desk;
+
+pub fn of_every_length(calls: &dyn Calls) {
+    let mut both = SideBySide::new(calls, &Desk::FRESH);
+    let open = with_psi_open(&prepared(), b'A');
+    let deep_image = [b"W\tA\t12", &[b'1'; 1022][..]].concat();
+    let lines: [&[u8]; 15] = [
+        b"F\tA\tB\tC",
+        b"I\tE\tF",
+        b"K\tA\t14\tA",
+        b"K\tB\t0\tB",
+        b"S\tA\tB",
+        b"W\tA\t1122",
+        &deep_image,
+        b"L\tA",
+        b"L\tE",
+        b"C\tE",
+        b"T",
+        b"U",
+        b"P\tF\t2\t1",
+        b"W\tA\t11",
+        b"X",
+    ];
+    let on_open: [&[u8]; 4] = [b"E", b"M\t1\t1", b"T", b"M\t\t"];
+    let of_closed = lines.iter().map(|line| (prepared(), *line));
+    let of_open = on_open.iter().map(|line| (open, *line));
+    let of_fresh = [(Desk::FRESH, &b"U"[..]), (Desk::FRESH, b"T")];
+    for (desk, line) in of_closed.chain(of_open).chain(of_fresh) {
+        both.start(&desk);
+        let length = both.line(line).length;
+        let shorter = [length.saturating_sub(1), length / 2, 1, 0];
+        for room in [&[length, length + 1, AMPLE][..], &shorter].concat() {
+            both.start(&desk);
+            both.line_into(line, room);
+            // what a short buffer kept from being done can be done yet
+            both.line(line);
+            both.line(b"U");
+        }
+    }
+    both.tally.demand(10, &["0", "1", "2", "13", "14"]);
+}

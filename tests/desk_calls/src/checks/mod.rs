@@ -1,0 +1,37 @@
+//! The checks: each compares some calls with the second implementation on many
+//! inputs, and fails too if a kind of answer never came up. They take any offer
+//! of the calls, so that broken copies can be held to the same.
+
+pub mod buffers;
+pub mod damage;
+pub mod jobs;
+pub mod lines;
+pub mod paper;
+pub mod refusals;
+pub mod sessions;
+pub mod side_by_side;
+
+use crate::calls::Calls;
+
+/// A check and its name.
+pub type Check = (&'static str, fn(&dyn Calls));
+
+/// Every check, those that take long behind the others.
+pub const ALL: [Check; 16] = [
+    ("paper::session", paper::session),
+    ("paper::session_in_jobs", paper::session_in_jobs),
+    ("paper::refusals_of_calls", paper::refusals_of_calls),
+    ("lines::of_any_bytes", lines::of_any_bytes),
+    ("lines::at_the_limit", lines::at_the_limit),
+    ("lines::for_every_slot", lines::for_every_slot),
+    ("jobs::of_every_letter", jobs::of_every_letter),
+    ("jobs::in_chains", jobs::in_chains),
+    ("jobs::of_every_number", jobs::of_every_number),
+    ("buffers::of_every_length", buffers::of_every_length),
+    ("refusals::one_after_another", refusals::one_after_another),
+    ("damage::of_every_kind", damage::of_every_kind),
+    ("damage::of_any_word", damage::of_any_word),
+    ("sessions::of_full_desks", sessions::of_full_desks),
+    ("sessions::of_lines", sessions::of_lines),
+    ("sessions::with_jobs", sessions::with_jobs),
+];

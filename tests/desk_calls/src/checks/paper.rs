@@ -1,0 +1,128 @@
+//! The session of document 01 in full, with the replies that it gives, in lines
+//! and as far as that goes in jobs; and what only calls refuse, in so many words.
+//! Nothing here asks the second implementation.
+
+use crate::calls::Calls;
+use crate::values::{Desk, Done, Job, Written};
+
+const PLAN: [&str; 4] = ["P\tA\t2\t1", "M\t111\t11", "M\t112\t121", "M\t12\t122"];
+
+/// Asserts the reply to a line, in a buffer that it fills and in one that is
+/// longer.
+fn reply(calls: &dyn Calls, desk: &mut Desk, line: &str, reply: &str) {
+    let before = *desk;
+    for room in [reply.len() + 20, reply.len()] {
+        *desk = before;
+        let mut out = vec![b'.'; room];
+        let written = calls.line(desk, line.as_bytes(), &mut out);
+        assert_eq!(written, Written::bytes(reply.len()), "to {line}");
+        assert_eq!(&out[..reply.len()], reply.as_bytes(), "to {line}");
+        assert!(out[reply.len()..].iter().all(|byte| *byte == b'.'));
+    }
+}
+
+pub fn session(calls: &dyn Calls) {
+    assert_eq!(calls.size(), std::mem::size_of::<Desk>());
+    assert_eq!(calls.size(), 18_584);
+    let mut desk = calls.fresh();
+    assert_eq!(desk, Desk::FRESH);
+    for line in PLAN {
+        assert!(calls.is_desk(&desk));
+        reply(calls, &mut desk, line, "");
+    }
+    assert_eq!((desk.opened, desk.blocks[8].pairs), (b'A', 3));
+    assert_eq!(desk.columns[2048..2051], [0x111, 0x112, 0x12]);
+    assert_eq!(desk.columns[2176..2179], [0x11, 0x121, 0x122]);
+    reply(calls, &mut desk, "E", "ok\t3\n");
+    assert_eq!((desk.opened, desk.changes), (0, 1));
+    assert!(desk.is_empty(8));
+    reply(calls, &mut desk, "W\tA\t1122", "ok\t1212\n");
+    reply(calls, &mut desk, "K\tA\t2\tB", "ok\t4\n");
+    let listing = "P\tB\t2\t1\nM\t1111\t11\nM\t1112\t121\nM\t112\t1221\nM\t12\t1222\nE\n";
+    reply(calls, &mut desk, "L\tB", listing);
+    assert_eq!(desk.columns[256..260], [0x1111, 0x1112, 0x112, 0x12]);
+    let mut out = [b'.'; 40];
+    let written = calls.line(&mut desk, b"W\tA\t11", &mut out);
+    assert_eq!((written, out), (Written::refused(13, 0), [b'.'; 40]));
+    reply(calls, &mut desk, "T", "ok\t2\n");
+    assert!(calls.is_desk(&desk));
+}
+
+pub fn session_in_jobs(calls: &dyn Calls) {
+    let job = |letter, a, b, c, k| Job { letter, a, b, c, k };
+    let mut desk = calls.fresh();
+    let opened = calls.job(&mut desk, job(b'P', b'A', 2, 1, 0));
+    assert_eq!(opened, Done::value(0));
+    for line in &PLAN[1..] {
+        reply(calls, &mut desk, line, "");
+    }
+    let jobs = [
+        (job(b'E', 0, 0, 0, 0), Done::value(3)),
+        (job(b'K', b'A', b'B', 0, 2), Done::value(4)),
+        (job(b'I', b'A', b'C', 0, 0), Done::value(3)),
+        (job(b'F', b'A', b'C', b'D', 0), Done::value(1)),
+        (job(b'S', b'A', b'B', 0, 0), Done::value(0)),
+        (job(b'S', b'A', b'A', 0, 0), Done::value(1)),
+        (job(b'T', 0, 0, 0, 0), Done::value(4)),
+        (job(b'C', b'D', 0, 0, 0), Done::value(0)),
+        (job(b'C', b'D', 0, 0, 0), Done::refused(9, 0)),
+        (job(b'K', b'A', b'B', 0, 15), Done::refused(11, 0)),
+        (job(b'K', b'H', b'B', 0, 1001), Done::refused(12, 0)),
+        (job(b'W', b'A', 0, 0, 0), Done::refused(1, 0)),
+        (job(b'P', b'A', 10, 1, 0), Done::refused(3, 0)),
+        (job(b'P', b'A', 2, 1, 0), Done::value(0)),
+        (job(b'E', 0, 0, 0, 0), Done::refused(7, b'F')),
+        (job(b'E', 0, 0, 0, 0), Done::refused(2, 0)),
+        (job(b'T', 0, 0, 0, 0), Done::value(5)),
+    ];
+    for (job, answer) in jobs {
+        assert_eq!(calls.job(&mut desk, job), answer, "to {job:?}");
+    }
+}
+
+/// "Library calls put 15 before all these"; "such a desk has no open plan to
+/// drop and is left as it came". "Calls that write bytes put 14 last", and "any
+/// refusal drops an open plan and changes nothing else".
+pub fn refusals_of_calls(calls: &dyn Calls) {
+    let mut fresh = calls.fresh();
+    for line in PLAN {
+        reply(calls, &mut fresh, line, "");
+    }
+    let open = fresh;
+    for (line, number) in [("T", 2), ("", 1), ("M\t3\t1", 4), ("P\tZ\t0\t0", 2)] {
+        let mut desk = open;
+        let mut out = [b'.'; 9];
+        let answer = calls.line(&mut desk, line.as_bytes(), &mut out);
+        assert_eq!(answer, Written::refused(number, 0), "to {line}");
+        assert_eq!((desk, out), (Desk::FRESH, [b'.'; 9]), "after {line}");
+    }
+    let mut desk = open;
+    let mut out = [b'.'; 4];
+    assert_eq!(
+        calls.line(&mut desk, b"E", &mut out),
+        Written::refused(14, 0)
+    );
+    assert_eq!((desk, out), (Desk::FRESH, [b'.'; 4]));
+
+    let mut no_desk = open;
+    no_desk.changes = 4_000_000_001;
+    assert!(calls.is_desk(&open) && !calls.is_desk(&no_desk));
+    for line in ["E", "", "T", "M\t3\t1"] {
+        let mut desk = no_desk;
+        let mut out = [b'.'; 9];
+        let answer = calls.line(&mut desk, line.as_bytes(), &mut out);
+        assert_eq!(answer, Written::refused(15, 0), "to {line}");
+        assert_eq!((desk, out), (no_desk, [b'.'; 9]), "after {line}");
+    }
+    let mut desk = no_desk;
+    let job = Job {
+        letter: b'E',
+        ..Job::default()
+    };
+    assert_eq!(calls.job(&mut desk, job), Done::refused(15, 0));
+    assert_eq!(desk, no_desk);
+    desk.changes -= 1;
+    assert_eq!(calls.job(&mut desk, job), Done::refused(16, 0));
+    assert_eq!((desk.opened, desk.changes), (0, 4_000_000_000));
+    assert!(desk.is_empty(0) && desk.is_empty(8));
+}

@@ -1,0 +1,85 @@
+//! Each refusal, and then what the desk does after it: an open plan is gone, and
+//! the slots and the count are as they were.
+
+use reference::COUNT_LIMIT;
+
+use super::side_by_side::SideBySide;
+use crate::calls::Calls;
+use crate::random::desks::{prepared, with_psi_open};
+use crate::values::{Desk, Job};
+
+/// Refused on the prepared desk, or with a plan open there.
+const LINES: [&[u8]; 31] = [
+    b"",
+    b"X",
+    b"E\t",
+    b"M\t1",
+    b"T",
+    b"U",
+    b"L\tA",
+    b"P\tA\t2\t1",
+    b"P\tI\t2\t1",
+    b"P\tA\t1\t1",
+    b"P\tA\t2\t0",
+    b"P\tI\t0\t0",
+    b"M\t0\t1",
+    b"M\t1\t",
+    b"M\t2\t1",
+    b"M\t11111111111111111\t1",
+    b"M\t1\t1",
+    b"E",
+    b"C\tF",
+    b"C\tZ",
+    b"F\tA\tC\tF",
+    b"F\tA\tD\tA",
+    b"F\tF\tA\tZ",
+    b"I\tF\tA",
+    b"K\tA\t15\tA",
+    b"K\tF\t1001\tA",
+    b"K\tF\t1000\tA",
+    b"S\tA\tC",
+    b"S\tF\tZ",
+    b"W\tA\t11",
+    b"W\tA\t",
+];
+
+pub fn one_after_another(calls: &dyn Calls) {
+    let mut full = prepared();
+    full.changes = COUNT_LIMIT as u32;
+    let desks = [prepared(), full, with_pairs(128), with_pairs(0)]
+        .into_iter()
+        .flat_map(|desk| [desk, with_psi_open(&desk, b'B')]);
+    let mut both = SideBySide::new(calls, &Desk::FRESH);
+    for desk in desks {
+        for line in LINES {
+            both.start(&desk);
+            both.line(line);
+            for after in [&b"E"[..], b"T", b"U", b"L\tA", b"I\tA\tG", b"C\tG"] {
+                both.line(after);
+            }
+            both.start(&desk);
+            both.job(Job {
+                letter: line.first().copied().unwrap_or(0),
+                ..Job::default()
+            });
+            both.line(b"M\t1\t1");
+            both.line(line);
+        }
+    }
+    both.tally.demand(
+        1,
+        &[
+            "0", "1", "2", "3", "4", "5", "6F", "7F", "8", "9", "10", "11", "12", "13", "16",
+        ],
+    );
+}
+
+/// The prepared desk with a plan open that has so many pairs, all alike.
+fn with_pairs(pairs: usize) -> Desk {
+    let mut desk = with_psi_open(&prepared(), b'A');
+    desk.words(8).fill(0);
+    desk.words(8)[..pairs].fill(0x12);
+    desk.words(8)[128..128 + pairs].fill(0x1);
+    desk.blocks[8].pairs = pairs;
+    desk
+}

@@ -1,0 +1,98 @@
+//! Random sessions, line by line: real plans and records that must be refused.
+//! Some start near the limit of the count, some lines meet a buffer that is too
+//! short first, and in some sessions jobs come between the lines.
+
+use library::checks::tally::Tally;
+use reference::COUNT_LIMIT;
+
+use super::side_by_side::{SideBySide, AMPLE};
+use crate::calls::Calls;
+use crate::random::desks::full;
+use crate::random::jobs::some_job;
+use crate::random::Rng;
+use crate::values::Desk;
+
+/// Every answer that a sound desk can get.
+const ANSWERS: [&str; 18] = [
+    "0", "1", "2", "3", "4", "5", "6F", "6T", "7F", "7T", "8", "9", "10", "11", "12", "13", "14",
+    "16",
+];
+
+pub fn of_lines(calls: &dyn Calls) {
+    let mut tally = Tally::default();
+    for seed in 0..SESSIONS {
+        run(calls, seed, 0, &mut tally);
+    }
+    tally.demand(10, &ANSWERS);
+}
+
+pub fn with_jobs(calls: &dyn Calls) {
+    let mut tally = Tally::default();
+    for seed in SESSIONS..2 * SESSIONS {
+        run(calls, seed, 25, &mut tally);
+    }
+    tally.demand(10, &ANSWERS);
+}
+
+/// Desks with no room left: the longest replies, and products that mostly are
+/// too large.
+pub fn of_full_desks(calls: &dyn Calls) {
+    let mut rng = Rng::new(201);
+    let mut both = SideBySide::new(calls, &Desk::FRESH);
+    let lines: [&[u8]; 9] = [
+        b"U",
+        b"L\tA",
+        b"L\tH",
+        b"F\tA\tB\tC",
+        b"I\tD\tD",
+        b"S\tD\tH",
+        b"K\tE\t2\tE",
+        b"C\tH",
+        b"U",
+    ];
+    for _ in 0..24 {
+        let desk = full(&mut rng);
+        for line in [&b"E"[..], b"M\t1\t1"] {
+            both.start(&desk);
+            assert!(both.is_desk(), "sound: {desk:?}");
+            both.line(line);
+        }
+        both.start(&desk.without_open());
+        for line in lines {
+            both.line(line);
+        }
+        for _ in 0..10 {
+            both.job(some_job(&mut rng));
+        }
+    }
+    both.tally.demand(5, &["0", "5", "6F", "11"]);
+}
+
+/// Seventy-two seeds in a row meet every shape.
+const SESSIONS: u64 = 72;
+
+/// One session; before each line comes a job in so many of a hundred cases.
+fn run(calls: &dyn Calls, seed: u64, jobs: usize, tally: &mut Tally) {
+    let mut rng = Rng::new(1000 + seed);
+    let mut desk = Desk::FRESH;
+    if seed % 3 == 0 {
+        desk.changes = COUNT_LIMIT as u32 - rng.below(12) as u32;
+    }
+    let mut both = SideBySide::new(calls, &desk);
+    std::mem::swap(tally, &mut both.tally);
+    for line in sessions::session(seed).split(|byte| *byte == b'\n') {
+        // seldom while a plan is open, which it drops
+        let chance = if both.desk().opened == 0 { 1 } else { 200 };
+        if rng.below(100 * chance) < jobs {
+            both.job(some_job(&mut rng));
+        }
+        if rng.chance(2) {
+            both.line_into(line, *rng.pick(&[0, 1, 4, 5, 8, 30]));
+        }
+        both.line_into(line, *rng.pick(&[AMPLE, AMPLE, 4618]));
+        if rng.chance(2) {
+            assert!(both.is_desk(), "a desk stays a desk");
+        }
+    }
+    std::mem::swap(tally, &mut both.tally);
+}

@@ -1,0 +1,122 @@
+//! What may be wrong with a desk: one fault for each broken copy, and the check
+//! that is there for it.
+
+use crate::calls::Calls;
+use crate::checks::{buffers, damage, jobs, lines, paper, refusals, sessions};
+
+/// What is wrong.
+#[derive(Clone, Copy, Debug, PartialEq, Eq)]
+pub enum Fault {
+    /// 14 is answered, and the work done all the same.
+    WorkBeforeShortBuffer,
+    /// 14 leaves the open plan open.
+    OpenAfterShortBuffer,
+    /// 14 isn't answered where one byte is missing: the reply is cut.
+    CutReply,
+    /// A refusal leaves the open plan open.
+    OpenAfterRefusal,
+    /// A refusal unnames the open plan and leaves its words.
+    WordsAfterRefusal,
+    /// A refusal raises the count.
+    CountedRefusal,
+    /// The `no` line is written into the buffer.
+    WrittenRefusal,
+    /// A byte 0 is put behind the reply.
+    ByteBehind,
+    /// All of the buffer behind the reply is cleared.
+    ClearedBuffer,
+    /// 15 drops the open plan.
+    DroppedByNoDesk,
+    /// 15 clears the desk.
+    ClearedNoDesk,
+    /// 15 comes after 1: a line that is no record is refused for that.
+    FormBeforeNoDesk,
+    /// Words behind the pairs aren't looked at.
+    BehindIgnored,
+    /// Words of slots without a block aren't looked at.
+    EmptyIgnored,
+    /// Slots out of order are taken.
+    OrderIgnored,
+    /// Slots that aren't reduced are taken.
+    JoinsIgnored,
+    /// Slots whose columns are no bases are taken.
+    BasesIgnored,
+    /// Counts of pairs are looked at in their low 32 bits.
+    NarrowCount,
+    /// Whatever isn't a slot's letter stands for no open plan.
+    LetterIgnored,
+    /// What is left where no plan is open isn't looked at.
+    LeftIgnored,
+    /// An open plan has to be one that could be kept.
+    OpenMustBePlan,
+    /// The count of changes isn't looked at.
+    ChangesIgnored,
+    /// The column of 6 and 7 isn't named.
+    NoColumn,
+    /// A line is read up to its 1,100th byte.
+    LongLineCut,
+    /// A line is read up to a byte 10.
+    LineEndsAtTen,
+    /// A line is read up to a byte 0.
+    LineEndsAtZero,
+    /// U leaves out the last held slot.
+    SlotMissing,
+    /// U gives the first held slot twice instead of the second.
+    SlotTwice,
+    /// A job of a listing's letter is done.
+    ListingTaken,
+    /// The target of I and K is read from the third field.
+    TargetThird,
+    /// The exponent is read as 16 bits.
+    NarrowExponent,
+    /// Jobs read n and r as digits.
+    DigitsInJobs,
+    /// The value of S is left at 0.
+    NoValue,
+    /// An emptied slot keeps its words.
+    WordsAfterClear,
+    /// A plan of fewer pairs leaves words of the one before it.
+    WordsAfterKeep,
+}
+
+/// A check of the calls.
+type Check = fn(&dyn Calls);
+
+/// Each fault, and a check that has to see it.
+pub const FAULTS: [(Fault, Check); 35] = [
+    (Fault::WorkBeforeShortBuffer, buffers::of_every_length),
+    (Fault::OpenAfterShortBuffer, buffers::of_every_length),
+    (Fault::CutReply, buffers::of_every_length),
+    (Fault::OpenAfterRefusal, refusals::one_after_another),
+    (Fault::WordsAfterRefusal, refusals::one_after_another),
+    (Fault::CountedRefusal, refusals::one_after_another),
+    (Fault::WrittenRefusal, refusals::one_after_another),
+    (Fault::ByteBehind, buffers::of_every_length),
+    (Fault::ClearedBuffer, buffers::of_every_length),
+    (Fault::DroppedByNoDesk, damage::of_every_kind),
+    (Fault::ClearedNoDesk, damage::of_every_kind),
+    (Fault::FormBeforeNoDesk, damage::of_every_kind),
+    (Fault::BehindIgnored, damage::of_every_kind),
+    (Fault::EmptyIgnored, damage::of_every_kind),
+    (Fault::OrderIgnored, damage::of_every_kind),
+    (Fault::JoinsIgnored, damage::of_every_kind),
+    (Fault::BasesIgnored, damage::of_every_kind),
+    (Fault::NarrowCount, damage::of_every_kind),
+    (Fault::LetterIgnored, damage::of_any_word),
+    (Fault::LeftIgnored, damage::of_any_word),
+    (Fault::OpenMustBePlan, damage::of_any_word),
+    (Fault::ChangesIgnored, damage::of_every_kind),
+    (Fault::NoColumn, refusals::one_after_another),
+    (Fault::LongLineCut, lines::at_the_limit),
+    (Fault::LineEndsAtTen, lines::of_any_bytes),
+    (Fault::LineEndsAtZero, lines::of_any_bytes),
+    (Fault::SlotMissing, buffers::of_every_length),
+    (Fault::SlotTwice, buffers::of_every_length),
+    (Fault::ListingTaken, jobs::of_every_letter),
+    (Fault::TargetThird, jobs::of_every_number),
+    (Fault::NarrowExponent, jobs::of_every_number),
+    (Fault::DigitsInJobs, jobs::of_every_number),
+    (Fault::NoValue, paper::session_in_jobs),
+    (Fault::WordsAfterClear, paper::session_in_jobs),
+    (Fault::WordsAfterKeep, sessions::of_lines),
+];

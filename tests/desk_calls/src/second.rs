@@ -1,0 +1,235 @@
+//! The second implementation behind the same calls: the desk is unpacked, the
+//! record is answered on strings of digits and ordered maps, and the desk after
+//! it is packed again. Which values are desks, and the refusals that only calls
+//! have, 15 first and 14 last, stand here.
+
+use std::cell::RefCell;
+use std::collections::BTreeMap;
+
+use library::packed;
+use reference::{OpenPlan, Record, Refusal, Side, COUNT_LIMIT, LINE_BYTES};
+
+use crate::calls::Calls;
+use crate::values::{Desk, Done, Job, Written, OPEN, SLOTS};
+
+/// "The lent buffer is shorter than the output."
+const SHORT_BUFFER: u8 = 14;
+/// "A plan or desk handed in isn't one as described above."
+const NO_DESK: u8 = 15;
+
+/// The second implementation. It remembers the last desk that it was handed or
+/// left behind, since to recognise eight plans takes much longer than a record.
+#[derive(Default)]
+pub struct Second {
+    last: RefCell<Option<(Desk, reference::Desk)>>,
+}
+
+impl Calls for Second {
+    fn fresh(&self) -> Desk {
+        pack(&reference::Desk::new())
+    }
+
+    fn size(&self) -> usize {
+        std::mem::size_of::<Desk>()
+    }
+
+    fn is_desk(&self, desk: &Desk) -> bool {
+        let held = self.unpack(desk);
+        held.is_some_and(|held| self.leave(held) == *desk)
+    }
+
+    fn line(&self, desk: &mut Desk, line: &[u8], out: &mut [u8]) -> Written {
+        let Some(mut held) = self.unpack(desk) else {
+            return Written::refused(NO_DESK, 0);
+        };
+        let record = if line.len() > LINE_BYTES {
+            Err(Refusal::Form)
+        } else {
+            Record::read(line)
+        };
+        match held.reply(record) {
+            Ok(reply) if reply.len() > out.len() => {
+                *desk = desk.without_open();
+                Written::refused(SHORT_BUFFER, 0)
+            }
+            Ok(reply) => {
+                out[..reply.len()].copy_from_slice(&reply);
+                *desk = self.leave(held);
+                Written::bytes(reply.len())
+            }
+            Err(refusal) => {
+                *desk = self.leave(held);
+                Written::refused(refusal.number(), column(refusal))
+            }
+        }
+    }
+
+    fn job(&self, desk: &mut Desk, job: Job) -> Done {
+        let Some(mut held) = self.unpack(desk) else {
+            return Done::refused(NO_DESK, 0);
+        };
+        let reply = held.reply(record(job).ok_or(Refusal::Form));
+        *desk = self.leave(held);
+        match reply {
+            Ok(reply) => Done::value(number_of(&reply)),
+            Err(refusal) => Done::refused(refusal.number(), column(refusal)),
+        }
+    }
+}
+
+impl Second {
+    /// The desk that a value is, if it is one. Where it is the last one, that
+    /// is handed out; the caller leaves the desk after its record.
+    fn unpack(&self, desk: &Desk) -> Option<reference::Desk> {
+        let mut last = self.last.borrow_mut();
+        if last.as_ref().is_some_and(|(value, _)| value == desk) {
+            return last.take().map(|(_, held)| held);
+        }
+        if u64::from(desk.changes) > COUNT_LIMIT {
+            return None;
+        }
+        let open = open_plan(desk)?;
+        let mut slots = BTreeMap::new();
+        for slot in (0..SLOTS).filter(|slot| !desk.is_empty(*slot)) {
+            let value = desk.value(slot);
+            let known = last.as_ref().filter(|(last, _)| last.value(slot) == value);
+            let plan = match known {
+                Some((_, held)) => held.plan(letter(slot)).cloned(),
+                None => packed::kept(&value),
+            };
+            slots.insert(letter(slot), plan?);
+        }
+        let count = desk.changes.into();
+        Some(reference::Desk::with_contents(slots, open, count))
+    }
+
+    /// The value of a desk, which is remembered.
+    fn leave(&self, held: reference::Desk) -> Desk {
+        let desk = pack(&held);
+        *self.last.borrow_mut() = Some((desk, held));
+        desk
+    }
+}
+
+/// The open plan of a value, or none; nothing at all if the value is no desk
+/// for the sake of its open plan.
+fn open_plan(desk: &Desk) -> Option<Option<OpenPlan>> {
+    match desk.opened {
+        0 => desk.is_empty(OPEN).then_some(None),
+        slot @ b'A'..=b'H' => {
+            let (shape, typed) = packed::draft(&desk.value(OPEN))?;
+            Some(Some(OpenPlan { slot, shape, typed }))
+        }
+        _ => None,
+    }
+}
+
+fn pack(held: &reference::Desk) -> Desk {
+    let mut desk = Desk::FRESH;
+    desk.changes = held.count().try_into().expect("the count has a limit");
+    for slot in 0..SLOTS {
+        if let Some(plan) = held.plan(letter(slot)) {
+            desk.put(slot, &packed::plan_value(plan));
+        }
+    }
+    if let Some(open) = held.open_plan() {
+        desk.opened = open.slot;
+        desk.put(OPEN, &packed::value(open.shape, &open.typed));
+    }
+    desk
+}
+
+/// The letter of a slot.
+pub fn letter(slot: usize) -> u8 {
+    b"ABCDEFGH"[slot]
+}
+
+/// The record of a job; none for a letter that has text or a listing, or that
+/// no record has.
+fn record(job: Job) -> Option<Record<'static>> {
+    let Job { letter, a, b, c, k } = job;
+    let record = match letter {
+        b'P' => Record::Open {
+            slot: a,
+            arity: b,
+            roots: c,
+        },
+        b'E' => Record::Close,
+        b'F' => Record::Then {
+            first: a,
+            second: b,
+            target: c,
+        },
+        b'I' => Record::Inverse {
+            operand: a,
+            target: b,
+        },
+        b'K' => Record::Power {
+            operand: a,
+            k: k.into(),
+            target: b,
+        },
+        b'S' => Record::Same {
+            first: a,
+            second: b,
+        },
+        b'C' => Record::Clear { operand: a },
+        b'T' => Record::Count,
+        _ => return None,
+    };
+    Some(record)
+}
+
+/// "Those of E for a column add ⇥F or ⇥T (from, to)."
+fn column(refusal: Refusal) -> u8 {
+    match refusal {
+        Refusal::Column(fault) => match fault.side {
+            Side::From => b'F',
+            Side::To => b'T',
+        },
+        _ => 0,
+    }
+}
+
+/// The number in a reply of one line, 0 where it has none.
+fn number_of(reply: &[u8]) -> u32 {
+    let text = std::str::from_utf8(reply).expect("a reply is text");
+    let field = text.trim_end().split('\t').nth(1);
+    field.map_or(0, |number| number.parse().expect("a number"))
+}
+
+#[cfg(test)]
+mod tests {
+    use super::*;
+
+    #[test]
+    fn a_desk_comes_back_from_its_value() {
+        let second = Second::default();
+        let mut desk = second.fresh();
+        assert_eq!(desk, Desk::FRESH);
+        let mut out = [0; 100];
+        for line in [
+            "P\tC\t2\t1",
+            "M\t12\t11",
+            "M\t11\t12",
+            "E",
+            "P\tA\t3\t2",
+            "M\t13\t2",
+        ] {
+            assert_eq!(second.line(&mut desk, line.as_bytes(), &mut out).number, 0);
+        }
+        assert_eq!((desk.opened, desk.changes), (b'A', 1));
+        assert_eq!(desk.columns[512..514], [0x11, 0x12]);
+        assert_eq!(desk.columns[640..642], [0x12, 0x11]);
+        assert_eq!((desk.columns[2048], desk.columns[2176]), (0x13, 0x2));
+        let again = Second::default();
+        assert!(again.is_desk(&desk));
+        assert_eq!(pack(&again.unpack(&desk).expect("a desk")), desk);
+    }
+
+    #[test]
+    fn the_number_of_a_reply() {
+        assert_eq!(number_of(b"ok\t4000000000\n"), 4_000_000_000);
+        assert_eq!((number_of(b"ok\n"), number_of(b"")), (0, 0));
+    }
+}

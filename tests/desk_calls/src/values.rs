@@ -1,0 +1,181 @@
+//! The values of the C interface, laid out as C lays them out: a desk with its
+//! plans in one fixed table of packed words, a record without text, and the
+//! answers, which begin with a number, 0 for a job done and else that of the
+//! refusal.
+
+use std::fmt;
+
+use library::{Plan, PLACES};
+
+/// The slots, and the place of the open plan behind them.
+pub const SLOTS: usize = 8;
+pub const OPEN: usize = SLOTS;
+pub const BLOCKS: usize = SLOTS + 1;
+
+/// Two columns of words for each block.
+pub const WORDS: usize = BLOCKS * 2 * PLACES;
+
+/// The shape of a plan and the number of its pairs.
+#[repr(C)]
+#[derive(Clone, Copy, Debug, Default, PartialEq, Eq)]
+pub struct Block {
+    pub arity: u8,
+    pub roots: u8,
+    pub pairs: usize,
+}
+
+/// What is handed to the calls as a desk. Any bytes may stand in it; which
+/// values are desks is for the calls to say.
+#[repr(C)]
+#[derive(Clone, Copy, PartialEq, Eq)]
+pub struct Desk {
+    pub blocks: [Block; BLOCKS],
+    pub opened: u8,
+    pub changes: u32,
+    pub columns: [u64; WORDS],
+}
+
+impl Desk {
+    /// "A fresh desk has empty slots and count 0."
+    pub const FRESH: Desk = Desk {
+        blocks: [Block {
+            arity: 0,
+            roots: 0,
+            pairs: 0,
+        }; BLOCKS],
+        opened: 0,
+        changes: 0,
+        columns: [0; WORDS],
+    };
+
+    /// The shape, count and words of a block as one value of the library of
+    /// plans, whether or not that value is a plan.
+    pub fn value(&self, block: usize) -> Plan {
+        let Block {
+            arity,
+            roots,
+            pairs,
+        } = self.blocks[block];
+        let start = 2 * PLACES * block;
+        let column = |from: usize| -> [u64; PLACES] {
+            let words = &self.columns[from..from + PLACES];
+            words.try_into().expect("a column has 128 places")
+        };
+        Plan {
+            arity,
+            roots,
+            pairs,
+            from: column(start),
+            to: column(start + PLACES),
+        }
+    }
+
+    /// Puts a value into a block, shape, count and words.
+    pub fn put(&mut self, block: usize, value: &Plan) {
+        self.blocks[block] = Block {
+            arity: value.arity,
+            roots: value.roots,
+            pairs: value.pairs,
+        };
+        let words = &mut self.columns[2 * PLACES * block..2 * PLACES * (block + 1)];
+        let (from, to) = words.split_at_mut(PLACES);
+        from.copy_from_slice(&value.from);
+        to.copy_from_slice(&value.to);
+    }
+
+    /// The words of a block, from-words and then to-words.
+    pub fn words(&mut self, block: usize) -> &mut [u64] {
+        &mut self.columns[2 * PLACES * block..2 * PLACES * (block + 1)]
+    }
+
+    /// The desk without its open plan.
+    pub fn without_open(&self) -> Desk {
+        let mut desk = *self;
+        desk.opened = 0;
+        desk.put(OPEN, &Plan::ZERO);
+        desk
+    }
+
+    /// Whether a block is all zeros.
+    pub fn is_empty(&self, block: usize) -> bool {
+        self.value(block) == Plan::ZERO
+    }
+}
+
+/// The head, and the blocks that aren't all zeros.
+impl fmt::Debug for Desk {
+    fn fmt(&self, f: &mut fmt::Formatter) -> fmt::Result {
+        write!(f, "open {}, {} changes", self.opened, self.changes)?;
+        for block in (0..BLOCKS).filter(|block| !self.is_empty(*block)) {
+            write!(f, "\n  block {block}: {:?}", self.value(block))?;
+        }
+        Ok(())
+    }
+}
+
+/// A record without text: its letter, its slots or numbers in the order in
+/// which a line has them, and the exponent of K.
+#[repr(C)]
+#[derive(Clone, Copy, Debug, Default, PartialEq, Eq)]
+pub struct Job {
+    pub letter: u8,
+    pub a: u8,
+    pub b: u8,
+    pub c: u8,
+    pub k: i32,
+}
+
+/// How many bytes of reply stand at the start of the lent buffer; 0 in a
+/// refusal, where 6 and 7 name the column b'F' or b'T'.
+#[repr(C)]
+#[derive(Clone, Copy, Debug, PartialEq, Eq)]
+pub struct Written {
+    pub number: u8,
+    pub column: u8,
+    pub length: usize,
+}
+
+impl Written {
+    pub fn bytes(length: usize) -> Written {
+        Written {
+            number: 0,
+            column: 0,
+            length,
+        }
+    }
+
+    pub fn refused(number: u8, column: u8) -> Written {
+        Written {
+            number,
+            column,
+            length: 0,
+        }
+    }
+}
+
+/// The number that the reply has, 0 where it has none or in a refusal.
+#[repr(C)]
+#[derive(Clone, Copy, Debug, PartialEq, Eq)]
+pub struct Done {
+    pub number: u8,
+    pub column: u8,
+    pub value: u32,
+}
+
+impl Done {
+    pub fn value(value: u32) -> Done {
+        Done {
+            number: 0,
+            column: 0,
+            value,
+        }
+    }
+
+    pub fn refused(number: u8, column: u8) -> Done {
+        Done {
+            number,
+            column,
+            value: 0,
+        }
+    }
+}

@@ -1,0 +1,85 @@
+//! The proved desk on the session of document 01, and against the second
+//! implementation.
+
+use desk_calls::checks::{buffers, damage, jobs, lines, paper, refusals, sessions};
+use desk_calls::Library;
+
+#[test]
+fn the_session_of_the_paper() {
+    paper::session(&Library);
+}
+
+#[test]
+fn the_session_of_the_paper_in_jobs() {
+    paper::session_in_jobs(&Library);
+}
+
+#[test]
+fn refusals_of_calls_in_the_paper() {
+    paper::refusals_of_calls(&Library);
+}
+
+#[test]
+fn full_desks() {
+    sessions::of_full_desks(&Library);
+}
+
+#[test]
+fn sessions_of_lines() {
+    sessions::of_lines(&Library);
+}
+
+#[test]
+fn sessions_with_jobs() {
+    sessions::with_jobs(&Library);
+}
+
+#[test]
+fn lines_of_any_bytes() {
+    lines::of_any_bytes(&Library);
+}
+
+#[test]
+fn lines_at_the_limit() {
+    lines::at_the_limit(&Library);
+}
+
+#[test]
+fn lines_for_every_slot() {
+    lines::for_every_slot(&Library);
+}
+
+#[test]
+fn jobs_of_every_letter() {
+    jobs::of_every_letter(&Library);
+}
+
+#[test]
+fn jobs_in_chains() {
+    jobs::in_chains(&Library);
+}
+
+#[test]
+fn jobs_of_every_number() {
+    jobs::of_every_number(&Library);
+}
+
+#[test]
+fn buffers_of_every_length() {
+    buffers::of_every_length(&Library);
+}
+
+#[test]
+fn calls_after_refusals() {
+    refusals::one_after_another(&Library);
+}
+
+#[test]
+fn desks_with_every_damage() {
+    damage::of_every_kind(&Library);
+}
+
+#[test]
+fn desks_with_any_word_changed() {
+    damage::of_any_word(&Library);
+}

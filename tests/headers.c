@@ -1,0 +1,186 @@
+/*
+ * Calls every function that plans.h and desk.h declare and checks what it answers: the cases of document 01 for plans, its session in
+ * full for the desk. tests/headers builds it with both static libraries, runs it and counts its lines.
+ */
+#include <stdio.h>
+#include <stdlib.h>
+#include <string.h>
+
+#include "desk.h"
+#include "plans.h"
+
+static int failures;
+
+static void check(const char *what, bool holds)
+{
+    printf("%s: %s\n", holds ? "ok" : "failed", what);
+    failures += !holds;
+}
+
+/* psi of document 01: 111 to 11, 112 to 121, 12 to 122, of shape (2,1). */
+static struct plan psi(void)
+{
+    struct plan p;
+    memset(&p, 0, sizeof p);
+    p.arity = 2;
+    p.roots = 1;
+    p.pairs = 3;
+    p.from[0] = 0x111;
+    p.to[0] = 0x11;
+    p.from[1] = 0x112;
+    p.to[1] = 0x121;
+    p.from[2] = 0x12;
+    p.to[2] = 0x122;
+    return p;
+}
+
+static bool same_fields(const struct plan *a, const struct plan *b)
+{
+    return a->arity == b->arity && a->roots == b->roots && a->pairs == b->pairs && !memcmp(a->from, b->from, sizeof a->from)
+        && !memcmp(a->to, b->to, sizeof a->to);
+}
+
+/* Whether the bytes at the front are this text, and those behind it the dots that were there before. */
+static bool holds_text(const uint8_t *out, size_t length, const char *text)
+{
+    size_t written = strlen(text);
+    size_t i;
+    if (length < written || memcmp(out, text, written))
+        return false;
+    for (i = written; i < length; i++)
+        if (out[i] != '.')
+            return false;
+    return true;
+}
+
+static void check_plans(void)
+{
+    static const uint8_t code[] = {'1', '1', '2', '2'};
+    static const char listing[] = "P\tB\t2\t1\nM\t1111\t11\nM\t1112\t121\nM\t112\t1221\nM\t12\t1222\nE\n";
+    uint8_t out[PLANS_LONGEST_LISTING];
+    struct plan p = psi();
+    struct plan short_of_a_pair = psi();
+    struct plan nothing;
+    struct plan_verdict verdict;
+    struct plan_kept kept;
+    struct plan_made inverse, followed, squared, refused;
+    struct plan_compared compared;
+    struct plan_written written;
+
+    memset(&nothing, 0, sizeof nothing);
+    short_of_a_pair.pairs = 2;
+    short_of_a_pair.from[2] = short_of_a_pair.to[2] = 0;
+
+    verdict = plans_verdict(p);
+    check("plans_verdict accepts", verdict.number == NOT_REFUSED && verdict.column == NO_COLUMN);
+    verdict = plans_verdict(short_of_a_pair);
+    check("plans_verdict names the column and the gap", verdict.number == REFUSED_GAP && verdict.column == FROM_COLUMN);
+    kept = plans_keep(p);
+    check("plans_keep keeps", kept.number == 0 && kept.column == 0 && same_fields(&kept.plan, &p));
+    kept = plans_keep(short_of_a_pair);
+    check("plans_keep refuses with zeros", kept.number == 7 && kept.column == 'F' && same_fields(&kept.plan, &nothing));
+    check("plans_is_plan", plans_is_plan(p) && !plans_is_plan(short_of_a_pair) && !plans_is_plan(nothing));
+
+    inverse = plans_inverse(p);
+    followed = plans_follow(p, inverse.plan);
+    check("plans_inverse", inverse.number == 0 && inverse.plan.pairs == 3 && inverse.plan.from[0] == 0x11);
+    check("plans_follow", followed.number == 0 && followed.plan.pairs == 1 && followed.plan.from[0] == 1 && followed.plan.to[0] == 1);
+    squared = plans_power(p, 2);
+    check("plans_power", squared.number == 0 && squared.plan.pairs == 4);
+    refused = plans_power(p, 15);
+    check("plans_power refuses what is too large", refused.number == REFUSED_LIMIT && same_fields(&refused.plan, &nothing));
+    refused = plans_power(p, INT32_MIN);
+    check("plans_power refuses a far exponent", refused.number == REFUSED_EXPONENT);
+    compared = plans_same(p, p);
+    check("plans_same of one plan", compared.number == 0 && compared.alike);
+    compared = plans_same(p, squared.plan);
+    check("plans_same of two", compared.number == 0 && !compared.alike);
+    compared = plans_same(p, nothing);
+    check("plans_same refuses what is no plan", compared.number == REFUSED_VALUE && !compared.alike);
+
+    check("plans_unmatched", plans_unmatched(p, code, 4) == 1 && plans_unmatched(p, code, 2) == 2);
+    memset(out, '.', sizeof out);
+    written = plans_route(p, code, 4, out, sizeof out);
+    check("plans_route", written.number == 0 && written.length == 4 && holds_text(out, sizeof out, "1212"));
+    memset(out, '.', sizeof out);
+    written = plans_route(p, code, 2, out, sizeof out);
+    check("plans_route refuses a short code", written.number == REFUSED_TOO_SHORT && holds_text(out, sizeof out, ""));
+    written = plans_list(squared.plan, 'B', out, sizeof out);
+    check("plans_list", written.number == 0 && written.length == strlen(listing) && holds_text(out, sizeof out, listing));
+    memset(out, '.', sizeof out);
+    written = plans_list(squared.plan, 'B', out, strlen(listing) - 1);
+    check("plans_list refuses a short buffer", written.number == REFUSED_BUFFER && holds_text(out, sizeof out, ""));
+}
+
+/* The answer to a line, with dots in the buffer before it. */
+static struct desk_written say(struct desk *d, const char *line, uint8_t *out, size_t out_length)
+{
+    memset(out, '.', DESK_LONGEST_REPLY);
+    return desk_line(d, (const uint8_t *)line, strlen(line), out, out_length);
+}
+
+static void check_desk(void)
+{
+    static const char *const session[][2] = {
+        {"P\tA\t2\t1", ""},
+        {"M\t111\t11", ""},
+        {"M\t112\t121", ""},
+        {"M\t12\t122", ""},
+        {"E", "ok\t3\n"},
+        {"W\tA\t1122", "ok\t1212\n"},
+        {"K\tA\t2\tB", "ok\t4\n"},
+        {"L\tB", "P\tB\t2\t1\nM\t1111\t11\nM\t1112\t121\nM\t112\t1221\nM\t12\t1222\nE\n"},
+        {"T", "ok\t2\n"},
+    };
+    uint8_t out[DESK_LONGEST_REPLY];
+    char what[64];
+    struct desk d = desk_fresh();
+    struct desk_job job = {'I', 'A', 'H', 0, 0};
+    struct desk_written written;
+    struct desk_done done;
+    struct plan p = psi();
+    size_t i;
+
+    check("desk_size", desk_size() == sizeof(struct desk));
+    check("desk_fresh", d.opened == 0 && d.changes == 0 && d.blocks[0].pairs == 0 && desk_is_desk(d));
+    for (i = 0; i < sizeof session / sizeof session[0]; i++) {
+        written = say(&d, session[i][0], out, sizeof out);
+        snprintf(what, sizeof what, "desk_line, record %d of the session", (int)i + 1);
+        check(what, written.number == 0 && written.column == 0 && written.length == strlen(session[i][1])
+                        && holds_text(out, sizeof out, session[i][1]));
+    }
+    written = say(&d, "W\tA\t11", out, sizeof out);
+    check("desk_line refuses a short code", written.number == REFUSED_TOO_SHORT && holds_text(out, sizeof out, ""));
+    written = say(&d, "T", out, 4);
+    check("desk_line refuses a short buffer", written.number == REFUSED_BUFFER && holds_text(out, sizeof out, ""));
+    check("slot A holds what plans.h calls a plan", d.blocks[0].pairs == p.pairs && !memcmp(d.columns, p.from, sizeof p.from)
+                                                        && !memcmp(d.columns + DESK_PLACES, p.to, sizeof p.to));
+    done = desk_do(&d, job);
+    check("desk_do", done.number == 0 && done.value == 3 && d.blocks[7].pairs == 3 && d.changes == 3);
+    job.letter = 'L';
+    done = desk_do(&d, job);
+    check("desk_do refuses a listing", done.number == REFUSED_FORM && done.value == 0);
+    job.letter = 'P';
+    job.b = 2;
+    job.c = 1;
+    done = desk_do(&d, job);
+    check("desk_do opens a plan", done.number == 0 && d.opened == 'A');
+    job.letter = 'E';
+    done = desk_do(&d, job);
+    check("desk_do names the column", done.number == REFUSED_GAP && done.column == FROM_COLUMN && d.opened == 0);
+    d.changes = DESK_MOST_CHANGES;
+    check("desk_is_desk at the limit", desk_is_desk(d));
+    written = say(&d, "C\tA", out, sizeof out);
+    check("desk_line refuses a change at the limit", written.number == REFUSED_COUNT);
+    d.changes++;
+    written = say(&d, "T", out, sizeof out);
+    check("desk_line refuses what is no desk", written.number == REFUSED_VALUE && !desk_is_desk(d));
+}
+
+int main(void)
+{
+    check("refusal_reason", !strcmp(refusal_reason(REFUSED_EMPTY), "the slot is empty") && refusal_reason(99) != NULL);
+    check_plans();
+    check_desk();
+    return failures ? EXIT_FAILURE : EXIT_SUCCESS;
+}
