@@ -39,16 +39,18 @@ pub fn sessions() -> Vec<Session> {
     };
     let mut all = vec![
         session("W, 12 to 40 digits", 1_000_000, &mut |_| {
-            format!("W\t{}\t{}\n", letter(rng, b'A', 8), code(rng, &words))
+            let length = rng.between(12, 40);
+            route(rng, &words, length)
         }),
-        session("F", 10_000, &mut |_| {
+        session("W, 1,000 digits", 50_000, &mut |_| route(rng, &words, 1000)),
+        session("F, 128 pairs", 10_000, &mut |_| {
             let [a, b] = [(); 2].map(|()| letter(rng, b'A', 4));
             format!("F\t{a}\t{b}\t{}\n", letter(rng, b'E', 4))
         }),
-        session("I", 50_000, &mut |_| {
+        session("I, 128 pairs", 50_000, &mut |_| {
             format!("I\t{}\t{}\n", letter(rng, b'A', 4), letter(rng, b'E', 4))
         }),
-        session("K, power 10", 1_000, &mut |_| {
+        session("K, power 10, 128 pairs", 1_000, &mut |_| {
             let a = letter(rng, b'A', 4);
             format!("K\t{a}\t10\t{}\n", letter(rng, b'E', 4))
         }),
@@ -91,12 +93,12 @@ fn letter(rng: &mut Rng, first: u8, count: usize) -> char {
     char::from(first + rng.below(count) as u8)
 }
 
-/// A code of 12 to 40 digits that begins with a word of the basis.
-fn code(rng: &mut Rng, words: &[Word]) -> String {
+/// A record that routes a code of this many digits, or of as many as the word
+/// of the basis has that it begins with.
+fn route(rng: &mut Rng, words: &[Word], length: usize) -> String {
     let mut code = digits(rng.pick(words));
-    let length = rng.between(12, 40);
     while code.len() < length {
         code.push(if rng.chance(50) { '1' } else { '2' });
     }
-    code
+    format!("W\t{}\t{code}\n", letter(rng, b'A', 8))
 }

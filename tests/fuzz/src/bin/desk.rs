@@ -1,0 +1,90 @@
+//! The library of the desk beside the second implementation. Each line of an
+//! input is handed over as a line, with a buffer that may be too short, or as
+//! the job that it says; then the whole desks must agree. D is damage to the
+//! desk: if that leaves none, each call must refuse it and leave it as it is.
+
+#![no_main]
+
+use desk_calls::checks::side_by_side::{SideBySide, AMPLE};
+use desk_calls::{Calls, Desk, Job, Library, Second};
+use fuzz::{exponent, harness, sum};
+use reference::COUNT_LIMIT;
+
+harness!(tried);
+
+fn tried(input: &[u8]) {
+    let mut both = SideBySide::new(&Library, &Library.fresh());
+    assert_eq!(*both.desk(), Second::default().fresh(), "a fresh desk");
+    let rehearsal = Second::default();
+    for line in input.split(|byte| *byte == b'\n') {
+        match line {
+            [b'D', b'\t', place, b'\t', edits @ ..] => damage(&mut both, *place, edits),
+            _ if sum(line) % 4 == 0 => drop(both.job(job(line))),
+            _ => drop(both.line_into(line, room(&rehearsal, &both, line))),
+        }
+    }
+}
+
+/// The length of the buffer for a line, which the line decides: one that just
+/// fits, one byte less, ample, or any other.
+fn room(rehearsal: &Second, both: &SideBySide, line: &[u8]) -> usize {
+    let chance = sum(line) as usize / 4;
+    if chance % 2 == 0 {
+        return AMPLE;
+    }
+    let mut desk = *both.desk();
+    let output = rehearsal.line(&mut desk, line, &mut [0; AMPLE]).length;
+    match chance / 2 % 4 {
+        0 => output.saturating_sub(1),
+        1 => output + chance / 8 % 8,
+        2 => chance / 8 % (output + 1),
+        _ => output,
+    }
+}
+
+/// The job that a line says, whatever it says: its letter, and the first byte of
+/// each field, of the numbers of P their value.
+fn job(line: &[u8]) -> Job {
+    let fields: Vec<&[u8]> = line.split(|byte| *byte == b'\t').collect();
+    let field = |place: usize| fields.get(place).copied().unwrap_or(b"");
+    let [letter, a, b, c] = [0, 1, 2, 3].map(|place| field(place).first().copied().unwrap_or(0));
+    let (b, c, k) = match letter {
+        b'P' => (b.wrapping_sub(b'0'), c.wrapping_sub(b'0'), 0),
+        b'K' => (c, 0, exponent(field(2))),
+        _ => (b, c, 0),
+    };
+    Job { letter, a, b, c, k }
+}
+
+/// Changes to a slot of the desk, or to its open plan, three bytes for each:
+/// what, where and how. If it is a desk still, it is the one to go on with.
+fn damage(both: &mut SideBySide, letter: u8, edits: &[u8]) {
+    let sound = *both.desk();
+    let mut damaged = sound;
+    let block = usize::from(letter.wrapping_sub(b'A')) % sound.blocks.len();
+    for edit in edits.chunks_exact(3) {
+        change(&mut damaged, block, edit[0], edit[1].into(), edit[2]);
+    }
+    both.start(&damaged);
+    if !both.is_desk() {
+        both.line(edits);
+        both.job(job(edits));
+        both.start(&sound);
+    }
+}
+
+fn change(desk: &mut Desk, block: usize, what: u8, place: usize, how: u8) {
+    let digit = u64::from(how & 15) << (how >> 4 << 2);
+    let head = &mut desk.blocks[block];
+    match what % 9 {
+        0 => head.arity = how,
+        1 => head.roots = how,
+        2 => head.pairs = usize::from(how),
+        3 => head.pairs ^= 1 << (how % 64),
+        4 => desk.open = how,
+        5 => desk.changes = (COUNT_LIMIT + 2 - u64::from(how)) as u32,
+        6 => desk.words(block)[place] ^= digit,
+        7 => desk.words(block).swap(place, usize::from(how)),
+        _ => *desk = desk.without_open(),
+    }
+}
