@@ -11,7 +11,10 @@ extern "C" {
 }
 
 /// The most lines that are moved or put in at once.
-const RUN: usize = 80;
+const RUN: usize = 60;
+
+/// How many lines of a random session are taken.
+const BEGINNING: usize = 150;
 
 /// The letters of the records, and D, which the libraries' harnesses take for
 /// damage.
@@ -41,7 +44,7 @@ pub fn mutate(room: &mut [u8], length: usize, seed: u64) -> usize {
 fn change(rng: &mut Rng, lines: &mut Vec<Vec<u8>>) {
     let at = rng.below(lines.len() + 1);
     let run = run(rng, lines);
-    match rng.below(8) {
+    match rng.below(10) {
         0 => drop(lines.drain(run)),
         1 => {
             let again = lines[run].to_vec();
@@ -54,7 +57,7 @@ fn change(rng: &mut Rng, lines: &mut Vec<Vec<u8>>) {
                 lines.swap(here, there);
             }
         }
-        4 | 5 => {
+        4..=6 => {
             let some = excerpt(rng);
             lines.splice(at..at, some);
         }
@@ -69,26 +72,30 @@ fn run(rng: &mut Rng, lines: &[Vec<u8>]) -> std::ops::Range<usize> {
     start..start + rng.below(most + 1)
 }
 
-/// Some lines of a random session, mostly from the beginning of a plan on.
+/// Some lines of a random session: mostly from its beginning on, where plans are
+/// typed that are worked on later.
 fn excerpt(rng: &mut Rng) -> Vec<Vec<u8>> {
     let session = rng.pick(pool());
+    if rng.chance(60) {
+        let end = rng.below(session.len() + 1);
+        return session[..end].to_vec();
+    }
     let run = run(rng, session);
-    let opened = |line: &Vec<u8>| line.starts_with(b"P");
-    let ahead = session[run.start..].iter().position(opened);
-    let start = run.start + ahead.filter(|_| rng.chance(75)).unwrap_or(0);
-    let end = session.len().min(start + run.len());
-    session[start..end].to_vec()
+    session[run].to_vec()
 }
 
-/// The lines of some random sessions.
+/// The beginnings of random sessions that come to a product early: large plans
+/// make an input slow, and hide what is done with them behind their pairs.
 fn pool() -> &'static [Vec<Vec<u8>>] {
     static POOL: OnceLock<Vec<Vec<Vec<u8>>>> = OnceLock::new();
     POOL.get_or_init(|| {
-        let lines = |session: Vec<u8>| {
+        let beginning = |session: Vec<u8>| {
             let lines = session.split_inclusive(|byte| *byte == b'\n');
-            lines.map(<[u8]>::to_vec).collect()
+            lines.take(BEGINNING).map(<[u8]>::to_vec).collect()
         };
-        (0..144).map(sessions::session).map(lines).collect()
+        let sessions = (0..600).map(sessions::session).map(beginning);
+        let product = |session: &Vec<Vec<u8>>| session.iter().any(|line| line.starts_with(b"F\t"));
+        sessions.filter(product).collect()
     })
 }
 

@@ -81,7 +81,7 @@ fn change(desk: &mut Desk, block: usize, what: u8, place: usize, how: u8) {
         1 => head.roots = how,
         2 => head.pairs = usize::from(how),
         3 => head.pairs ^= 1 << (how % 64),
-        4 => desk.open = how,
+        4 => desk.opened = how,
         5 => desk.changes = (COUNT_LIMIT + 2 - u64::from(how)) as u32,
         6 => desk.words(block)[place] ^= digit,
         7 => desk.words(block).swap(place, usize::from(how)),
