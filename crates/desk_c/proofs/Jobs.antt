@@ -37,7 +37,8 @@ job-done j h columns w columns′ r e k out =
     subst (λ (z : OutcomeOf Record). DoneBy d (z >>= operation d) out w columns′ out) (sym e) (k out)
 
 -- a letter that has none is refused
-pub no-job : (j : Job) (h : Head) (columns : List ℕ) → HoldsDesk h columns → (w : Work) → jobRecord j ≡ refuse noRecord none → w ≡ refusing h noRecord
+pub no-job : (j : Job) (h : Head) (columns : List ℕ) → HoldsDesk h columns → (w : Work) → jobRecord j ≡ refuse noRecord none
+    → w ≡ refusing h noRecord
     → JobDone j h columns w columns
 unfolding jobWork _>>=_
 no-job j h columns H w e q out =
@@ -119,4 +120,5 @@ plain-left d D j w columns′ k v p a q =
 
 module _ (h : Head) (columns : List ℕ) (j : Job) (w : Work) (columns′ : List ℕ) (k : JobDone j h columns w columns′) where
   pub job-leaves : Leaves (deskOf h columns) (jobWork j (deskOf h columns)) w columns′
-  job-leaves = leaves-by (deskOf h columns) columns′ columns′ w (jobWork j (deskOf h columns)) (job-answers j (deskOf h columns)) (k columns′)
+  job-leaves = leaves-by (deskOf h columns) columns′ columns′ w (jobWork j (deskOf h columns)) (job-answers j (deskOf h columns))
+      (k columns′)

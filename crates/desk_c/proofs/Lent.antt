@@ -43,7 +43,8 @@ unfolding _>>=_
 wrote-by (refuse m c) n e = let z : _≡_ {A = ℕ} 0 1 = cc in absurd (omega arith)
 wrote-by (pass x) n e = (x, refl, cc)
 
-lent-by : (call : DeskOf × Lent) (d : DeskOf) (l : Lent) → call ≡ (d, l) → (r : Served) → r ≡ lentOf (d, l) → (out′ : Bytes) → out′ ≡ l .buffer → LentBy call r out′
+lent-by : (call : DeskOf × Lent) (d : DeskOf) (l : Lent) → call ≡ (d, l) → (r : Served) → r ≡ lentOf (d, l) → (out′ : Bytes)
+    → out′ ≡ l .buffer → LentBy call r out′
 lent-by call d l e r p out′ q = subst (λ c. LentBy c r out′) (sym e) (record { left = p; buffer = q })
 
 module _ (h : Head) (columns : List ℕ) (H : HoldsDesk h columns) (line out out₀ columns′ out′ : List ℕ) (r : Replied)
@@ -57,7 +58,8 @@ module _ (h : Head) (columns : List ℕ) (H : HoldsDesk h columns) (line out out
   abbrev call : DeskOf × Lent
   call = lineCall d line out
 
-  pub call-refused : (n l : ℕ) → r .outcome ≡ Refused n l → (v : Desk) → v ≡ packedDesk (deskOf (r .head) columns′) → (s : Served) → s ≡ refusedWith v n l
+  pub call-refused : (n l : ℕ) → r .outcome ≡ Refused n l → (v : Desk) → v ≡ packedDesk (deskOf (r .head) columns′) → (s : Served)
+      → s ≡ refusedWith v n l
       → LentBy call s out
   call-refused n l e v p s q =
       let (c, f, g) = refused-by o n l (sym (R .outcome) ∙ e) in
@@ -79,7 +81,8 @@ module _ (h : Head) (columns : List ℕ) (H : HoldsDesk h columns) (line out out
         let same = ap (λ x. length (replyBytes deskOrder (settle d x .1))) f in
         omega arith
 
-    pub call-short : length out < n → (v : Desk) → v ≡ packedDesk (deskOf (droppedHead h) columns) → (s : Served) → s ≡ refusedWith v bufferTooShort 0
+    pub call-short : length out < n → (v : Desk) → v ≡ packedDesk (deskOf (droppedHead h) columns) → (s : Served)
+        → s ≡ refusedWith v bufferTooShort 0
         → LentBy call s out
     call-short k v p s q =
         let (e, f, g) = done in
@@ -88,13 +91,15 @@ module _ (h : Head) (columns : List ℕ) (H : HoldsDesk h columns) (line out out
         (calls-exact .no-room deskOrder d (λ x. lineOperation x line) out e (H .is-desk) f (omega arith)) s
         (q ∙ ap (λ x. refusedWith x bufferTooShort 0) desk) out refl
 
-    pub call-done : n ≤ length out → n ≤ length out₀ → (v : Desk) → v ≡ packedDesk (deskOf (r .head) columns′) → (out″ : List ℕ) → out″ ≡ written out 0 (take n out′)
+    pub call-done : n ≤ length out → n ≤ length out₀ → (v : Desk) → v ≡ packedDesk (deskOf (r .head) columns′) → (out″ : List ℕ)
+        → out″ ≡ written out 0 (take n out′)
         → LentBy call (record { desk = v; answer = record { number = 0; column = 0; length = n } }) out″
     call-done k k₀ v p out″ q =
         let (e, f, g) = done in
         let bytes = replyBytes deskOrder (e .1) in
         let desk = p ∙ ap packedDesk (R .desk ∙ ap (λ x. settle d x .0) f) in
-        let shown : take n out′ ≡ bytes = ap (take n) (R .output e f) ∙ ap (λ m. take m (written out₀ 0 bytes)) g ∙ shown-same out₀ 0 bytes (omega arith) in
+        let shown : take n out′ ≡ bytes = ap (take n) (R .output e f) ∙ ap (λ m. take m (written out₀ 0 bytes)) g
+        ∙ shown-same out₀ 0 bytes (omega arith) in
         lent-by call (e .0) (record { buffer = written out 0 bytes; answer = pass (length bytes) })
         (calls-exact .done deskOrder d (λ x. lineOperation x line) out e (H .is-desk) f (omega arith))
         (record { desk = v; answer = record { number = 0; column = 0; length = n } })

@@ -37,9 +37,11 @@ module _ (d : DeskOf) (D : IsDesk d) (work : Work) (k : Keeps work d) where
       left : (x : DeskOf) → lentCall deskOrder d work out .0 ≡ x → IsDesk x → IsDesk (lentCall deskOrder d work out .0)
       left x e h = subst IsDesk (sym e) h
 
-      by-room : (e : Effect) → work d ≡ pass e → (b : Bool) → leb (length (replyBytes deskOrder (e .1))) (length out) ≡ b → IsDesk (lentCall deskOrder d work out .0)
+      by-room : (e : Effect) → work d ≡ pass e → (b : Bool) → leb (length (replyBytes deskOrder (e .1))) (length out) ≡ b
+          → IsDesk (lentCall deskOrder d work out .0)
       by-room e p true r = left (e .0) (ap (λ c. c .0) (calls-exact .done deskOrder d work out e D p (leb-true _ _ r))) (passed k e p)
-      by-room e p false r = left (dropped d) (ap (λ c. c .0) (calls-exact .no-room deskOrder d work out e D p (leb-false _ _ r))) (dropped-desk d D)
+      by-room e p false r = left (dropped d) (ap (λ c. c .0) (calls-exact .no-room deskOrder d work out e D p (leb-false _ _ r)))
+          (dropped-desk d D)
 
       by : (o : Outcome Effect) → work d ≡ o → IsDesk (lentCall deskOrder d work out .0)
       by (refuse n c) p = left (dropped d) (ap (λ c. c .0) (calls-exact .refused deskOrder d work out n c D p)) (dropped-desk d D)
@@ -77,14 +79,16 @@ module _ (v : Desk) (whole : Whole v) (t : T (isDeskValue v)) where
   line-left line out =
       subst (λ (b : Bool). T (isDeskValue (line-value line out b .desk)))
       (sym (so (isDeskValue v) t))
-      (desk-values .taken (lineCall (deskIn v) line out .0) (lent-left (deskIn v) holds (λ x. lineOperation x line) (line-keeps line (deskIn v) holds) out) .1)
+      (desk-values .taken (lineCall (deskIn v) line out .0) (lent-left (deskIn v) holds (λ x. lineOperation x line) (line-keeps line
+      (deskIn v) holds) out) .1)
 
   job-left : (j : Job) → T (isDeskValue (worked (jobWork j) v .desk))
   unfolding worked
   job-left j =
       subst (λ (b : Bool). T (isDeskValue (job-value j b .desk)))
       (sym (so (isDeskValue v) t))
-      (desk-values .taken (plainCall (deskIn v) (jobWork j) .0) (plain-left-desk (deskIn v) holds (jobWork j) (job-keeps j (deskIn v) holds)) .1)
+      (desk-values .taken (plainCall (deskIn v) (jobWork j) .0) (plain-left-desk (deskIn v) holds (jobWork j) (job-keeps j
+      (deskIn v) holds)) .1)
 
 pub desk-left : DeskLeft
 desk-left = record { by-line = line-left; by-job = job-left }

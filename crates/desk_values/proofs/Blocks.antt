@@ -85,7 +85,8 @@ module _ (h : Head) (columns : List ℕ) (H : HoldsDesk h columns) where
       by : (b : Bool) → eqb (v .pairs) 0 ≡ b
           → heldValue (elim b [ true ↦ none | false ↦ some (planOf v) ]) ≡ sized v (elim b [ true ↦ noSize | false ↦ sizeOf v ])
       by true e =
-          no-pairs v (from-places h columns (H .sized) i below) (to-places h columns (H .sized) i below) (eqb-true (v .pairs) 0 e) (H .in-tables i k)
+          no-pairs v (from-places h columns (H .sized) i below) (to-places h columns (H .sized) i below) (eqb-true (v .pairs) 0 e)
+          (H .in-tables i k)
       by false e =
           held-packed v (record {
             from-places = from-places h columns (H .sized) i below;
@@ -136,7 +137,8 @@ module _ (h : Head) (columns : List ℕ) (H : HoldsDesk h columns) where
   pub draft-places : (length (draftValue (draftOf h columns) .from) ≡ maxPairs) × (length (draftValue (draftOf h columns) .to) ≡ maxPairs)
   draft-places = by (h .is_open) refl
     where
-      by : (b : Bool) → h .is_open ≡ b → (length (draftValue (draftOf h columns) .from) ≡ maxPairs) × (length (draftValue (draftOf h columns) .to) ≡ maxPairs)
+      by : (b : Bool) → h .is_open ≡ b → (length (draftValue (draftOf h columns) .from) ≡ maxPairs) × (length (draftValue
+          (draftOf h columns) .to) ≡ maxPairs)
       by true e = (
         ap (λ (p : Plan). length (p .from)) (draft-filled e) ∙ filling-length (v .pairs) (v .from) from-long few,
         ap (λ (p : Plan). length (p .to)) (draft-filled e) ∙ filling-length (v .pairs) (v .to) to-long few,
@@ -161,7 +163,8 @@ block-step l at from to rest f t r =
 module _ (slots : ℕ → Option PlanOf) (draft : Plan) (l : List ℕ) (long : length l ≡ columnsSize)
     (froms : (i : ℕ) → i < slotCount → heldValue (slots i) .from ≡ take maxPairs (drop (fromPlace i) l))
     (tos : (i : ℕ) → i < slotCount → heldValue (slots i) .to ≡ take maxPairs (drop (toPlace i) l))
-    (from : draft .from ≡ take maxPairs (drop (fromPlace draftBlock) l)) (to : draft .to ≡ take maxPairs (drop (toPlace draftBlock) l)) where
+    (from : draft .from ≡ take maxPairs (drop (fromPlace draftBlock) l)) (to : draft .to ≡ take maxPairs (drop
+    (toPlace draftBlock) l)) where
   words-from : (n i : ℕ) → i + n ≡ slotCount → wordsIn (map heldValue (map slots (count i n)) ++ (draft ∷ [])) ≡ drop (i * 256) l
   words-from zero i e =
       let last : 2048 ≡ i * 256 = omega (arith, slots-eight) in
@@ -184,7 +187,8 @@ module _ (slots : ℕ → Option PlanOf) (draft : Plan) (sizes : ℕ → Size)
   sizes-from zero i e = refl
   sizes-from (suc n) i e = ap₂ _∷_ (same i (omega arith)) (sizes-from n (suc i) (omega arith))
 
-  pub sizes-are : map sizeOf (map heldValue (map slots (count 0 slotCount)) ++ (draft ∷ [])) ≡ map sizes (count 0 slotCount) ++ (sizeOf draft ∷ [])
+  pub sizes-are : map sizeOf (map heldValue (map slots (count 0 slotCount)) ++ (draft
+      ∷ [])) ≡ map sizes (count 0 slotCount) ++ (sizeOf draft ∷ [])
   sizes-are = sizes-from slotCount 0 (omega arith)
 
 -- The value of a desk is made by putting the open plan's into its block, and leaving no size of an empty slot.
@@ -210,11 +214,18 @@ module _ (h : Head) (columns : List ℕ) (H : HoldsDesk h columns) where
       (sym (put-from columns draftBlock draft inside from to))
       (sym (put-to columns draftBlock draft inside from to))
 
-  pub sizes-packed : map sizeOf (map heldValue (map (slotAt h columns) (count 0 slotCount)) ++ (draft ∷ [])) ≡ tidySizes (h .sizes) (sizeOf draft)
+  pub sizes-packed : map sizeOf (map heldValue (map (slotAt h columns) (count 0 slotCount)) ++ (draft
+      ∷ [])) ≡ tidySizes (h .sizes) (sizeOf draft)
   unfolding valueAt
   sizes-packed = sizes-are (slotAt h columns) draft (λ i. tidySize (sizeAt h i)) (λ i k. ap sizeOf (held-value h columns H i k))
 
-  pub desk-packed : record { blocks = tidySizes (h .sizes) (sizeOf draft); opened = openedBy (draftOf h columns); changes = h .changes; columns = words } ≡ packedDesk (deskOf h columns)
+  pub desk-packed : record {
+    blocks = tidySizes (h .sizes) (sizeOf draft);
+    opened = openedBy
+        (draftOf h columns);
+    changes = h .changes;
+    columns = words;
+  } ≡ packedDesk (deskOf h columns)
   unfolding packedDesk deskOf
   desk-packed =
       let sizes = sizes-packed in

@@ -29,7 +29,8 @@ use Rattle.desk_values.specs.declared.Desk.{Desk}
 use Rattle.desk_values.specs.Values.{openedTest, headOf, deskIn, noShape, sizeTest, sizesTest, blankTest, draftTest, isDeskValue}
 use Rattle.desk_values.specs.Values.{heldValue, draftValue, openedBy, tidySize, tidySizes, packedDesk, Whole}
 use Rattle.desk_values.proofs.Desk.{the-row}
-use Rattle.desk_values.proofs.Blocks.{unused-zeros, no-pairs, from-places, to-places, held-value, draft-closed, draft-opened, draft-filled}
+use Rattle.desk_values.proofs.Blocks.{unused-zeros, no-pairs, from-places, to-places, held-value, draft-closed, draft-opened}
+use Rattle.desk_values.proofs.Blocks.{draft-filled}
 use Rattle.desk_values.proofs.Blocks.{words-are, sizes-packed}
 
 -- a size that is tidy stays as it is
@@ -48,11 +49,13 @@ tidy-size z t = by (eqb (z .pairs) 0) refl t
     by false e t = refl
 
 -- a list by its places
-pub by-place : {A : Type 0} (l : List A) (z : A) (n a : ℕ) → a + n ≤ length l → drop a l ≡ map (λ i. getD l i z) (count a n) ++ drop (a + n) l
+pub by-place : {A : Type 0} (l : List A) (z : A) (n a : ℕ) → a + n ≤ length l
+    → drop a l ≡ map (λ i. getD l i z) (count a n) ++ drop (a + n) l
 by-place l z zero a h = let none : a ≡ a + 0 = omega arith in ap (λ k. drop k l) none
 by-place l z (suc n) a h =
     let next : suc a + n ≡ a + suc n = omega arith in
-    drop-cons l a z (omega arith) ∙ ap (λ r. getD l a z ∷ r) (by-place l z n (suc a) (omega arith) ∙ ap (λ k. map (λ i. getD l i z) (count (suc a) n) ++ drop k l) next)
+    drop-cons l a z (omega arith) ∙ ap (λ r. getD l a z ∷ r) (by-place l z n (suc a) (omega arith)
+    ∙ ap (λ k. map (λ i. getD l i z) (count (suc a) n) ++ drop k l) next)
 
 module _ (d : Desk) (whole : Whole d) (t : T (isDeskValue d)) where
   abbrev h : Head
@@ -112,7 +115,8 @@ module _ (d : Desk) (whole : Whole d) (t : T (isDeskValue d)) where
     where
       by : (x : Bool) → eqb (d .opened) 0 ≡ x → T (elim x [ true ↦ blankTest v | false ↦ inTable v ]) → draftValue (draftOf h columns) ≡ v
       by true e w =
-          let none : T (eqb (v .pairs) 0 && noShape (v .arity) (v .roots)) = and-left (eqb (v .pairs) 0 && noShape (v .arity) (v .roots)) (inTable v) w in
+          let none : T (eqb (v .pairs) 0 && noShape (v .arity) (v .roots)) = and-left (eqb (v .pairs) 0 && noShape (v .arity)
+          (v .roots)) (inTable v) w in
           let pairs = eqb→eq (v .pairs) 0 (and-left (eqb (v .pairs) 0) (noShape (v .arity) (v .roots)) none) in
           let size = no-size (sizeOf v) pairs (and-right (eqb (v .pairs) 0) (noShape (v .arity) (v .roots)) none) in
           ap draftValue (draft-closed h columns value-holds (ap not e))
@@ -128,7 +132,8 @@ module _ (d : Desk) (whole : Whole d) (t : T (isDeskValue d)) where
   opened-same : openedBy (draftOf h columns) ≡ d .opened
   opened-same = by (eqb (d .opened) 0) refl opened-tested
     where
-      by : (x : Bool) → eqb (d .opened) 0 ≡ x → T (elim x [ true ↦ true | false ↦ isSlot (d .opened) ]) → openedBy (draftOf h columns) ≡ d .opened
+      by : (x : Bool) → eqb (d .opened) 0 ≡ x → T (elim x [ true ↦ true | false ↦ isSlot (d .opened) ])
+          → openedBy (draftOf h columns) ≡ d .opened
       by true e w = ap openedBy (draft-closed h columns value-holds (ap not e)) ∙ sym (eqb-true (d .opened) 0 e)
       by false e w =
           let low : 65 ≤ d .opened = leb→le 65 (d .opened) (and-left (leb 65 (d .opened)) (leb (suc (d .opened)) (slotByte slotCount)) w) in
@@ -142,7 +147,8 @@ module _ (d : Desk) (whole : Whole d) (t : T (isDeskValue d)) where
       ap (λ n. drop n (d .blocks)) slots-eight
       ∙ drop-cons (d .blocks) 8 noSize (omega (arith, whole .headed))
       ∙ ap (λ r. sizeAt h draftBlock ∷ r) (drop-of-length-le (d .blocks) {i = 9} (omega (arith, whole .headed))) in
-      ap (λ l. l ++ (sizeOf v ∷ [])) (same-count place (λ i. tidySize (place i)) 0 slotCount (λ i a n. tidy-size (place i) (size-tested i (omega arith))))
+      ap (λ l. l ++ (sizeOf v ∷ [])) (same-count place (λ i. tidySize (place i)) 0 slotCount (λ i a n. tidy-size (place i)
+      (size-tested i (omega arith))))
       ∙ ap (λ r. map place (count 0 slotCount) ++ r) (sym last)
       ∙ sym (by-place (d .blocks) noSize slotCount 0 (omega (arith, slots-eight, whole .headed)))
 
@@ -151,7 +157,8 @@ module _ (d : Desk) (whole : Whole d) (t : T (isDeskValue d)) where
   one-value =
       let sizes = sizes-packed h columns value-holds ∙ ap (λ p. tidySizes (d .blocks) (sizeOf p)) draft-same ∙ sizes-same in
       let words = words-are (slotAt h columns) (draftValue (draftOf h columns)) columns (whole .sized)
-      (λ i n. ap (λ (p : Plan). p .from) (held-value h columns value-holds i n)) (λ i n. ap (λ (p : Plan). p .to) (held-value h columns value-holds i n))
+      (λ i n. ap (λ (p : Plan). p .from) (held-value h columns value-holds i n)) (λ i n. ap (λ (p : Plan). p .to)
+      (held-value h columns value-holds i n))
       (ap (λ (p : Plan). p .from) draft-same) (ap (λ (p : Plan). p .to) draft-same) in
       let opened = opened-same in
       λ i. record { blocks = sizes i; opened = opened i; changes = d .changes; columns = words i }

@@ -59,7 +59,8 @@ behind-block v vs p at k e =
     let place : k ≡ length (v .from ++ v .to) + at = omega (arith, block-length v p) in
     ap (λ n. drop n (wordsIn (v ∷ vs))) place ∙ drop-append-add (v .from ++ v .to) (wordsIn vs) at
 
-from-window : (vs : List Plan) → AllPlaced vs → (i : ℕ) → i < length vs → take maxPairs (drop (fromPlace i) (wordsIn vs)) ≡ getD vs i blank .from
+from-window : (vs : List Plan) → AllPlaced vs → (i : ℕ) → i < length vs
+    → take maxPairs (drop (fromPlace i) (wordsIn vs)) ≡ getD vs i blank .from
 from-window [] p i h = absurd (not-suc-le-zero h)
 from-window (v ∷ vs) (p, ps) zero h =
     ap (take maxPairs) (append-assoc (v .from) (v .to) (wordsIn vs)) ∙ take-at (v .from) (v .to ++ wordsIn vs) maxPairs (p .0)
@@ -84,7 +85,8 @@ size-at (v ∷ vs) zero = refl
 size-at (v ∷ vs) (suc i) = size-at vs i
 
 -- the block of a slot, and that of the open plan
-slot-block : (l : List (Option PlanOf)) (x : Plan) (i : ℕ) → i < length l → getD (map heldValue l ++ (x ∷ [])) i blank ≡ heldValue (getD l i none)
+slot-block : (l : List (Option PlanOf)) (x : Plan) (i : ℕ) → i < length l
+    → getD (map heldValue l ++ (x ∷ [])) i blank ≡ heldValue (getD l i none)
 slot-block [] x i h = absurd (not-suc-le-zero h)
 slot-block (y ∷ l) x zero h = refl
 slot-block (y ∷ l) x (suc i) h = slot-block l x i (le-of-suc-le-suc h)
@@ -146,7 +148,8 @@ held-tidy (some p) k = by (eqb (packed p .pairs) 0) (kept-held p (k p refl))
     by true e = absurd (Option·none-ne-some p e)
     by false e = tt
 
-all-placed : (l : List (Option PlanOf)) (x : Plan) → ((i : ℕ) (p : PlanOf) → getD l i none ≡ some p → Kept p) → Placed x → AllPlaced (map heldValue l ++ (x ∷ []))
+all-placed : (l : List (Option PlanOf)) (x : Plan) → ((i : ℕ) (p : PlanOf) → getD l i none ≡ some p → Kept p) → Placed x
+    → AllPlaced (map heldValue l ++ (x ∷ []))
 all-placed [] x k p = (p, tt)
 all-placed (y ∷ l) x k p = (held-placed y (k 0), all-placed l x (λ i. k (suc i)) p)
 
@@ -217,7 +220,8 @@ module _ (d : DeskOf) (D : IsDesk d) where
       same-count (λ i. getD (d .slots) i none) (slotAt head columns) 0 slotCount
       (λ i a h. ap heldBy (slot-value i (omega arith)) ∙ held-back (held d i) (D .kept i))
       ∙ sym (append-nil (map (λ i. getD (d .slots) i none) (count 0 slotCount)))
-      ∙ ap (λ r. map (λ i. getD (d .slots) i none) (count 0 slotCount) ++ r) (sym (drop-of-length-le (d .slots) {i = 0 + slotCount} (omega arith)))
+      ∙ ap (λ r. map (λ i. getD (d .slots) i none) (count 0 slotCount) ++ r) (sym (drop-of-length-le (d .slots) {i = 0 + slotCount}
+      (omega arith)))
       ∙ sym (by-place (d .slots) none slotCount 0 (omega arith))
 
   -- the open plan as its value holds it
@@ -227,7 +231,8 @@ module _ (d : DeskOf) (D : IsDesk d) where
       let slot : slotNumber (slotByte (x .slot)) ≡ x .slot = omega arith in
       let rows = rows-of-words (x .shape) (x .rows) (k .in-range)
       (λ p m. (
-        word-of-test (x .shape) (p .from) (all-at (isWord (x .shape)) (froms (x .rows)) (k .from-words) (p .from) (Memᴰ·map (λ q. q .from) m)),
+        word-of-test (x .shape) (p .from) (all-at (isWord (x .shape)) (froms (x .rows)) (k .from-words) (p .from) (Memᴰ·map
+            (λ q. q .from) m)),
         word-of-test (x .shape) (p .to) (all-at (isWord (x .shape)) (tos (x .rows)) (k .to-words) (p .to) (Memᴰ·map (λ q. q .to) m)),
       )) in
       λ i. record { slot = slot i; shape = x .shape; rows = rows i }
@@ -292,7 +297,8 @@ module _ (d : DeskOf) (D : IsDesk d) where
       by none k = blank-passes
       by (some x) k =
           let v = draftValue (some x) in
-          subst (λ b. T (elim b [ true ↦ blankTest v | false ↦ inTable v ])) (sym (ne-eqb (slotByte (x .slot)) 0 (λ e. omega arith))) (k .in-table)
+          subst (λ b. T (elim b [ true ↦ blankTest v | false ↦ inTable v ])) (sym (ne-eqb (slotByte (x .slot)) 0 (λ e. omega arith)))
+          (k .in-table)
 
   pub value-taken : Whole (packedDesk d) × T (isDeskValue (packedDesk d))
   unfolding isDeskValue packedDesk

@@ -41,14 +41,16 @@ returns : tie.Need-returns Inv-loop μ-loop
 returns c =
     let v = c .before in
     let l = place v in
-    sym (l .loop .inv .1 ∙ left-fails (tested (sizes v)) (l .loop .i) (v .before .before .loop-test .taken) (sym (v .is-tidy .ensures) ∙ not-true (v .is-tidy .result) (c .if1 .taken)))
+    sym (l .loop .inv .1 ∙ left-fails (tested (sizes v)) (l .loop .i) (v .before .before .loop-test .taken) (sym (v .is-tidy .ensures)
+    ∙ not-true (v .is-tidy .result) (c .if1 .taken)))
 
 loop-again : tie.Need-loop-again Inv-loop μ-loop
 loop-again c =
     let v = c .before in
     let l = place v in (
       omega (arith, v .before .before .loop-test .taken),
-      l .loop .inv .1 ∙ left-passes (tested (sizes v)) (l .loop .i) (v .before .before .loop-test .taken) (sym (v .is-tidy .ensures) ∙ not-false (v .is-tidy .result) (c .if1 .left)),
+      l .loop .inv .1 ∙ left-passes (tested (sizes v)) (l .loop .i) (v .before .before .loop-test .taken) (sym (v .is-tidy .ensures)
+          ∙ not-false (v .is-tidy .result) (c .if1 .left)),
     )
 
 returns-2 : tie.Need-returns-2 Inv-loop μ-loop

@@ -33,7 +33,8 @@ part-long s at h =
     length-take-le (pairs s) (drop at (s .args .columns .now)) (omega (arith, part-fits s at h, length-drop at (s .args .columns .now)))
 
 -- and filled with zeros it is what the value's column is filled to
-part-filled : (s : tie.Start) (at : ℕ) → filling (pairs s) (take (pairs s) (drop at (s .args .columns .now))) ≡ filling (pairs s) (take maxPairs (drop at (s .args .columns .now)))
+part-filled : (s : tie.Start) (at : ℕ) → filling (pairs s) (take (pairs s) (drop at (s .args .columns .now))) ≡ filling (pairs s)
+    (take maxPairs (drop at (s .args .columns .now)))
 part-filled s at =
     let l = drop at (s .args .columns .now) in
     let n = pairs s in
@@ -44,7 +45,8 @@ returns : tie.Need-returns
 returns c =
     let s = c .before .before .before in
     let a = s .args in
-    c .blank .ensures ∙ sym (ap draftValue (draft-closed (a .t1) (a .columns .now) (s .pre) (not-true (a .t1 .is_open) (c .before .if1 .taken))))
+    c .blank .ensures ∙ sym (ap draftValue (draft-closed (a .t1) (a .columns .now) (s .pre) (not-true (a .t1 .is_open)
+    (c .before .if1 .taken))))
 
 part-requires : tie.Need-part-requires
 part-requires c κs = part-fits (start (c .before)) 2048 (omega arith)

@@ -35,7 +35,8 @@ returns-3 : tie.Need-returns-3
 returns-3 c =
     let e = c .before in
     let s = e .before in
-    c .is-in-table .ensures ∙ sym (none (s .before) true (sym (s .has-no-shape .ensures) ∙ not-false (s .has-no-shape .result) (e .if2 .left)))
+    c .is-in-table .ensures ∙ sym (none (s .before) true (sym (s .has-no-shape .ensures)
+    ∙ not-false (s .has-no-shape .result) (e .if2 .left)))
 
 pub is-blank-spec : {M : Type 1} → statement M
 is-blank-spec = tie.close (tie.spec returns (λ c κs. search needs) returns-2 (λ c κs. search needs) returns-3)

@@ -80,7 +80,8 @@ returns-4 c =
     let k = a .before .before .before in
     let d = desk (first k) in
     c .is-tidy-draft .ensures
-    ∙ ap (draftTest (d .opened)) (v .value .ensures ∙ ap (λ (x : Head). valueAt x (d .columns) draftBlock) (k .before .before .head-of .ensures))
+    ∙ ap (draftTest (d .opened)) (v .value .ensures ∙ ap (λ (x : Head). valueAt x (d .columns) draftBlock)
+    (k .before .before .head-of .ensures))
     ∙ sym (rest a true (not-false (a .are-tidy .result) (y .if3 .left)))
 
 pub is-desk-spec : {M : Type 1} → statement M

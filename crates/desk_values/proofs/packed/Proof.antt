@@ -20,7 +20,8 @@ returns c =
     let sizes = c .tidied-sizes .ensures ∙ ap (λ (v : Plan). tidySizes (h .sizes) (sizeOf v)) draft in
     let words = p .put .ensures ∙ ap (put (s .args .columns) draftBlock) draft in
     let opened = o .opened-by .ensures in
-    (λ i. record { blocks = sizes i; opened = opened i; changes = h .changes; columns = words i }) ∙ desk-packed h (s .args .columns) (s .pre)
+    (λ i. record { blocks = sizes i; opened = opened i; changes = h .changes; columns = words i })
+    ∙ desk-packed h (s .args .columns) (s .pre)
 
 pub packed-spec : {M : Type 1} → statement M
 packed-spec =

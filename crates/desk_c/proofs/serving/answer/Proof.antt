@@ -34,7 +34,8 @@ returns c =
     let line = a .line .now in
     let meaning : meant line (r .read .result) ≡ recordOf line = ap (meant line) (r .read .ensures) ∙ read-exact .means line in
     t .reply .ensures d line (a .out .now) (p .perform .last .1 .0)
-    (subst (λ (o : Outcome Record). DoneBy d (o >>= operation d) (a .out .now) (p .perform .result) (p .perform .last .1 .0) (p .perform .last .1 .1 .1 .1 .0)) meaning (p .perform .ensures))
+    (subst (λ (o : Outcome Record). DoneBy d (o >>= operation d) (a .out .now) (p .perform .result) (p .perform .last .1 .0)
+    (p .perform .last .1 .1 .1 .1 .0)) meaning (p .perform .ensures))
 
 pub answer-spec : {M : Type 1} → statement M
 answer-spec =

@@ -14,7 +14,8 @@ start c = c .before .before
 
 leaves : (c : tie.After-perform) → let a = start c .args in let d = deskOf (a .head) (a .columns) in
     Leaves d (jobWork (a .job) d) (c .perform .result) (c .perform .last .1 .0)
-leaves c = let a = start c .args in job-leaves (a .head) (a .columns) (a .job) (c .perform .result) (c .perform .last .1 .0) (c .perform .ensures)
+leaves c = let a = start c .args in job-leaves (a .head) (a .columns) (a .job) (c .perform .result) (c .perform .last .1 .0)
+    (c .perform .ensures)
 
 packed-requires : tie.Need-packed-requires
 packed-requires c κs =

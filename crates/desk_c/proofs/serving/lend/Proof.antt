@@ -34,7 +34,8 @@ wrote c = answered (c .before .before .before)
 packed-requires-2 : tie.Need-packed-requires-2
 packed-requires-2 c κs =
     let s = start (wrote (c .before .before)) in
-    subst (λ (h : Head). HoldsDesk h (s .args .columns)) (sym (c .dropped .ensures)) (holds-dropped (s .args .head) (s .args .columns) (s .pre))
+    subst (λ (h : Head). HoldsDesk h (s .args .columns)) (sym (c .dropped .ensures)) (holds-dropped (s .args .head) (s .args .columns)
+    (s .pre))
 
 returns : tie.Need-returns
 returns c =
@@ -47,7 +48,8 @@ returns c =
     let a = s .args in
     call-short (a .head) (a .columns) (s .pre) (a .line .now) (a .out .now) _ (words w) (bytes w) (w .answer .result) (w .answer .ensures)
     (k .before .outcome2 .given .0 .0) (k .before .outcome2 .given .1) (t .if1 .taken) (p .packed2 .result)
-    (p .packed2 .ensures ∙ ap (λ (h : Head). packedDesk (deskOf h (a .columns))) (d .dropped .ensures)) (c .refused2 .result) (c .refused2 .ensures)
+    (p .packed2 .ensures ∙ ap (λ (h : Head). packedDesk (deskOf h (a .columns))) (d .dropped .ensures)) (c .refused2 .result)
+    (c .refused2 .ensures)
 
 -- any reply fits into the bytes that there are
 fits : (c : tie.After-known-told2) → c .before .outcome2 .given .0 .0 ≤ maxReply
@@ -70,7 +72,8 @@ returns-2 c =
     let s = start w in
     let a = s .args in
     call-refused (a .head) (a .columns) (s .pre) (a .line .now) (a .out .now) _ (words w) (bytes w) (w .answer .result) (w .answer .ensures)
-    (o .outcome .given .0 .0) (o .outcome .given .0 .1 .0) (o .outcome .given .1) (p .packed .result) (p .packed .ensures) (c .refused .result) (c .refused .ensures)
+    (o .outcome .given .0 .0) (o .outcome .given .0 .1 .0) (o .outcome .given .1) (p .packed .result) (p .packed .ensures)
+    (c .refused .result) (c .refused .ensures)
 
 returns-3 : tie.Need-returns-3
 returns-3 c =
@@ -83,7 +86,8 @@ returns-3 c =
     let n = k .before .outcome2 .given .0 .0 in
     let all : n - 0 ≡ n = omega arith in
     call-done (a .head) (a .columns) (s .pre) (a .line .now) (a .out .now) _ (words w) (bytes w) (w .answer .result) (w .answer .ensures)
-    n (k .before .outcome2 .given .1) (e .if1 .left) (omega (arith, fits k, w .before .before .before .scratch .ensures)) (c .packed3 .result) (c .packed3 .ensures) _
+    n (k .before .outcome2 .given .1) (e .if1 .left) (omega (arith, fits k, w .before .before .before .scratch .ensures))
+    (c .packed3 .result) (c .packed3 .ensures) _
     (y .copy .ensures ∙ ap (λ m. written (a .out .now) 0 (take m (bytes w))) all)
 
 pub lend-spec : {M : Type 1} → statement M

@@ -79,22 +79,28 @@ rest2 : (c : tie.Else2) → let j = c .before .before .before .args .job in jobR
 rest2 c = let j = c .before .before .before .args .job in rest1 (c .before) ∙ ap (at1 j) (ne-eqb (j .letter) (byte "E") (c .if2 .left))
 
 rest3 : (c : tie.Else3) → let j = c .before .before .before .before .args .job in jobRecord j ≡ after3 j
-rest3 c = let j = c .before .before .before .before .args .job in rest2 (c .before) ∙ ap (at2 j) (ne-eqb (j .letter) (byte "F") (c .if3 .left))
+rest3 c = let j = c .before .before .before .before .args .job in rest2 (c .before)
+    ∙ ap (at2 j) (ne-eqb (j .letter) (byte "F") (c .if3 .left))
 
 rest4 : (c : tie.Else4) → let j = c .before .before .before .before .before .args .job in jobRecord j ≡ after4 j
-rest4 c = let j = c .before .before .before .before .before .args .job in rest3 (c .before) ∙ ap (at3 j) (ne-eqb (j .letter) (byte "I") (c .if4 .left))
+rest4 c = let j = c .before .before .before .before .before .args .job in rest3 (c .before)
+    ∙ ap (at3 j) (ne-eqb (j .letter) (byte "I") (c .if4 .left))
 
 rest5 : (c : tie.Else5) → let j = c .before .before .before .before .before .before .args .job in jobRecord j ≡ after5 j
-rest5 c = let j = c .before .before .before .before .before .before .args .job in rest4 (c .before) ∙ ap (at4 j) (ne-eqb (j .letter) (byte "K") (c .if5 .left))
+rest5 c = let j = c .before .before .before .before .before .before .args .job in rest4 (c .before)
+    ∙ ap (at4 j) (ne-eqb (j .letter) (byte "K") (c .if5 .left))
 
 rest6 : (c : tie.Else6) → let j = c .before .before .before .before .before .before .before .args .job in jobRecord j ≡ after6 j
-rest6 c = let j = c .before .before .before .before .before .before .before .args .job in rest5 (c .before) ∙ ap (at5 j) (ne-eqb (j .letter) (byte "S") (c .if6 .left))
+rest6 c = let j = c .before .before .before .before .before .before .before .args .job in rest5 (c .before)
+    ∙ ap (at5 j) (ne-eqb (j .letter) (byte "S") (c .if6 .left))
 
 rest7 : (c : tie.Else7) → let j = c .before .before .before .before .before .before .before .before .args .job in jobRecord j ≡ after7 j
-rest7 c = let j = c .before .before .before .before .before .before .before .before .args .job in rest6 (c .before) ∙ ap (at6 j) (ne-eqb (j .letter) (byte "C") (c .if7 .left))
+rest7 c = let j = c .before .before .before .before .before .before .before .before .args .job in rest6 (c .before)
+    ∙ ap (at6 j) (ne-eqb (j .letter) (byte "C") (c .if7 .left))
 
 rest8 : (c : tie.Else8) → let j = c .before .before .before .before .before .before .before .before .before .args .job in jobRecord j ≡ after8 j
-rest8 c = let j = c .before .before .before .before .before .before .before .before .before .args .job in rest7 (c .before) ∙ ap (at7 j) (ne-eqb (j .letter) (byte "T") (c .if8 .left))
+rest8 c = let j = c .before .before .before .before .before .before .before .before .before .args .job in rest7 (c .before)
+    ∙ ap (at7 j) (ne-eqb (j .letter) (byte "T") (c .if8 .left))
 
 returns : tie.Need-returns
 returns c =
@@ -123,7 +129,8 @@ returns-3 c =
     let s = t .before .before .before .before in
     let a = s .args in
     let j = a .job in
-    job-done j (a .head) (a .columns .now) _ _ (F (j .a) (j .b) (j .c)) (rest2 (t .before) ∙ ap (at2 j) (eq-eqb (j .letter) (byte "F") (t .if3 .taken)))
+    job-done j (a .head) (a .columns .now) _ _ (F (j .a) (j .b) (j .c)) (rest2 (t .before)
+    ∙ ap (at2 j) (eq-eqb (j .letter) (byte "F") (t .if3 .taken)))
     (q .follow .ensures)
 
 returns-4 : tie.Need-returns-4
@@ -133,12 +140,14 @@ returns-4 c =
     let s = t .before .before .before .before .before in
     let a = s .args in
     let j = a .job in
-    job-done j (a .head) (a .columns .now) _ _ (I (j .a) (j .b)) (rest3 (t .before) ∙ ap (at3 j) (eq-eqb (j .letter) (byte "I") (t .if4 .taken)))
+    job-done j (a .head) (a .columns .now) _ _ (I (j .a) (j .b)) (rest3 (t .before)
+    ∙ ap (at3 j) (eq-eqb (j .letter) (byte "I") (t .if4 .taken)))
     (q .invert .ensures)
 
 -- the power fits into 32 bits, so that the work reads it back as it is
 power-read : (c : tie.After-struct-told) → let j = c .before .before .before .before .before .before .before .before .args .job in read w32 (j .k) ≡ j .k
-power-read c = let j = c .before .before .before .before .before .before .before .before .args .job in read-is w32 (j .k) (search (needs, c .struct-told .given))
+power-read c = let j = c .before .before .before .before .before .before .before .before .args .job in read-is w32 (j .k) (search
+    (needs, c .struct-told .given))
 
 returns-5 : tie.Need-returns-5
 returns-5 c =
@@ -147,8 +156,10 @@ returns-5 c =
     let s = t .before .before .before .before .before .before in
     let a = s .args in
     let j = a .job in
-    job-done j (a .head) (a .columns .now) _ _ (K (j .a) (j .k) (j .b)) (rest4 (t .before) ∙ ap (at4 j) (eq-eqb (j .letter) (byte "K") (t .if5 .taken)))
-    (subst (λ k. (out : List ℕ) → Done (K (j .a) k (j .b)) (a .head) (a .columns .now) out (q .power .result) (q .power .last .1 .0) out) (power-read (q .before))
+    job-done j (a .head) (a .columns .now) _ _ (K (j .a) (j .k) (j .b)) (rest4 (t .before)
+    ∙ ap (at4 j) (eq-eqb (j .letter) (byte "K") (t .if5 .taken)))
+    (subst (λ k. (out : List ℕ) → Done (K (j .a) k (j .b)) (a .head) (a .columns .now) out (q .power .result)
+    (q .power .last .1 .0) out) (power-read (q .before))
     (q .power .ensures))
 
 returns-6 : tie.Need-returns-6
@@ -158,7 +169,8 @@ returns-6 c =
     let s = t .before .before .before .before .before .before .before in
     let a = s .args in
     let j = a .job in
-    job-done j (a .head) (a .columns .now) _ _ (S (j .a) (j .b)) (rest5 (t .before) ∙ ap (at5 j) (eq-eqb (j .letter) (byte "S") (t .if6 .taken)))
+    job-done j (a .head) (a .columns .now) _ _ (S (j .a) (j .b)) (rest5 (t .before)
+    ∙ ap (at5 j) (eq-eqb (j .letter) (byte "S") (t .if6 .taken)))
     (q .compare .ensures)
 
 returns-7 : tie.Need-returns-7

@@ -14,7 +14,8 @@ returns c = λ d line out₀ columns′ k.
     let a = t .before .before .before .args in
     let o = lineOperation d line in
     let e = refused-of o (line-answers d line) (t .told .given .0 .0) (sym (k .reply) ∙ t .told .given .1) in
-    replied-refused d o out₀ columns′ (a .out .now) (a .work) k (t .told .given .0 .0) none e (c .dropped .result) (c .dropped .ensures) 0 refl (a .out .now)
+    replied-refused d o out₀ columns′ (a .out .now) (a .work) k (t .told .given .0 .0) none e (c .dropped .result)
+    (c .dropped .ensures) 0 refl (a .out .now)
 
 returns-2 : tie.Need-returns-2
 returns-2 c = λ d line out₀ columns′ k.

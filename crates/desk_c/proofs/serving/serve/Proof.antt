@@ -66,9 +66,11 @@ returns-2 c =
     let a = start e .args in
     let columns = a .desk .columns in
     record {
-      left = l .lend .ensures .left ∙ ap (λ (x : Head). lentOf (lineCall (deskOf x columns) (a .line .now) (a .out .now))) (h .head-of .ensures)
+      left = l .lend .ensures .left ∙ ap (λ (x : Head). lentOf (lineCall (deskOf x columns) (a .line .now) (a .out .now)))
+          (h .head-of .ensures)
           ∙ sym (ap (leaves (a .line .now) (a .desk) (a .out .now)) (passed e));
-      buffer = l .lend .ensures .buffer ∙ ap (λ (x : Head). lineCall (deskOf x columns) (a .line .now) (a .out .now) .1 .buffer) (h .head-of .ensures)
+      buffer = l .lend .ensures .buffer ∙ ap (λ (x : Head). lineCall (deskOf x columns) (a .line .now) (a .out .now) .1 .buffer)
+          (h .head-of .ensures)
           ∙ sym (ap (buffers (a .line .now) (a .desk) (a .out .now)) (passed e));
     }
 
