@@ -2,20 +2,36 @@
 //! an input line by line (`mutation`), and which inputs are tried at all. An
 //! input is a session in every harness: the cases are seeds as they stand.
 
+use compare::judge::Difference;
+use sessions::Rng;
+
 pub mod mutation;
 
-/// The most records with the letter K: a power of 1,000 at 128 pairs takes the
-/// second implementation a tenth of a second, and many of them would look as a
-/// hang does.
-const POWERS: usize = 8;
+/// The most that the exponents of an input may come to. A power is made step by
+/// step, and at 128 pairs the second implementation takes a second for these:
+/// with many more an input would look as one that hangs.
+const STEPS: u32 = 8000;
+
+/// The largest size of an exponent that isn't refused at once.
+const LARGEST: u32 = 1000;
 
 /// Whether an input is tried.
 pub fn is_tried(input: &[u8]) -> bool {
     let lines = input.split(|byte| *byte == b'\n');
-    lines.filter(|line| line.starts_with(b"K\t")).count() <= POWERS
+    lines.filter_map(steps).sum::<u32>() <= STEPS
 }
 
-/// A number that an input decides, for what it doesn't say itself: in which
+/// The steps of a power, if the line asks for one.
+fn steps(line: &[u8]) -> Option<u32> {
+    let mut fields = line.split(|byte| *byte == b'\t');
+    if fields.next() != Some(b"K") {
+        return None;
+    }
+    let size = exponent(fields.nth(1)?).unsigned_abs();
+    (size <= LARGEST).then_some(size)
+}
+
+/// A number that bytes decide, for what an input doesn't say itself: in which
 /// pieces it is read, or how much room there is for a reply.
 pub fn sum(bytes: &[u8]) -> u64 {
     bytes.iter().fold(0xcbf2_9ce4_8422_2325, |sum, byte| {
@@ -23,10 +39,38 @@ pub fn sum(bytes: &[u8]) -> u64 {
     })
 }
 
+/// The lines of an input, each with a number that it and the line before it
+/// decide: most lines stay as they are when one of them is changed.
+pub fn lines(input: &[u8]) -> impl Iterator<Item = (&[u8], usize)> {
+    let mut before = 0;
+    input.split(|byte| *byte == b'\n').map(move |line| {
+        let own = sum(line);
+        let seed = own ^ std::mem::replace(&mut before, own).rotate_left(32);
+        (line, Rng::new(seed).number() as usize)
+    })
+}
+
 /// The number that a field of K says; where it says none, any number.
 pub fn exponent(field: &[u8]) -> i32 {
     let said = std::str::from_utf8(field).ok().and_then(|k| k.parse().ok());
     said.unwrap_or(sum(field) as i32)
+}
+
+/// What is said of a program that replies wrongly.
+pub fn told(difference: &Difference) -> String {
+    let text = |bytes: &[u8]| format!("{:?}", String::from_utf8_lossy(bytes));
+    let Difference {
+        index,
+        record,
+        expected,
+        got,
+    } = difference;
+    format!(
+        "the program differs at record {index}, {}:\nexpected {}\ngot      {}",
+        text(record),
+        text(expected),
+        text(got)
+    )
 }
 
 /// libFuzzer's entry points, for a function that takes an input and panics

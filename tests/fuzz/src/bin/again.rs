@@ -1,6 +1,7 @@
-//! Runs a desk program once on each input of a folder, through pipes and in odd
-//! pieces, and holds what it writes to the second implementation: what the
-//! fuzzing found, on the program as it is delivered.
+//! Runs a desk program once on each input of some folders, through pipes and in
+//! odd pieces, and holds what it writes to the second implementation: the cases
+//! and what the fuzzing found, on the program as it is delivered. An input that
+//! the harnesses wouldn't try is wrong too.
 
 use std::fs;
 use std::process::ExitCode;
@@ -8,15 +9,15 @@ use std::time::Duration;
 
 use compare::judge::{expected, judge};
 use compare::program::{Feeding, Program};
-use fuzz::sum;
+use fuzz::{is_tried, sum, told};
 
 /// The time that one run may take.
 const PATIENCE: Duration = Duration::from_secs(30);
 
 fn main() -> ExitCode {
     let given: Vec<String> = std::env::args().skip(1).collect();
-    let [program, folder] = &given[..] else {
-        eprintln!("usage: again PROGRAM FOLDER");
+    let [program, folders @ ..] = &given[..] else {
+        eprintln!("usage: again PROGRAM FOLDER..");
         return ExitCode::FAILURE;
     };
     let program = Program {
@@ -25,7 +26,8 @@ fn main() -> ExitCode {
     };
     let mut inputs = 0;
     let mut wrong = 0;
-    for entry in fs::read_dir(folder).expect("a folder of inputs") {
+    let entries = |folder| fs::read_dir(folder).expect("a folder of inputs");
+    for entry in folders.iter().flat_map(entries) {
         let path = entry.expect("an input").path();
         let input = fs::read(&path).expect("an input");
         inputs += 1;
@@ -43,6 +45,9 @@ fn main() -> ExitCode {
 
 /// What is wrong with a run on an input, if anything.
 fn fault(program: &Program, input: &[u8]) -> Option<String> {
+    if !is_tried(input) {
+        return Some("it isn't tried".into());
+    }
     let feeding = match sum(input) % 2 {
         0 => Feeding::Whole,
         _ => Feeding::Cuts(sum(input)),
@@ -51,6 +56,5 @@ fn fault(program: &Program, input: &[u8]) -> Option<String> {
     if let Some(trouble) = run.trouble {
         return Some(format!("{trouble:?}"));
     }
-    let difference = judge(&expected(input), &run.output)?;
-    Some(format!("the program differs: {difference:#?}"))
+    judge(&expected(input), &run.output).map(|difference| told(&difference))
 }

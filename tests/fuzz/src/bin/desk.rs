@@ -7,7 +7,7 @@
 
 use desk_calls::checks::side_by_side::{SideBySide, AMPLE};
 use desk_calls::{Calls, Desk, Job, Library, Second};
-use fuzz::{exponent, harness, sum};
+use fuzz::{exponent, harness, lines};
 use reference::COUNT_LIMIT;
 
 harness!(tried);
@@ -16,28 +16,35 @@ fn tried(input: &[u8]) {
     let mut both = SideBySide::new(&Library, &Library.fresh());
     assert_eq!(*both.desk(), Second::default().fresh(), "a fresh desk");
     let rehearsal = Second::default();
-    for line in input.split(|byte| *byte == b'\n') {
+    for (line, chance) in lines(input) {
         match line {
             [b'D', b'\t', place, b'\t', edits @ ..] => damage(&mut both, *place, edits),
-            _ if sum(line) % 4 == 0 => drop(both.job(job(line))),
-            _ => drop(both.line_into(line, room(&rehearsal, &both, line))),
+            _ if is_job(line, chance) => drop(both.job(job(line))),
+            _ => drop(both.line_into(line, room(&rehearsal, &both, line, chance))),
         }
     }
 }
 
-/// The length of the buffer for a line, which the line decides: one that just
-/// fits, one byte less, ample, or any other.
-fn room(rehearsal: &Second, both: &SideBySide, line: &[u8]) -> usize {
-    let chance = sum(line) as usize / 4;
-    if chance % 2 == 0 {
+/// Whether a line is handed over as a job: one in four of those that have one.
+/// Of the others few are, since a job that is refused drops the open plan.
+fn is_job(line: &[u8], chance: usize) -> bool {
+    let has_job = matches!(line, [letter, ..] if b"PEFIKSCT".contains(letter));
+    chance % if has_job { 4 } else { 256 } == 0
+}
+
+/// The length of the buffer for a line: mostly ample, else one that just fits,
+/// one byte less, or any other.
+fn room(rehearsal: &Second, both: &SideBySide, line: &[u8], chance: usize) -> usize {
+    let chance = chance / 256;
+    if chance % 4 != 0 {
         return AMPLE;
     }
     let mut desk = *both.desk();
     let output = rehearsal.line(&mut desk, line, &mut [0; AMPLE]).length;
-    match chance / 2 % 4 {
+    match chance / 4 % 4 {
         0 => output.saturating_sub(1),
-        1 => output + chance / 8 % 8,
-        2 => chance / 8 % (output + 1),
+        1 => chance / 16 % (output + 1),
+        2 => output + chance / 16 % 8,
         _ => output,
     }
 }

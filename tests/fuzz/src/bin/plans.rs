@@ -4,7 +4,7 @@
 
 #![no_main]
 
-use fuzz::{exponent, harness, sum};
+use fuzz::{exponent, harness, lines};
 use library::checks::buffers;
 use library::{Calls, Library, Plan, Second, PLACES};
 
@@ -27,14 +27,14 @@ fn tried(input: &[u8]) {
         draft: Plan::ZERO,
         slot: 0,
     };
-    for line in input.split(|byte| *byte == b'\n') {
-        values.call(line);
+    for (line, chance) in lines(input) {
+        values.call(line, chance);
     }
 }
 
 impl Values {
     /// The call that a line asks for, if any.
-    fn call(&mut self, line: &[u8]) {
+    fn call(&mut self, line: &[u8], chance: usize) {
         let fields: Vec<&[u8]> = line.splitn(4, |byte| *byte == b'\t').collect();
         match fields[..] {
             [b"P", &[slot], &[arity], &[roots]] => self.start(slot, arity, roots),
@@ -53,8 +53,8 @@ impl Values {
                 self.keep(c, made.number, made.plan);
             }
             [b"S", &[a], &[b]] => drop(same(&|calls| calls.same(self.value(a), self.value(b)))),
-            [b"W", &[a], code] => self.route(a, code),
-            [b"L", &[a]] => written(line, &|calls, out| calls.list(self.value(a), a, out)),
+            [b"W", &[a], code] => self.route(a, code, chance),
+            [b"L", &[a]] => written(chance, &|calls, out| calls.list(self.value(a), a, out)),
             [b"C", &[a]] => self.slots[place(a)] = Plan::ZERO,
             [b"D", &[a], edits] => damage(&mut self.slots[place(a)], edits),
             _ => {}
@@ -98,9 +98,9 @@ impl Values {
         }
     }
 
-    fn route(&self, a: u8, code: &[u8]) {
+    fn route(&self, a: u8, code: &[u8], chance: usize) {
         same(&|calls| calls.unmatched(self.value(a), code));
-        written(code, &|calls, out| calls.route(self.value(a), code, out));
+        written(chance, &|calls, out| calls.route(self.value(a), code, out));
     }
 }
 
@@ -111,11 +111,10 @@ fn same<T: PartialEq + std::fmt::Debug>(ask: Ask<T>) -> T {
     answer
 }
 
-/// A call that writes, with a buffer whose length the bytes decide: one that
-/// fits, one that is too short, or any other.
-fn written(bytes: &[u8], ask: buffers::Ask) {
+/// A call that writes, with a buffer of a length by chance: one that fits, one
+/// that is too short, or any other.
+fn written(chance: usize, ask: buffers::Ask) {
     let output = buffers::output_length(ask);
-    let chance = sum(bytes) as usize;
     let lengths = buffers::lengths(output);
     let length = match chance % 8 {
         place @ 0..=5 => lengths[place],

@@ -7,7 +7,7 @@
 use std::cell::RefCell;
 
 use compare::judge::{expected, judge};
-use fuzz::{harness, sum};
+use fuzz::{harness, sum, told};
 use sessions::Rng;
 
 harness!(tried);
@@ -34,7 +34,7 @@ fn tried(input: &[u8]) {
     let steps = expected(input);
     let output = output(input);
     if let Some(difference) = judge(&steps, &output) {
-        panic!("the program differs: {difference:#?}");
+        panic!("{}", told(&difference));
     }
 }
 
