@@ -59,7 +59,7 @@ apart-of-overlap [] e = tt
 apart-of-overlap (w ∷ c) e =
     (apart-from-of-meets w c (or-left-false (meets w c) (overlap c) e), apart-of-overlap c (or-right-false (meets w c) (overlap c) e))
 
-overlap-of-apart : (c : List Word) → Apart c → overlap c ≡ false
+pub overlap-of-apart : (c : List Word) → Apart c → overlap c ≡ false
 overlap-of-apart [] a = refl
 overlap-of-apart (w ∷ c) a = or-false (meets w c) (overlap c) (meets-of-apart-from w c (a .0)) (overlap-of-apart c (a .1))
 

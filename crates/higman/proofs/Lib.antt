@@ -1,6 +1,6 @@
 -- The arguments, each file after those it leans on. The terms of the statements of specs/Theorems.antt and specs/Cases.antt are in
 -- Columns (bases), Results (what is reduced), MinimalExpansion, Statements (normal form, group, answers), Demand3, Listing, Decimals and Cases;
--- that of specs/Automorphisms.antt is in Automorphisms, and the files from Codes on lead to it.
+-- that of specs/Fronts.antt in Fronts; that of specs/Automorphisms.antt is in Automorphisms, and the files from Codes on lead to it.
 pub mod Tests
 pub mod Text
 pub mod Decimals
@@ -31,6 +31,7 @@ pub mod Joins
 pub mod Reached
 pub mod Demand3
 pub mod Statements
+pub mod Fronts
 pub mod Codes
 pub mod Algebras
 pub mod StandardForms

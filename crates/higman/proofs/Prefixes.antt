@@ -1,6 +1,6 @@
 -- Prefixes and tails: `after` undoes an append, two prefixes of one word are comparable, and the parts of words are ways.
 use Prim.Native.Nat.{ℕ, zero, suc, _≤_}
-use mathlib.Core.Path.{_≡_, refl, sym, ap, ap₂}
+use mathlib.Core.Path.{_≡_, refl, sym, ap, ap₂, subst}
 use mathlib.Core.Logic.{_⊎_, inl, inr}
 use mathlib.Core.Bool.{Bool, true, false}
 use mathlib.Core.List.{[], _∷_, _++_, nil≢cons, head-eq-of-cons-eq, tail-eq-of-cons-eq, append-assoc}
@@ -9,7 +9,7 @@ use native.Mathlib.Nat.{le-refl}
 use lib.Dec.{eqb}
 use lib.ListN.{length, replicate, length-replicate}
 use borrow.Author.Tests.{eqb-true, eq-eqb}
-use Rattle.higman.specs.Words.{Shape, Word, after, given, begins, child}
+use Rattle.higman.specs.Words.{Shape, Word, after, given, begins, beginsProperly, child}
 use Rattle.higman.proofs.Tests.{clash, Ways, IsWord}
 
 pub after-append : (p x : Word) → after p (p ++ x) ≡ some x
@@ -96,3 +96,16 @@ ones-ways n (suc k) h = ((le-refl 1, h), ones-ways n k h)
 pub ones-length : (k : ℕ) → length (ones k) ≡ k
 unfolding ones
 ones-length k = length-replicate k 1
+
+-- a word that another properly begins has a digit more, and such a word is properly begun
+pub proper-tail : (u w : Word) → beginsProperly u w ≡ true → (i : ℕ) × (x : Word) × (w ≡ u ++ i ∷ x)
+proper-tail u w e = by-tail (after u w) refl e
+  where
+    by-tail : (o : Option Word) → after u w ≡ o → elim o [ none ↦ false | some x ↦ elim x [ [] ↦ false | i ∷ y ↦ true ] ] ≡ true
+        → (i : ℕ) × (x : Word) × (w ≡ u ++ i ∷ x)
+    by-tail none h k = absurd (clash k refl)
+    by-tail (some []) h k = absurd (clash k refl)
+    by-tail (some (i ∷ x)) h k = (i, x, after-some u w (i ∷ x) h)
+
+pub proper-of-tail : (u w : Word) (i : ℕ) (x : Word) → w ≡ u ++ i ∷ x → beginsProperly u w ≡ true
+proper-of-tail u w i x e = subst (λ v. beginsProperly u v ≡ true) (sym e) (rw (after-append u (i ∷ x), beginsProperly))

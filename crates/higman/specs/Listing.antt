@@ -24,9 +24,13 @@ isSlot b = leb (byte "A") b && leb (suc b) (slotByte slotCount)
 abbrev pub openRecord : ℕ → Shape → Bytes
 openRecord slot s = 80 ∷ tab ∷ slot ∷ tab ∷ digitByte (s .arity) ∷ tab ∷ digitByte (s .roots) ∷ lineEnd ∷ []
 
+-- a letter and the words of a pair
+abbrev pub pairLine : ℕ → Pair → Bytes
+pairLine letter p = letter ∷ tab ∷ (wordBytes (p .from) ++ tab ∷ (wordBytes (p .to) ++ lineEnd ∷ []))
+
 -- M⇥from⇥to
 abbrev pub pairRecord : Pair → Bytes
-pairRecord p = 77 ∷ tab ∷ (wordBytes (p .from) ++ tab ∷ (wordBytes (p .to) ++ lineEnd ∷ []))
+pairRecord p = pairLine 77 p
 
 -- E
 abbrev pub closeRecord : Bytes
