@@ -4,6 +4,7 @@ pub mod WordOrder
 pub mod Places
 pub mod Neighbours
 pub mod Search
+pub mod Extensions
 pub mod Covered
 pub mod Walks
 pub mod Settling

@@ -1,5 +1,5 @@
--- What a search in a sorted column finds, the place that parts its words at a word and the word of it that begins a word, and what a
--- walk over the words of a block finds.
+-- What a search in a sorted column finds, the place that parts its words at a word, the word of it that begins a word and the words that
+-- a word begins, and what a walk over the words of a block finds.
 use Prim.Native.Nat.{ℕ, zero, suc, _+_, _-_, _≤_, _<_}
 use mathlib.Core.Path.{_≡_, refl}
 use mathlib.Core.Logic.{_⊎_, inr}
@@ -9,7 +9,7 @@ use mathlib.Core.Option.{Option·getD}
 use native.Mathlib.Omega.{arith}
 use lib.Dec.{T}
 use lib.ListN.{length, getD}
-use Rattle.higman.specs.Words.{Word, count, isWord, begins, child, spell}
+use Rattle.higman.specs.Words.{Word, count, isWord, begins, beginsProperly, child, spell}
 use Rattle.higman.specs.Bases.{all, covered, overlap}
 use Rattle.higman.specs.Tables.{firstMatch}
 use Rattle.higman.specs.Normal.{before}
@@ -30,6 +30,14 @@ pub record PartedAt (column : List ℕ) (w r : ℕ) : Type 0 where
 -- The place of the first word of a column that begins w, counted from 0, or the length of the column where no word of it does.
 unfoldable pub placeIn : List Word → Word → ℕ
 placeIn c w = Option·getD (firstMatch (λ u. u) (λ place u tail. place) c w) (length c)
+
+-- The words from the place start up to the place end are those that w begins and does not equal.
+pub record Extending (column : List ℕ) (w : Word) (start end : ℕ) : Type 0 where
+  pub forward : start ≤ end
+  pub within : end ≤ length column
+  pub front : (k : ℕ) → k < start → beginsProperly w (wordAt column k) ≡ false
+  pub inside : (k : ℕ) → start ≤ k → k < end → beginsProperly w (wordAt column k) ≡ true
+  pub back : (k : ℕ) → end ≤ k → k < length column → beginsProperly w (wordAt column k) ≡ false
 
 -- What a walk asks of a column: sorted words of n ways at every switch, of which none begins another.
 pub record Walkable (n : ℕ) (column : List ℕ) : Type 0 where
@@ -64,6 +72,26 @@ coveredFrom n c d w i = all (λ j. covered n c d (child w j)) (count i (n + 1 - 
 placeIn-example : map (placeIn (spell 11 ∷ spell 12 ∷ [])) (spell 1211 ∷ spell 21 ∷ []) ≡ 1 ∷ 2 ∷ []
 unfolding placeIn
 placeIn-example = refl
+
+-- of 11, 111 and 12, the word 11 begins 111, itself and not 12
+extending-example : Extending (0x11 ∷ 0x111 ∷ 0x12 ∷ []) (spell 11) 1 2
+unfolding unpack unpackIn
+extending-example = record { forward = omega arith; within = omega arith; front = front; inside = inside; back = back }
+  where
+    front : (k : ℕ) → k < 1 → beginsProperly (spell 11) (wordAt (0x11 ∷ 0x111 ∷ 0x12 ∷ []) k) ≡ false
+    front zero h = refl
+    front (suc k) h = absurd (omega arith)
+
+    inside : (k : ℕ) → 1 ≤ k → k < 2 → beginsProperly (spell 11) (wordAt (0x11 ∷ 0x111 ∷ 0x12 ∷ []) k) ≡ true
+    inside zero l h = absurd (omega arith)
+    inside (suc zero) l h = refl
+    inside (suc (suc k)) l h = absurd (omega arith)
+
+    back : (k : ℕ) → 2 ≤ k → k < 3 → beginsProperly (spell 11) (wordAt (0x11 ∷ 0x111 ∷ 0x12 ∷ []) k) ≡ false
+    back zero l h = absurd (omega arith)
+    back (suc zero) l h = absurd (omega arith)
+    back (suc (suc zero)) l h = refl
+    back (suc (suc (suc k))) l h = absurd (omega arith)
 
 -- of the block 12 the first way is covered and the second is not; behind the last there is nothing to cover
 coveredFrom-example : map (λ i. coveredFrom 2 (spell 11 ∷ spell 121 ∷ []) 1 (spell 12) i) (1 ∷ 2 ∷ 3 ∷ []) ≡ false ∷ false ∷ true ∷ []

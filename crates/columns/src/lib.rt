@@ -12,11 +12,17 @@ ghost use Rattle.higman.specs.Limits.{maxDigits};
 ghost use Rattle.words.specs.Packed.{unpack};
 ghost use Rattle.words.specs.Bytes.{shape};
 ghost use Rattle.columns.specs.Packed.{wordsOf, inOrder, sorted};
-ghost use Rattle.columns.specs.Columns.{PartedAt, placeIn, Walkable, AtBlock, coveredFrom, Walked};
+ghost use Rattle.columns.specs.Columns.{PartedAt, placeIn, Extending, Walkable, AtBlock, coveredFrom, Walked};
 
 pub mod sorting;
 
 use words::MAX_WAYS;
+
+// The places of a column from start on, up to end.
+pub struct Run {
+    pub start: usize,
+    pub end: usize,
+}
 
 // Whether one word stands before another, by the first digit that differs, or begins it.
 pub fn in_order(u: u64, v: u64) -> bool
@@ -57,6 +63,22 @@ pub fn begun_by(column: &[u64], w: u64) -> usize
         return end - 1;
     }
     column.len()
+}
+
+// The run of the words that w begins and does not equal. They stand right behind those in order with w.
+pub fn extending(column: &[u64], w: u64) -> Run
+    requires { ⌜ sorted (wordsOf (now column)) ≡ true ⌝ }
+    ensures { λ r. ⌜ Extending (now (column .entry)) (unpack w) (r .start) (r .end) ⌝ }
+{
+    let start = first_after(column, w);
+    let mut end = start;
+    while end < column.len() {
+        if !words::begins(w, column[end]) {
+            return Run { start, end };
+        }
+        end += 1;
+    }
+    Run { start, end }
 }
 
 // Whether one word begins or equals another. In a sorted column it then begins its right neighbour.

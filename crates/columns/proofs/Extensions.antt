@@ -1,0 +1,150 @@
+-- The words that a word w begins and does not equal, in a sorted column: none is in order with w, so they stand behind the place that
+-- parts the column at w, side by side from there on. The pairs of two columns whose first words they are make up the block of w.
+use Prim.Native.Nat.{ℕ, zero, suc, _+_, _-_, _≤_, _<_}
+use mathlib.Core.Path.{_≡_, refl, sym, _∙_, ap, subst}
+use mathlib.Core.Logic.{_⊎_, inl, inr, ⊎-elim}
+use mathlib.Core.Bool.{true, false}
+use mathlib.Core.List.{List, [], _∷_, _++_, append-nil}
+use native.Mathlib.Nat.{zero-add}
+use native.Mathlib.Omega.{arith}
+use lib.ListN.{length, length-append}
+use Rattle.higman.specs.Words.{Word, begins, beginsProperly}
+use Rattle.higman.specs.Fronts.{block}
+use Rattle.higman.proofs.Tests.{passes, clash}
+use Rattle.higman.proofs.Prefixes.{begins-append, tail-of-begins, proper-tail, proper-of-tail}
+use Rattle.higman.proofs.Fronts.{block-taken, block-passed}
+use Rattle.words.specs.Packed.{unpack}
+use Rattle.columns.specs.Packed.{wordsOf, pairOf, table, rows, rowsAt, inOrder, sorted}
+use Rattle.columns.specs.Columns.{wordAt, PartedAt, Extending}
+use Rattle.columns.proofs.InOrder.{InOrder, in-order-of-test, test-of-in-order, in-order-of-begins, in-order-refl, in-order-antisym, begins-between}
+use Rattle.columns.proofs.WordOrder.{three-ways, in-order-total}
+use Rattle.columns.proofs.Places.{sorted-at}
+
+module _ (w u : Word) where
+  begins-of-proper : beginsProperly w u ≡ true → begins w u ≡ true
+  begins-of-proper e = let (i, x, f) = proper-tail w u e in subst (λ v. begins w v ≡ true) (sym f) (begins-append w (i ∷ x))
+
+  -- a longer word that w begins is not in order with w
+  proper-apart : inOrder u w ≡ true → beginsProperly w u ≡ false
+  proper-apart o = ⊎-elim (λ e. absurd (never (proper-tail w u e) e)) (λ e. e) (passes (beginsProperly w u))
+    where
+      never : (i : ℕ) × (x : Word) × (u ≡ w ++ i ∷ x) → beginsProperly w u ≡ true → ⊥
+      never (i, x, f) e =
+          let same = in-order-antisym u w (in-order-of-test u w o) (in-order-of-begins w u (begins-of-proper e)) in
+          omega (arith, ap length (sym same ∙ f), length-append w (i ∷ x))
+
+  -- and one that is not in order with w is longer, if w begins it
+  proper-behind : inOrder u w ≡ false → begins w u ≡ true → beginsProperly w u ≡ true
+  proper-behind o b = by-tail (tail-of-begins w u b)
+    where
+      by-tail : (x : Word) × (u ≡ w ++ x) → beginsProperly w u ≡ true
+      by-tail ([], f) =
+          absurd (clash (subst (λ v. inOrder u v ≡ true) (f ∙ append-nil w) (test-of-in-order u u (in-order-refl u))) o)
+      by-tail (i ∷ x, f) = proper-of-tail w u i x f
+
+  not-proper : begins w u ≡ false → beginsProperly w u ≡ false
+  not-proper b = ⊎-elim (λ e. absurd (clash (begins-of-proper e) b)) (λ e. e) (passes (beginsProperly w u))
+
+-- a walk from the start on has passed words that w begins
+pub record Passed (column : List ℕ) (w : Word) (start end : ℕ) : Type 0 where
+  pub forward : start ≤ end
+  pub within : end ≤ length column
+  pub inside : (k : ℕ) → start ≤ k → k < end → beginsProperly w (wordAt column k) ≡ true
+
+module _ (column : List ℕ) (s : sorted (wordsOf column) ≡ true) (w start : ℕ) (p : PartedAt column w start) where
+  pub passed-none : Passed column (unpack w) start start
+  passed-none = record { forward = omega arith; within = p .within; inside = λ k l h. absurd (omega arith) }
+
+  module _ (end : ℕ) (d : Passed column (unpack w) start end) where
+    pub passed-next : end < length column → begins (unpack w) (wordAt column end) ≡ true → Passed column (unpack w) start (end + 1)
+    passed-next l b = record { forward = omega (arith, d .forward); within = omega arith; inside = inside }
+      where
+        inside : (k : ℕ) → start ≤ k → k < end + 1 → beginsProperly (unpack w) (wordAt column k) ≡ true
+        inside k m h = by-place (three-ways k end)
+          where
+            by-place : (k < end) ⊎ ((k ≡ end) ⊎ (end < k)) → beginsProperly (unpack w) (wordAt column k) ≡ true
+            by-place (inl i) = d .inside k m i
+            by-place (inr (inl e)) =
+                subst (λ j. beginsProperly (unpack w) (wordAt column j) ≡ true) (sym e)
+                (proper-behind (unpack w) (wordAt column end) (p .back end (d .forward) l) b)
+            by-place (inr (inr i)) = absurd (omega arith)
+
+    pub passed-all : length column ≤ end → Extending column (unpack w) start end
+    passed-all l = record {
+      forward = d .forward;
+      within = d .within;
+      front = λ k h. proper-apart (unpack w) (wordAt column k) (p .front k h);
+      inside = d .inside;
+      back = λ k m h. absurd (omega arith);
+    }
+
+    -- behind a word that w does not begin there is none that it begins
+    pub passed-last : end < length column → begins (unpack w) (wordAt column end) ≡ false → Extending column (unpack w) start end
+    passed-last l b = record {
+      forward = d .forward;
+      within = d .within;
+      front = λ k h. proper-apart (unpack w) (wordAt column k) (p .front k h);
+      inside = d .inside;
+      back = back;
+    }
+      where
+        first : InOrder (unpack w) (wordAt column end)
+        first =
+            in-order-of-test (unpack w) (wordAt column end) (in-order-total (wordAt column end) (unpack w) (p .back end (d .forward) l))
+
+        back : (k : ℕ) → end ≤ k → k < length column → beginsProperly (unpack w) (wordAt column k) ≡ false
+        back k m h = not-proper (unpack w) (wordAt column k) (⊎-elim (λ e. absurd (clash (between e) b)) (λ e. e) (passes _))
+          where
+            between : begins (unpack w) (wordAt column k) ≡ true → begins (unpack w) (wordAt column end) ≡ true
+            between e = begins-between (unpack w) (wordAt column end) (wordAt column k) first (sorted-at column s end k m h) e
+
+-- the block of a word under two columns, place by place: where no word is begun, where the first words are, and where those of a run are
+module _ (w : Word) where
+  none-begun : (from to : List ℕ) → ((k : ℕ) → k < length from → beginsProperly w (wordAt from k) ≡ false) → block (table from to) w ≡ []
+  unfolding block
+  none-begun [] to h = refl
+  none-begun (f ∷ from) [] h = refl
+  none-begun (f ∷ from) (t ∷ to) h =
+      block-passed (pairOf f t) (table from to) w (h 0 (omega arith)) ∙ none-begun from to (λ k l. h (suc k) (omega arith))
+
+  first-begun : (n : ℕ) (from to : List ℕ) → length from ≡ length to → Extending from w 0 n → block (table from to) w ≡ rows n from to
+  first-begun zero from to e x = none-begun from to (λ k l. x .back k (omega arith) l)
+  first-begun (suc n) [] to e x = absurd (omega (arith, x .within))
+  first-begun (suc n) (f ∷ from) [] e x = absurd (omega arith)
+  first-begun (suc n) (f ∷ from) (t ∷ to) e x =
+      block-taken (pairOf f t) (table from to) w (x .inside 0 (omega arith) (omega arith))
+      ∙ ap (λ u. pairOf f t ∷ u) (first-begun n from to (omega arith) rest)
+    where
+      rest : Extending from w 0 n
+      rest =
+          record {
+            forward = omega arith;
+            within = omega (arith, x .within);
+            front = λ k l. absurd (omega arith);
+            inside = λ k l h. x .inside (suc k) (omega arith) (omega arith);
+            back = λ k l h. x .back (suc k) (omega arith) (omega arith);
+          }
+
+  run-begun : (start n : ℕ) (from to : List ℕ) → length from ≡ length to → Extending from w start (start + n)
+      → block (table from to) w ≡ rowsAt start n from to
+  run-begun zero n from to e x = first-begun n from to e (subst (Extending from w 0) (zero-add n) x)
+  run-begun (suc s) n [] to e x = absurd (omega (arith, x .within))
+  run-begun (suc s) n (f ∷ from) [] e x = absurd (omega arith)
+  run-begun (suc s) n (f ∷ from) (t ∷ to) e x =
+      block-passed (pairOf f t) (table from to) w (x .front 0 (omega arith)) ∙ run-begun s n from to (omega arith) rest
+    where
+      rest : Extending from w s (s + n)
+      rest =
+          record {
+            forward = omega arith;
+            within = omega (arith, x .within);
+            front = λ k l. x .front (suc k) (omega arith);
+            inside = λ k l h. x .inside (suc k) (omega arith) (omega arith);
+            back = λ k l h. x .back (suc k) (omega arith) (omega arith);
+          }
+
+  pub block-run : (from to : List ℕ) (start end : ℕ) → length from ≡ length to → Extending from w start end
+      → block (table from to) w ≡ rowsAt start (end - start) from to
+  block-run from to start end e x =
+      let whole : end ≡ start + (end - start) = omega (arith, x .forward) in
+      run-begun start (end - start) from to e (subst (Extending from w start) whole x)
