@@ -10,17 +10,17 @@ use Rattle.tables.proofs.list.pair_line.Statement.{statement}
 use Rattle.tables.proofs.list.pair_line.Tie as tie
 
 put-word-requires : tie.Need-put-word-requires
-put-word-requires c κs = let a = c .before .before .before .before .before .before .args in omega (arith, pair-size (pairOf (a .from) (a .to)))
+put-word-requires c κs = let a = c .before .before .before .before .before .before .args in omega (arith, pair-size (a .letter) (pairOf (a .from) (a .to)))
 
 put-word-requires-2 : tie.Need-put-word-requires-2
 put-word-requires-2 c κs =
     let a = c .before .before .before .before .before .before .before .before .before .before .args in
-    omega (arith, pair-size (pairOf (a .from) (a .to)), word-size (unpack (a .from)))
+    omega (arith, pair-size (a .letter) (pairOf (a .from) (a .to)), word-size (unpack (a .from)))
 
 put-requires-2 : tie.Need-put-requires-2
 put-requires-2 c κs =
     let a = c .before .before .before .before .before .before .before .before .before .before .before .before .before .before .args in
-    omega (arith, pair-size (pairOf (a .from) (a .to)), word-size (unpack (a .from)), word-size (unpack (a .to)))
+    omega (arith, pair-size (a .letter) (pairOf (a .from) (a .to)), word-size (unpack (a .from)), word-size (unpack (a .to)))
 
 returns : tie.Need-returns
 returns c =
@@ -29,7 +29,7 @@ returns c =
     let from = to .before .before .before .before in
     let letter = from .before .before .before .before in
     let a = letter .before .before .before .args in
-    let size = pair-size (pairOf (a .from) (a .to)) in
+    let size = pair-size (a .letter) (pairOf (a .from) (a .to)) in
     let left = word-size (unpack (a .from)) in
     wrote-then
     (omega arith)
