@@ -10,16 +10,18 @@ use mir.Val.{boolByte}
 use lib.Dec.{leb}
 use lib.ListN.{length}
 use Rattle.higman.specs.Words.{Word}
+use Rattle.higman.specs.Tables.{Table}
 use Rattle.higman.specs.Limits.{Plan}
 use Rattle.higman.specs.Text.{Bytes, wordBytes, wordOf}
 use Rattle.higman.specs.Answers as Of
 use Rattle.higman.specs.Answers.{same, routed}
-use Rattle.higman.specs.Refusals.{slotEmpty, slotOutside, codeTooShort, bufferTooShort}
+use Rattle.higman.specs.Fronts.{block}
+use Rattle.higman.specs.Refusals.{slotEmpty, slotOutside, bufferTooShort}
 use Rattle.higman.specs.Listing.{isSlot, slotNumber, listing}
 use Rattle.higman.specs.Buffers.{written, lentInto}
 use Rattle.desk.specs.Desk.{Desk, held}
 use Rattle.desk.specs.Records.{S, W, L}
-use Rattle.desk.specs.Replies.{_>>=_, Outcome, refuse, pass, Effect, planIn, ofComparison, ofRoute, bit, okNumber, okWord, lists, job}
+use Rattle.desk.specs.Replies.{_>>=_, Outcome, refuse, pass, Effect, planIn, ofComparison, ofRoute, bit, okNumber, okWord, okBlock, lists, job}
 use Rattle.operations.specs.declared.Likeness.the-variants as Like
 use Rattle.operations.specs.declared.Listed.the-variants as Told
 use Rattle.operations.specs.declared.Route.the-variants.{Image, TooShort, Refused}
@@ -27,9 +29,13 @@ use Rattle.operations.specs.Answers.{likeness}
 use Rattle.operations.specs.Routing.{routingIn, imageInto}
 use Rattle.operations.specs.Listing.{listingIn, listingFor, listedFor}
 
--- what W makes of a route
-abbrev pub replied : Desk → Of.Route → Outcome Effect
-replied d r = ofRoute r >>= λ v. pass (d, okWord v)
+-- what W makes of a route, and of the block that it gives where the code is too short
+abbrev pub replied : Desk → Table → Of.Route → Outcome Effect
+replied d inside r = ofRoute inside r >>= λ reply. pass (d, reply)
+
+-- of a code under a plan
+abbrev pub routeReply : Desk → Plan → Word → Outcome Effect
+routeReply d p w = replied d (block (p .rows) w) (routed p w)
 
 -- and S of a comparison
 abbrev pub compared : Desk → Of.Comparison → Outcome Effect
@@ -67,11 +73,11 @@ module _ (d : Desk) (a : ℕ) where
   -- W: 9, or what the route says
   pub route-empty : (code : Bytes) → held d (slotNumber a) ≡ none → job d (W a code) ≡ refuse slotEmpty none
   unfolding job _>>=_
-  route-empty code e = ap (λ o. o >>= λ p. replied d (routed p (wordOf code))) (plan-missing e)
+  route-empty code e = ap (λ o. o >>= λ p. routeReply d p (wordOf code)) (plan-missing e)
 
-  pub route-done : (code : Bytes) (p : Plan) → held d (slotNumber a) ≡ some p → job d (W a code) ≡ replied d (routed p (wordOf code))
+  pub route-done : (code : Bytes) (p : Plan) → held d (slotNumber a) ≡ some p → job d (W a code) ≡ routeReply d p (wordOf code)
   unfolding job _>>=_
-  route-done code p e = ap (λ o. o >>= λ q. replied d (routed q (wordOf code))) (plan-there p e)
+  route-done code p e = ap (λ o. o >>= λ q. routeReply d q (wordOf code)) (plan-there p e)
 
 module _ (d : Desk) (a b : ℕ) (p : Plan) (e : held d (slotNumber a) ≡ some p) where
   pub compare-second-empty : held d (slotNumber b) ≡ none → job d (S a b) ≡ refuse slotEmpty none
@@ -114,29 +120,34 @@ module _ (a : ℕ) (s : isSlot a ≡ true) (p : Plan) (out : List ℕ) (room : l
       ap (λ b. elim b [ true ↦ lentInto (listing a p) out | false ↦ out ]) s
       ∙ ap (λ b. elim b [ true ↦ written out 0 (listing a p) | false ↦ out ]) fits
 
--- A route that gave an image of so many bytes, and one that gave a refusal, with the buffer after each.
-pub record Sent (d : Desk) (r : Of.Route) (part : List ℕ) (n : ℕ) : Type 0 where
+-- A route that gave an image of so many bytes, one of a code that is too short, and one that gave a refusal, with the buffer after each.
+pub record Sent (d : Desk) (inside : Table) (r : Of.Route) (part : List ℕ) (n : ℕ) : Type 0 where
   pub image : Word
   pub is-image : r ≡ Of.Image image
   pub size : n ≡ length (wordBytes image)
-  pub reply : replied d r ≡ pass (d, okWord image)
+  pub reply : replied d inside r ≡ pass (d, okWord image)
   pub buffer : imageInto r part ≡ written part 0 (wordBytes image)
 
-pub record Stopped (d : Desk) (r : Of.Route) (part : List ℕ) (n : ℕ) : Type 0 where
-  pub reply : replied d r ≡ refuse n none
+pub record Short (d : Desk) (inside : Table) (r : Of.Route) (part : List ℕ) : Type 0 where
+  pub is-short : r ≡ Of.TooShort
+  pub reply : replied d inside r ≡ pass (d, okBlock inside)
+  pub buffer : imageInto r part ≡ part
+
+pub record Stopped (d : Desk) (inside : Table) (r : Of.Route) (part : List ℕ) (n : ℕ) : Type 0 where
+  pub reply : replied d inside r ≡ refuse n none
   pub buffer : imageInto r part ≡ part
 
 -- W's image has room
 abbrev pub HasRoom : Of.Route → List ℕ → Type 0
 HasRoom r part = (v : Word) → r ≡ Of.Image v → length (wordBytes v) ≤ length part
 
-module _ (d : Desk) (part : List ℕ) where
+module _ (d : Desk) (inside : Table) (part : List ℕ) where
   image-told : (v : Word) → HasRoom (Of.Image v) part → routingIn (Of.Image v) (length part) ≡ Image (length (wordBytes v))
   image-told v fits =
       let size = length (wordBytes v) in
       ap (λ b. elim b [ true ↦ Image size | false ↦ Refused bufferTooShort ]) (le-leb size (length part) (fits v refl))
 
-  pub route-sent : (r : Of.Route) → HasRoom r part → (n : ℕ) → routingIn r (length part) ≡ Image n → Sent d r part n
+  pub route-sent : (r : Of.Route) → HasRoom r part → (n : ℕ) → routingIn r (length part) ≡ Image n → Sent d inside r part n
   unfolding _>>=_
   route-sent (Of.Image v) fits n q =
       let size = length (wordBytes v) in
@@ -150,13 +161,13 @@ module _ (d : Desk) (part : List ℕ) where
   route-sent Of.TooShort fits n q = let z : _≡_ {A = ℕ} 0 1 = cc in absurd (omega arith)
   route-sent (Of.NotRouted x) fits n q = let z : _≡_ {A = ℕ} 0 1 = cc in absurd (omega arith)
 
-  pub route-short : (r : Of.Route) → HasRoom r part → routingIn r (length part) ≡ TooShort → Stopped d r part codeTooShort
+  pub route-short : (r : Of.Route) → HasRoom r part → routingIn r (length part) ≡ TooShort → Short d inside r part
   unfolding _>>=_
   route-short (Of.Image v) fits q = let z : _≡_ {A = ℕ} 0 1 = cc (image-told v fits) in absurd (omega arith)
-  route-short Of.TooShort fits q = record { reply = refl; buffer = refl }
+  route-short Of.TooShort fits q = record { is-short = refl; reply = refl; buffer = refl }
   route-short (Of.NotRouted x) fits q = let z : _≡_ {A = ℕ} 0 1 = cc in absurd (omega arith)
 
-  pub route-refused : (r : Of.Route) → HasRoom r part → (n : ℕ) → routingIn r (length part) ≡ Refused n → Stopped d r part n
+  pub route-refused : (r : Of.Route) → HasRoom r part → (n : ℕ) → routingIn r (length part) ≡ Refused n → Stopped d inside r part n
   unfolding _>>=_
   route-refused (Of.Image v) fits n q = let z : _≡_ {A = ℕ} 0 1 = cc (image-told v fits) in absurd (omega arith)
   route-refused Of.TooShort fits n q = let z : _≡_ {A = ℕ} 0 1 = cc in absurd (omega arith)

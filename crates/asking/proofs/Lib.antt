@@ -3,3 +3,4 @@ pub mod Answered
 pub mod Lent
 pub mod Jobs
 pub mod Surveyed
+pub mod Fronts

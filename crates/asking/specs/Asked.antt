@@ -1,18 +1,39 @@
 -- What the records that write their reply themselves, W, L and U, are asked of, and what U promises.
 use Prim.Native.Nat.{ℕ, _≤_}
+use mathlib.Core.Path.{_≡_}
 use mathlib.Core.List.{List}
 use lib.ListN.{length}
+use Rattle.higman.specs.Text.{Bytes, wordOf}
+use Rattle.higman.specs.Answers.{routed, TooShort}
+use Rattle.higman.specs.Fronts.{block}
+use Rattle.columns.specs.Packed.{table}
+use Rattle.tables.specs.Lines.{planOf}
+use Rattle.operations.specs.Plans.{LentPlan}
 use Rattle.desk.specs.Records.{Record}
+use Rattle.desk.specs.Replies.{okBlock}
+use Rattle.desk.specs.Bytes.{replyBytes}
 use Rattle.replies.specs.Sizes.{maxReply}
 use Rattle.slots.specs.declared.Head.{Head}
 use Rattle.slots.specs.declared.Work.{Work}
 use Rattle.slots.specs.Desks.{HoldsDesk}
-use Rattle.slots.specs.Works.{Done}
+use Rattle.slots.specs.Works.{deskOrder, Done}
 
 -- a desk in code, and an output that has room for every reply
 pub record Asked (h : Head) (columns out : List ℕ) : Type 0 where
   pub holds : HoldsDesk h columns
   pub room : maxReply ≤ length out
+
+-- the columns of a plan, a code that no from-word of it begins, and an output that has room for every reply
+pub record AskedOfFront (from to code out : List ℕ) : Type 0 where
+  pub arity : ℕ
+  pub roots : ℕ
+  pub lent : LentPlan arity roots from to
+  pub short : routed (planOf arity roots from to) (wordOf code) ≡ TooShort
+  pub space : maxReply ≤ length out
+
+-- what is then replied: the block of the code (change request E1)
+abbrev pub blockReply : List ℕ → List ℕ → List ℕ → Bytes
+blockReply from to code = replyBytes deskOrder (okBlock (block (table from to) (wordOf code)))
 
 -- a head of some desk in code, whatever its columns are
 abbrev pub AskedByHead : Head → List ℕ → Type 0

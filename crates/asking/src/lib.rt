@@ -3,7 +3,8 @@
 ghost use Rattle.desk.specs.Records.{S, W, L, T, U};
 ghost use Rattle.slots.specs.Desks.{HoldsDesk};
 ghost use Rattle.slots.specs.Works.{Done, DoneByHead, DoneSilently};
-ghost use Rattle.asking.specs.Asked.{Asked, AskedByHead, DoneByHeadInto};
+ghost use Rattle.words.specs.Writing.{Wrote};
+ghost use Rattle.asking.specs.Asked.{Asked, AskedOfFront, blockReply, AskedByHead, DoneByHeadInto};
 use operations::Likeness;
 use operations::Listed;
 use operations::MAX_PAIRS;
@@ -72,7 +73,20 @@ pub fn compare(head: Head, columns: &[u64], a: u8, b: u8) -> Work
     }
 }
 
-// W: 2, 8, 9, 4, 13. "`ok⇥` and the image": the image first, into its place, and then the line around it.
+// W of a code that no from-word begins (change request E1): "one line `B⇥from⇥to` for every pair whose from-word extends the code, in
+// from order, and closes with `ok⇥` and how many". Such a code has fewer digits than a plan word may have, so that its front is all of it.
+fn write_block(from: &[u64], to: &[u64], code: &[u8], out: &mut [u8]) -> usize
+    requires { ⌜ AskedOfFront (now from) (now to) (now code) (now out) ⌝ }
+    ensures { λ r. ⌜ Wrote (blockReply (now (from .entry)) (now (to .entry)) (now (code .entry))) (now (out .entry)) 0 (now (out .exit)) r ⌝ }
+{
+    let run = columns::extending(from, tables::routing::front(code));
+    let start = run.start;
+    let end = run.end;
+    let used = tables::list::pair_lines(b'B', &from[start..end], &to[start..end], out, 0);
+    replies::ok_number((end - start) as u32, out, used)
+}
+
+// W: 2, 8, 9, 4. "`ok⇥` and the image": the image first, into its place, and then the line around it. Where there is none, the block.
 pub fn route(head: Head, columns: &[u64], a: u8, code: &[u8], out: &mut [u8]) -> Work
     requires { ⌜ Asked head (now columns) (now out) ⌝ }
     ensures { λ r. ⌜ Done (W a (now (code .entry))) head (now (columns .entry)) (now (out .entry)) r (now (columns .entry)) (now (out .exit)) ⌝ }
@@ -99,7 +113,13 @@ pub fn route(head: Head, columns: &[u64], a: u8, code: &[u8], out: &mut [u8]) ->
                 reply: Reply::Written(used),
             }
         }
-        Route::TooShort => slots::refused(head, operations::numbers::CODE_TOO_SHORT),
+        Route::TooShort => {
+            let used = write_block(from, to, code, out);
+            Work {
+                head: head,
+                reply: Reply::Written(used),
+            }
+        }
         Route::Refused(number) => slots::refused(head, number),
     }
 }

@@ -4,6 +4,7 @@ use Rattle.higman.specs.Normal.{joined, normal, normalForm, keep, compose, inve
 use Rattle.higman.specs.Limits.{maxPairs, maxDigits, maxCode, maxPower, shapeInRange, granted, isCode, isPlanWord, slotCount}
 use Rattle.higman.specs.Text.{digitOf}
 use Rattle.higman.specs.Answers.{verdict, followed, inverted, raised, powered, same, routed}
+use Rattle.higman.specs.Fronts.{block}
 use Rattle.desk.specs.Limits.{maxChanges, maxLine, maxNumeral}
 use Rattle.desk.specs.Desk.{freshDesk, changed, withDraft, dropped}
 use Rattle.desk.specs.Records.{grammar, parse, needsOpen, slotsNamed, isChange}
@@ -15,7 +16,7 @@ use Rattle.desk.specs.Cases.{starSessions, otherSessions, surveySessions
 pub desk-cases : DeskCases
 unfolding starSessions otherSessions surveySessions session run replyBytes _>>=_ respondLine lineOperation operation job needsOpen
     slotsNamed isChange parse grammar freshDesk changed withDraft dropped slotCount maxChanges maxLine maxNumeral isPlanWord digitOf
-    maxPairs maxDigits maxCode maxPower shapeInRange granted isCode verdict followed inverted raised powered same routed keep compose
+    maxPairs maxDigits maxCode maxPower shapeInRange granted isCode verdict followed inverted raised powered same routed block keep compose
     inverse identity normalForm normal joined
 desk-cases =
     record {

@@ -1,19 +1,18 @@
 -- Each number under its condition and no other: on a desk an operation is refused with the first condition of the paper's table that
--- holds, and done where none holds. One law for each kind of step, applied step by step; for 11 of a power and 13 of a code, which the
--- answers decide in their own way, the theorems of higman say that the paper's words mean the same.
+-- holds, and done where none holds. One law for each kind of step, applied step by step; for 11 of a power, which the answer decides in
+-- its own way, the theorems of higman say that the paper's words mean the same.
 use Prim.Native.Nat.{ℕ}
 use native.Mathlib.Omega.{arith}
 use mathlib.Core.Logic.{_⊎_, inl, inr}
 use mathlib.Core.Path.{_≡_, refl, sym, _∙_, ap, subst}
 use mathlib.Core.Bool.{Bool, true, false, _&&_, _||_, not}
-use mathlib.Core.List.{List, [], _∷_, _++_, List·Memᴰ, List·Memᴰ·head, List·Memᴰ·tail, List·Memᴰ·cases-cons, List·Memᴰ·not-nil, Memᴰ·map}
-use mathlib.Core.List.{Memᴰ·of-map}
+use mathlib.Core.List.{List, [], _∷_, _++_, List·Memᴰ, List·Memᴰ·head, List·Memᴰ·tail, List·Memᴰ·cases-cons, List·Memᴰ·not-nil}
 use mathlib.Core.Option.{Option, none, some}
 use lib.Dec.{leb}
 use borrow.Author.Tests.{not-false, not-true}
 use lib.IntN.{ℤ, pos, negsuc, natAbs}
 use lib.ListN.{length}
-use Rattle.higman.specs.Words.{Shape, Word, count, after, given, beginsProperly}
+use Rattle.higman.specs.Words.{Shape, Word, count, given}
 use Rattle.higman.specs.Bases.{anyOf, overlap, gap}
 use Rattle.higman.specs.Tables.{Table, froms, tos, image, sameTable}
 use Rattle.higman.specs.Normal.{compose, repeated, power}
@@ -21,17 +20,17 @@ use Rattle.higman.specs.Limits.{Plan, Kept, shapeInRange, granted, isCode, maxP
 use Rattle.higman.specs.Answers.{Reason, Overlap, Gap, Verdict, Accepted, InFrom, InTo, verdict, Answer, Granted, Refused, ShapesDiffer}
 use Rattle.higman.specs.Answers.{LimitBroken, BadCode, Comparison, Alike, NotCompared, Route, Image, TooShort, NotRouted, sameShape}
 use Rattle.higman.specs.Answers.{raised, repeatable, followed, inverted, powered, same, routed}
+use Rattle.higman.specs.Fronts.{block}
 use Rattle.higman.specs.Refusals.{shapeOutside, pairsFull, powerOutside, countFull, slotOutside, wrongState, badWord, wordsOverlap}
-use Rattle.higman.specs.Refusals.{rootUncovered, slotEmpty, shapesDiffer, limitBroken, codeTooShort}
+use Rattle.higman.specs.Refusals.{rootUncovered, slotEmpty, shapesDiffer, limitBroken}
 use Rattle.higman.specs.Refusals.{Letter}
 use Rattle.higman.proofs.Tests.{T-of, clash, or-cases, or-true-left, or-true-right, count-bounds, count-mem}
-use Rattle.higman.proofs.Prefixes.{after-append, after-some}
 use Rattle.higman.proofs.Statements.{answers-exact}
 use Rattle.desk.specs.Desk.{Draft, Desk, held, IsDesk}
 use Rattle.desk.specs.Records.{Record, P, M, E, F, I, K, S, W, L, C, T as Tᴿ, U, needsOpen, slotsNamed, isChange}
 use Rattle.higman.specs.Listing.{slotNumber}
 use Rattle.higman.specs.Text.{wordOf}
-use Rattle.desk.specs.Replies.{Outcome, refuse, pass, _>>=_, isOpen, openAmiss, outside, atLimit, openPlan, planIn, ofVerdict}
+use Rattle.desk.specs.Replies.{Reply, okWord, okBlock, Outcome, refuse, pass, _>>=_, isOpen, openAmiss, outside, atLimit, openPlan, planIn, ofVerdict}
 use Rattle.desk.specs.Replies.{ofAnswer, ofComparison, ofRoute, job, operation, _when_}
 use Rattle.desk.specs.Conditions.{Condition, inColumn, isEmpty, ofPlan, ofOpen, ofBoth, conditions, firstOf, refusalOf, _if_}
 
@@ -216,60 +215,18 @@ same-then p q {f} h = go (sameShape (p .shape) (q .shape))
     go false = record { says = refl }
     go true = record { says = h _ .says }
 
-abbrev IsShort : Route → Type 0
-IsShort TooShort = Unit {0}
-IsShort (Image v) = ⊥
-IsShort (NotRouted r) = ⊥
-
--- W: the code, and then "the code is a proper beginning of a from-word"
-proper-tail : (u w : Word) → beginsProperly u w ≡ true → (i : ℕ) × (x : Word) × (w ≡ u ++ i ∷ x)
-proper-tail u w e = by-tail (after u w) refl e
+-- W: the code
+routed-then : {A : Type 0} (inside : Table) (p : Plan) (c : Word) {f : Reply → Outcome A} → ((reply : Reply) → Says (f reply) [])
+    → Says (ofRoute inside (routed p c) >>= f) ((badWord if not (isCode (p .shape) c)) ∷ [])
+unfolding _>>=_ routed
+routed-then inside p c {f} h = by-code (isCode (p .shape) c) (image (p .rows) c)
   where
-    by-tail : (o : Option Word) → after u w ≡ o → elim o [ none ↦ false | some x ↦ elim x [ [] ↦ false | i ∷ y ↦ true ] ] ≡ true
-        → (i : ℕ) × (x : Word) × (w ≡ u ++ i ∷ x)
-    by-tail none h k = absurd (clash k refl)
-    by-tail (some []) h k = absurd (clash k refl)
-    by-tail (some (i ∷ x)) h k = (i, x, after-some u w (i ∷ x) h)
-
-proper-of-tail : (u w : Word) (i : ℕ) (x : Word) → w ≡ u ++ i ∷ x → beginsProperly u w ≡ true
-proper-of-tail u w i x e = subst (λ v. beginsProperly u v ≡ true) (sym e) (rw (after-append u (i ∷ x), beginsProperly))
-
-abbrev routeBy : Bool → Option Word → Route
-routeBy a o = elim a [ true ↦ elim o [ some v ↦ Image v | none ↦ TooShort ] | false ↦ NotRouted BadCode ]
-
-module _ (p : Plan) (kept : Kept p) (c : Word) where
-  abbrev isFront : Bool
-  isFront = anyOf (beginsProperly c) (froms (p .rows))
-
-  short-of-front : isCode (p .shape) c ≡ true → isFront ≡ true → routed p c ≡ TooShort
-  short-of-front a s =
-      let (w, m, b) = any-found (beginsProperly c) (froms (p .rows)) s in
-      let (q, n, f) = Memᴰ·of-map (λ q. q .from) (p .rows) m in
-      let (i, x, t) = proper-tail c w b in
-      answers-exact .too-short p kept c (T-of a) .1 (q, i, x, n, f ∙ t)
-
-  front-of-short : isCode (p .shape) c ≡ true → routed p c ≡ TooShort → isFront ≡ true
-  front-of-short a r =
-      let (q, i, x, n, t) = answers-exact .too-short p kept c (T-of a) .0 r in
-      any-of (beginsProperly c) (froms (p .rows)) (q .from) (Memᴰ·map (λ q. q .from) n) (proper-of-tail c (q .from) i x t)
-
-  routed-then : {A : Type 0} {f : Word → Outcome A} → ((w : Word) → Says (f w) [])
-      → Says (ofRoute (routed p c) >>= f) ((badWord if not (isCode (p .shape) c)) ∷ (codeTooShort if isFront) ∷ [])
-  unfolding _>>=_ routed
-  routed-then {f = f} h = by-code (isCode (p .shape) c) (image (p .rows) c) refl refl
-    where
-      route-is : (a : Bool) (o : Option Word) → isCode (p .shape) c ≡ a → image (p .rows) c ≡ o → routed p c ≡ routeBy a o
-      route-is a o x y = ap (λ a. routeBy a (image (p .rows) c)) x ∙ ap (routeBy a) y
-
-      by-code : (a : Bool) (o : Option Word) → isCode (p .shape) c ≡ a → image (p .rows) c ≡ o
-          → Says (ofRoute (routeBy a o) >>= f) ((badWord if not a) ∷ (codeTooShort if isFront) ∷ [])
-      by-code false o x y = record { says = refl }
-      by-code true none x y = rw (front-of-short x (route-is true none x y)) (record { says = refl })
-      by-code true (some v) x y = by-front isFront refl
-        where
-          by-front : (b : Bool) → isFront ≡ b → Says (ofRoute (Image v) >>= f) ((badWord if false) ∷ (codeTooShort if b) ∷ [])
-          by-front true s = absurd (subst IsShort (sym (short-of-front x s) ∙ route-is true (some v) x y) tt)
-          by-front false s = record { says = h v .says }
+    by-code : (a : Bool) (o : Option Word)
+        → Says (ofRoute inside (elim a as (λ _. Route) [ true ↦ elim o [ some v ↦ Image v | none ↦ TooShort ] | false ↦ NotRouted BadCode ]) >>= f)
+        ((badWord if not a) ∷ [])
+    by-code false o = record { says = refl }
+    by-code true none = record { says = h (okBlock inside) .says }
+    by-code true (some v) = record { says = h (okWord v) .says }
 
 -- what is asked of the plans that two slots hold
 of-both : (d : Desk) (a b : ℕ) (p q : Plan) → held d (slotNumber a) ≡ some p → held d (slotNumber b) ≡ some q
@@ -327,7 +284,6 @@ ownConditions d (S a b) =
 ownConditions d (W a code) =
     (slotEmpty if isEmpty d a) ∷
     (badWord if ofPlan d a (λ p. not (isCode (p .shape) (wordOf code)))) ∷
-    (codeTooShort if ofPlan d a (λ p. anyOf (beginsProperly (wordOf code)) (froms (p .rows)))) ∷
     []
 ownConditions d (L a) = (slotEmpty if isEmpty d a) ∷ []
 ownConditions d (C a) = (slotEmpty if isEmpty d a) ∷ []
@@ -348,7 +304,7 @@ own-says d D (K a k c) o =
     (λ _ h. plan-then d a (λ p e. rw (e, ofPlan) (powered-then p (D .kept (slotNumber a) p e) k (not-false _ h) (λ r. done))))
 own-says d D (S a b) o = plans-then d a b (λ p q e f. same-says d a b p q e f (λ b. done))
 own-says d D (W a code) o =
-    plan-then d a (λ p e. rw (e, ofPlan) (routed-then p (D .kept (slotNumber a) p e) (wordOf code) (λ w. done)))
+    plan-then d a (λ p e. rw (e, ofPlan) (routed-then (block (p .rows) (wordOf code)) p (wordOf code) (λ reply. done)))
 own-says d D (L a) o = plan-then d a (λ p e. done)
 own-says d D (C a) o = plan-then d a (λ p e. done)
 own-says d D Tᴿ o = done

@@ -11,24 +11,27 @@ use lib.Dec.{T}
 use lib.IntN.{ℤ}
 use borrow.Author.Tests.{lt-leb}
 use Rattle.higman.specs.Words.{Word, isWord}
-use Rattle.higman.specs.Tables.{image, sameTable}
+use Rattle.higman.specs.Tables.{Table, image, sameTable}
 use Rattle.higman.specs.Normal.{andThen, power}
 use Rattle.higman.specs.Limits.{Plan, Bases, Kept, isCode, slotCount}
 use Rattle.higman.specs.Answers.{Accepted, verdict, Answer, Granted, Refused, followed, inverted, powered, Comparison, Alike, NotCompared}
 use Rattle.higman.specs.Answers.{same, sameShape, Route, Image, TooShort, NotRouted, BadCode, ShapesDiffer, routed}
 use Rattle.higman.specs.Theorems.{ActAlike}
+use Rattle.higman.specs.Fronts.{block, BlockOf, SendsInTurn}
 use Rattle.higman.proofs.Tests.{T-of}
 use Rattle.higman.proofs.KeptPlans.{arity-of-range}
 use Rattle.higman.proofs.Answers.{followed-cases, inverted-cases, shape-path}
 use Rattle.higman.proofs.Demand3.{demand3}
 use Rattle.higman.proofs.Statements.{normal-form, group-acts, answers-exact}
+use Rattle.higman.proofs.Fronts.{short-code, fronts-exact}
 use Rattle.higman.specs.Text.{Bytes, wordOf}
 use Rattle.desk.specs.Limits.{maxChanges}
 use Rattle.desk.specs.Desk.{Draft, Desk, countOf, held, IsDesk}
 use Rattle.desk.specs.Records.{E, F, I, K, S, W, writing, slotsNamed}
 use Rattle.higman.specs.Listing.{slotNumber}
-use Rattle.desk.specs.Replies.{pass, Effect, Reply, silent, ok, okNumber, okWord, lists, surveys, refuses, bit, ofAnswer}
+use Rattle.desk.specs.Replies.{pass, Effect, Reply, silent, ok, okNumber, okWord, okBlock, lists, surveys, refuses, bit, ofAnswer}
 use Rattle.desk.specs.Replies.{ofComparison, ofRoute, keepIn, closed, job, operation}
+use Rattle.desk.specs.Theorems.{BlockReplied}
 use Rattle.desk.specs.Demands.{KeptAsTyped, KeptIn, Demand2}
 use Rattle.desk.proofs.ReadBack.{typed-in, listing-read-back}
 use Rattle.desk.proofs.TypedLines.{accepted-from-lines}
@@ -47,10 +50,14 @@ comparison-made : (c : Comparison) → Passes (λ b. c ≡ Alike b) (ofCompariso
 comparison-made (Alike b) = passes refl
 comparison-made (NotCompared r) = stops
 
-route-made : (r : Route) → Passes (λ w. r ≡ Image w) (ofRoute r)
-route-made (Image w) = passes refl
-route-made TooShort = stops
-route-made (NotRouted r) = stops
+-- an image, or the block
+abbrev RouteMade : Table → Route → Reply → Type 0
+RouteMade inside r reply = ((v : Word) × (r ≡ Image v) × (reply ≡ okWord v)) ⊎ ((r ≡ TooShort) × (reply ≡ okBlock inside))
+
+route-made : (inside : Table) (r : Route) → Passes (RouteMade inside r) (ofRoute inside r)
+route-made inside (Image v) = passes (inl (v, refl, refl))
+route-made inside TooShort = passes (inr (refl, refl))
+route-made inside (NotRouted r) = stops
 
 -- E
 one-draft : (d : Desk) (o o′ : Draft) → d .draft ≡ some o → d .draft ≡ some o′ → o′ ≡ o
@@ -164,13 +171,15 @@ repeats d a c k e h o =
 
 -- W
 abbrev Routes : Desk → ℕ → Bytes → Effect → Type 0
-Routes d a code e = (p : Plan) × (v : Word) × (held d (slotNumber a) ≡ some p) × (routed p (wordOf code) ≡ Image v) × (e ≡ (d, okWord v))
+Routes d a code e =
+    (p : Plan) × (reply : Reply) × (held d (slotNumber a) ≡ some p)
+    × RouteMade (block (p .rows) (wordOf code)) (routed p (wordOf code)) reply × (e ≡ (d, reply))
 
 route-steps : (d : Desk) (a : ℕ) (code : Bytes) → Passes (Routes d a code) (operation d (W a code))
 unfolding job
 route-steps d a code =
-    passes-operation d (W a code) (λ _. passes-then (plan-held d a) (λ p x. passes-then (route-made (routed p (wordOf code)))
-    (λ v r. passes (p, v, x, r, refl))))
+    passes-operation d (W a code) (λ _. passes-then (plan-held d a) (λ p x. passes-then (route-made _ (routed p (wordOf code)))
+    (λ reply r. passes (p, reply, x, r, refl))))
 
 abbrev isImage : Route → Option Word
 isImage (Image v) = some v
@@ -190,10 +199,32 @@ image-of-route p c v e = go (isCode (p .shape) c) (image (p .rows) c) (ap isImag
     go true (some u) h = h
 
 routes : (d : Desk) (a : ℕ) (code : Bytes) (e : Effect) → operation d (W a code) ≡ pass e
-    → (p : Plan) × (v : Word) × (held d (slotNumber a) ≡ some p) × (image (p .rows) (wordOf code) ≡ some v) × (e ≡ (d, okWord v))
-routes d a code e o =
-    let (p, v, x, r, f) = passed (route-steps d a code) e o in
-    (p, v, x, image-of-route p (wordOf code) v r, f)
+    → (p : Plan) × (held d (slotNumber a) ≡ some p) × (((v : Word) × (image (p .rows) (wordOf code) ≡ some v) × (e ≡ (d, okWord v)))
+    ⊎ ((image (p .rows) (wordOf code) ≡ none) × (e ≡ (d, okBlock (block (p .rows) (wordOf code))))))
+routes d a code e o = let (p, reply, x, r, f) = passed (route-steps d a code) e o in (p, x, by-route p reply f r)
+  where
+    by-route : (p : Plan) (reply : Reply) → e ≡ (d, reply) → RouteMade (block (p .rows) (wordOf code)) (routed p (wordOf code)) reply
+        → ((v : Word) × (image (p .rows) (wordOf code) ≡ some v) × (e ≡ (d, okWord v)))
+        ⊎ ((image (p .rows) (wordOf code) ≡ none) × (e ≡ (d, okBlock (block (p .rows) (wordOf code)))))
+    by-route p reply f (inl (v, r, g)) = inl (v, image-of-route p (wordOf code) v r, f ∙ ap (λ x. (d, x)) g)
+    by-route p reply f (inr (r, g)) = inr (short-code p (wordOf code) r .1, f ∙ ap (λ x. (d, x)) g)
+
+block-replied : BlockReplied
+block-replied d D c code lines o =
+    let (p, reply, x, r, f) = passed (route-steps d c code) (d, okBlock lines) o in
+    let (short, same) = by-route p reply (ap (λ e. e .1) f) r in
+    let kept = D .kept (slotNumber c) p x in (
+      p,
+      x,
+      subst (BlockOf p (wordOf code)) (sym same) (fronts-exact .kept-plan p kept (wordOf code) short),
+      λ a b A B g. subst (SendsInTurn a b (wordOf code)) (sym same) (fronts-exact .composed a b p A B g (wordOf code) short),
+    )
+  where
+    by-route : (p : Plan) (reply : Reply) → okBlock lines ≡ reply
+        → RouteMade (block (p .rows) (wordOf code)) (routed p (wordOf code)) reply
+        → (routed p (wordOf code) ≡ TooShort) × (lines ≡ block (p .rows) (wordOf code))
+    by-route p reply f (inl (v, r, g)) = let z : _≡_ {A = ℕ} 0 1 = cc in absurd (omega arith)
+    by-route p reply f (inr (r, g)) = (r, cc)
 
 -- S
 abbrev Compares : Desk → ℕ → ℕ → Effect → Type 0
@@ -229,6 +260,7 @@ numberOf silent = 0
 numberOf ok = 0
 numberOf (okNumber n) = n
 numberOf (okWord w) = 0
+numberOf (okBlock t) = 0
 numberOf (lists b p) = 0
 numberOf (surveys hs) = 0
 numberOf (refuses n c) = 0
@@ -266,6 +298,7 @@ demand2 =
       inverts = inverts;
       repeats = repeats;
       routes = routes;
+      blocks = block-replied;
       compares = compares;
       replies = replies-exact;
       slots-used = slots-used;

@@ -2,19 +2,20 @@
 -- fields is a record with just these fields. From a record to its line: by computation, with the laws of the number forms.
 use Prim.Native.Nat.{ℕ, suc}
 use native.Mathlib.Omega.{arith}
-use mathlib.Core.Path.{_≡_, refl, sym, _∙_, ap, subst}
+use mathlib.Core.Path.{_≡_, refl, sym, _∙_, ap, ap₂, subst}
 use mathlib.Core.Logic.{_⊎_, inl, inr, _↔_}
 use mathlib.Core.Bool.{Bool, true, false}
-use mathlib.Core.List.{List, [], _∷_, map}
+use mathlib.Core.List.{List, [], _∷_, _++_, map, map-map}
 use mathlib.Core.Option.{Option, none, some, Option·none-ne-some, Option·some-injective}
 use lib.Dec.{T, eqb}
 use lib.IntN.{natAbs}
-use lib.ListN.{length}
+use lib.ListN.{length, length-map}
 use borrow.Author.Tests.{eqb-true, ne-eqb}
 use Rattle.higman.specs.Words.{spelled}
 use Rattle.higman.specs.Bases.{all}
+use Rattle.higman.specs.Tables.{Pair, Table}
 use Rattle.higman.specs.Text.{Bytes, bytes, tab, wordBytes, decimal}
-use Rattle.higman.specs.Listing.{slotByte}
+use Rattle.higman.specs.Listing.{slotByte, joinLines}
 use Rattle.higman.proofs.Tests.{passes, and-left, and-right, and-intro, all-cons}
 use Rattle.desk.specs.Limits.{maxNumeral}
 use Rattle.desk.specs.Records.{Record, P, M, E, F, I, K, S, W, L, C, T as Tᴿ, U, Form, slotField, anyField, numberField, field}
@@ -22,8 +23,8 @@ use Rattle.desk.specs.Records.{noMore, Rule}
 use Rattle.desk.specs.Records.{grammar, readBy, readFields, parse, fields, parted, recordFields, recordText, noTab, hasDigits}
 use Rattle.desk.specs.Records.{numbersFit, wellFormed}
 use Rattle.desk.specs.Grammar.{GrammarExact, NumbersFit, WellFormedExact, LineOf, RepliesWritten, TextExact}
-use Rattle.desk.specs.Replies.{Held}
-use Rattle.desk.specs.Bytes.{lineOf, heldFields, Order, replyBytes}
+use Rattle.desk.specs.Replies.{Held, okBlock}
+use Rattle.desk.specs.Bytes.{lineOf, okLine, partFields, heldFields, Order, replyBytes}
 use Rattle.desk.proofs.Fields.{no-tab-cons, word-no-tab, fields-of-parted, parted-of-fields, fields-no-tab}
 use Rattle.higman.proofs.Decimals.{decimals-exact}
 use Rattle.higman.proofs.Listing.{slots-exact}
@@ -204,6 +205,18 @@ module _ (order : Order) where
       let numbers = all-cons noTab n (r ∷ m ∷ []) (decimal-no-tab (h .plan .shape .arity)) roots in
       line-of slot (n ∷ r ∷ m ∷ []) (all-cons noTab slot (n ∷ r ∷ m ∷ []) plain numbers)
 
+  part-line : (p : Pair) → LineOf (lineOf (partFields p)) (partFields p)
+  part-line p =
+      let from = wordBytes (p .from) in
+      let to = wordBytes (p .to) in
+      line-of (bytes "B") (from ∷ to ∷ [])
+      (all-cons noTab from (to ∷ []) (word-no-tab (p .from)) (all-cons noTab to [] (word-no-tab (p .to)) tt))
+
+  block-lines : (t : Table)
+      → replyBytes order (okBlock t) ≡ joinLines (map (λ p. lineOf (partFields p)) t) ++ okLine (decimal (length t) ∷ [])
+  unfolding replyBytes
+  block-lines t = ap₂ (λ ls n. joinLines ls ++ okLine (decimal n ∷ [])) (map-map lineOf partFields t) (length-map t partFields)
+
   replies-written : RepliesWritten order
   unfolding replyBytes
   replies-written =
@@ -212,6 +225,8 @@ module _ (order : Order) where
         done = line-of (bytes "ok") [] tt;
         number = λ n. numbered-line (bytes "ok") n [] tt tt;
         word = λ w. line-of (bytes "ok") (wordBytes w ∷ []) (all-cons noTab (wordBytes w) [] (word-no-tab w) tt);
+        part = part-line;
+        block = block-lines;
         plan = λ b p. refl;
         refusal = λ n. numbered-line (bytes "no") n [] tt tt;
         from-refusal = λ n. numbered-line (bytes "no") n (bytes "F" ∷ []) tt tt;

@@ -11,14 +11,14 @@ use mathlib.Core.Option.{Option, none, some}
 use lib.Dec.{leb}
 use lib.IntN.{pos, natAbs}
 use lib.ListN.{length}
-use Rattle.higman.specs.Words.{count, given, beginsProperly}
+use Rattle.higman.specs.Words.{count, given}
 use Rattle.higman.specs.Bases.{all, anyOf, overlap, gap}
 use Rattle.higman.specs.Tables.{froms, tos}
 use Rattle.higman.specs.Normal.{compose, power}
 use Rattle.higman.specs.Limits.{Plan, shapeInRange, granted, isCode, maxPairs, maxPower, slotCount, isPlanWord, powerInRange}
 use Rattle.higman.specs.Answers.{sameShape}
 use Rattle.higman.specs.Refusals.{wrongState, shapeOutside, badWord, pairsFull, wordsOverlap, rootUncovered, slotOutside, slotEmpty}
-use Rattle.higman.specs.Refusals.{shapesDiffer, limitBroken, powerOutside, codeTooShort, countFull, Letter}
+use Rattle.higman.specs.Refusals.{shapesDiffer, limitBroken, powerOutside, countFull, Letter}
 use Rattle.higman.specs.Text.{byte, wordOf}
 use Rattle.desk.specs.Desk.{Draft, Desk, freshDesk, held}
 use Rattle.desk.specs.Records.{Record, P, M, E, F, I, K, S, W, L, C, T, U}
@@ -111,13 +111,12 @@ conditions d (S a b) =
     (slotEmpty if isEmpty d a || isEmpty d b) ∷
     (shapesDiffer if ofBoth d a b (λ p q. not (sameShape (p .shape) (q .shape)))) ∷
     []
--- "W: then 8; 9; 4; 13, the code is a proper beginning of a from-word."
+-- "W: then 8; 9; 4", and "W no longer gives 13" (change request E1)
 conditions d (W a code) =
     (wrongState if isOpen d) ∷
     (slotOutside if outsideOf (a ∷ [])) ∷
     (slotEmpty if isEmpty d a) ∷
     (badWord if ofPlan d a (λ p. not (isCode (p .shape) (wordOf code)))) ∷
-    (codeTooShort if ofPlan d a (λ p. anyOf (beginsProperly (wordOf code)) (froms (p .rows)))) ∷
     []
 -- "L: 8; 9."
 conditions d (L a) =

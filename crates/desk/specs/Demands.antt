@@ -15,25 +15,26 @@ use Rattle.higman.specs.Normal.{andThen, power}
 use Rattle.higman.specs.Limits.{Plan, Bases, Kept, slotCount}
 use Rattle.higman.specs.Text.{lineEnd, Bytes, wordOf}
 use Rattle.higman.specs.Theorems.{ActAlike, ResultsReduced, MinimalExpansion, Demand3}
+use Rattle.higman.specs.Fronts.{block}
 use Rattle.higman.specs.Automorphisms.{PlansAreAutomorphisms}
 use Rattle.higman.specs.Refusals.{noRecord, wrongState, shapeOutside, badWord, pairsFull, wordsOverlap, rootUncovered, slotOutside}
-use Rattle.higman.specs.Refusals.{slotEmpty, shapesDiffer, limitBroken, powerOutside, codeTooShort, bufferTooShort, invalidValue}
+use Rattle.higman.specs.Refusals.{slotEmpty, shapesDiffer, limitBroken, powerOutside, bufferTooShort, invalidValue}
 use Rattle.higman.specs.Refusals.{countFull, Letter}
 use Rattle.desk.specs.Limits.{maxChanges, maxLine}
 use Rattle.desk.specs.Desk.{Draft, Desk, freshDesk, countOf, held, IsDesk, changed, withDraft, withPair, dropped}
 use Rattle.desk.specs.Records.{Record, P, M, E, F, I, K, S, W, L, C, T as Tᴿ, U, SlotUse, reads, target, needsOpen, slotsNamed}
 use Rattle.desk.specs.Records.{isChange, recordText, wellFormed}
 use Rattle.higman.specs.Listing.{slotNumber}
-use Rattle.desk.specs.Replies.{refuse, pass, Effect, silent, ok, okNumber, okWord, lists, surveys, refuses, heldFrom, operation}
-use Rattle.desk.specs.Replies.{lineOperation, respondLine, newDraft, closed}
+use Rattle.desk.specs.Replies.{refuse, pass, Effect, silent, ok, okNumber, okWord, okBlock, lists, surveys, refuses, heldFrom}
+use Rattle.desk.specs.Replies.{operation, lineOperation, respondLine, newDraft, closed}
 use Rattle.desk.specs.Bytes.{Order, replyBytes}
 use Rattle.desk.specs.Conditions.{conditions, firstOf, refusalOf}
 use Rattle.desk.specs.Theorems.{RefusalDrops, DeskStays, DeskTest, SurveyExact, LinesExact, LinesFed, FedInPieces, SessionFed}
-use Rattle.desk.specs.Theorems.{TypedIn, AcceptedFromLines}
+use Rattle.desk.specs.Theorems.{TypedIn, AcceptedFromLines, BlockReplied}
 use Rattle.desk.specs.Theorems.{ListingReadBack, CallsExact}
 use Rattle.desk.specs.Grammar.{NoRecord, TextExact}
 
--- the numbers that the operation of a record may be refused with; 14 and 15 are of library calls
+-- the numbers that the operation of a record may be refused with; 13, 14 and 15 are of library calls
 unfoldable pub operationNumbers : List ℕ
 operationNumbers =
     wrongState ∷
@@ -47,7 +48,6 @@ operationNumbers =
     shapesDiffer ∷
     limitBroken ∷
     powerOutside ∷
-    codeTooShort ∷
     countFull ∷
     []
 
@@ -77,7 +77,7 @@ pub record Demand1 : Type 0 where
   pub refusal-drops : RefusalDrops
   pub desk-stays : DeskStays
   -- the paper's numbers
-  pub numbers : refusalNumbers ≡ 1 ∷ 2 ∷ 3 ∷ 4 ∷ 5 ∷ 6 ∷ 7 ∷ 8 ∷ 9 ∷ 10 ∷ 11 ∷ 12 ∷ 13 ∷ 16 ∷ []
+  pub numbers : refusalNumbers ≡ 1 ∷ 2 ∷ 3 ∷ 4 ∷ 5 ∷ 6 ∷ 7 ∷ 8 ∷ 9 ∷ 10 ∷ 11 ∷ 12 ∷ 16 ∷ []
   pub library-numbers : (bufferTooShort ≡ 14) × (invalidValue ≡ 15)
   -- 1 exactly where a line is no record, a record's line does what the record does, and every other number is given under its
   -- condition and no other: the first that holds
@@ -158,8 +158,11 @@ pub record Demand2 : Type 0 where
       × ((w v : Word) → T (isWord (p .shape) w) → image (p .rows) w ≡ some v → image (r .rows) v ≡ some w)
   pub repeats : (d : Desk) (a c : ℕ) (k : ℤ) (e : Effect) → IsDesk d → operation d (K a k c) ≡ pass e
       → (p : Plan) × (held d (slotNumber a) ≡ some p) × KeptIn d c e (record { shape = p .shape; rows = power (p .shape) (p .rows) k })
+  -- W: the image, and where there is none the block
   pub routes : (d : Desk) (a : ℕ) (code : Bytes) (e : Effect) → operation d (W a code) ≡ pass e
-      → (p : Plan) × (v : Word) × (held d (slotNumber a) ≡ some p) × (image (p .rows) (wordOf code) ≡ some v) × (e ≡ (d, okWord v))
+      → (p : Plan) × (held d (slotNumber a) ≡ some p) × (((v : Word) × (image (p .rows) (wordOf code) ≡ some v) × (e ≡ (d, okWord v)))
+      ⊎ ((image (p .rows) (wordOf code) ≡ none) × (e ≡ (d, okBlock (block (p .rows) (wordOf code))))))
+  pub blocks : BlockReplied
   pub compares : (d : Desk) (a b : ℕ) (e : Effect) → IsDesk d → operation d (S a b) ≡ pass e
       → (p : Plan) × (q : Plan) × (held d (slotNumber a) ≡ some p) × (held d (slotNumber b) ≡ some q)
       × ((e ≡ (d, okNumber 1)) ⊎ (e ≡ (d, okNumber 0))) × ((e ≡ (d, okNumber 1)) ↔ ActAlike p q)

@@ -3,7 +3,7 @@
 use Prim.Native.Nat.{ℕ, _^_, _<_}
 use mathlib.Core.Path.{_≡_}
 use mathlib.Core.Logic.{_↔_, _⊎_}
-use mathlib.Core.List.{List, [], _∷_, _++_}
+use mathlib.Core.List.{List, [], _∷_, _++_, map}
 use mathlib.Core.Option.{none, some}
 use lib.Dec.{T as So}
 use lib.IntN.{natAbs}
@@ -11,14 +11,15 @@ use lib.ListN.{length}
 use Rattle.higman.specs.Words.{Word}
 use Rattle.higman.specs.Text.{Bytes, bytes, lineEnd, wordBytes, decimal}
 use Rattle.higman.specs.Bases.{all}
+use Rattle.higman.specs.Tables.{Pair, Table}
 use Rattle.higman.specs.Limits.{Plan}
 use Rattle.higman.specs.Refusals.{Letter}
-use Rattle.higman.specs.Listing.{slotByte, listing}
+use Rattle.higman.specs.Listing.{slotByte, joinLines, listing}
 use Rattle.higman.specs.Theorems.{SlotsExact, DecimalsExact}
 use Rattle.desk.specs.Limits.{maxLine, maxNumeral}
 use Rattle.desk.specs.Records.{Record, P, M, E, F, I, K, S, W, L, C, T, U, fields, parse, recordFields, recordText, noTab, wellFormed}
-use Rattle.desk.specs.Replies.{Held, silent, ok, okNumber, okWord, lists, refuses}
-use Rattle.desk.specs.Bytes.{lineOf, heldFields, Order, replyBytes}
+use Rattle.desk.specs.Replies.{Held, silent, ok, okNumber, okWord, okBlock, lists, refuses}
+use Rattle.desk.specs.Bytes.{lineOf, okLine, partFields, heldFields, Order, replyBytes}
 
 -- "1, unknown letter, wrong number of fields, a field form": every other line is the text of the record that it is read as.
 abbrev pub GrammarExact : Type 0
@@ -61,6 +62,10 @@ pub record RepliesWritten (order : Order) : Type 0 where
   pub done : LineOf (replyBytes order ok) (bytes "ok" ∷ [])
   pub number : (n : ℕ) → LineOf (replyBytes order (okNumber n)) (bytes "ok" ∷ decimal n ∷ [])
   pub word : (w : Word) → LineOf (replyBytes order (okWord w)) (bytes "ok" ∷ wordBytes w ∷ [])
+  -- W: "one line `B⇥from⇥to` for every pair .. and closes with `ok⇥` and how many" (change request E1)
+  pub part : (p : Pair) → LineOf (lineOf (partFields p)) (bytes "B" ∷ wordBytes (p .from) ∷ wordBytes (p .to) ∷ [])
+  pub block : (t : Table)
+      → replyBytes order (okBlock t) ≡ joinLines (map (λ p. lineOf (partFields p)) t) ++ okLine (decimal (length t) ∷ [])
   pub plan : (b : ℕ) (p : Plan) → replyBytes order (lists b p) ≡ listing b p
   -- "A refusal is `no⇥` and its number; those of E for a column add ⇥F or ⇥T (from, to)."
   pub refusal : (n : ℕ) → LineOf (replyBytes order (refuses n none)) (bytes "no" ∷ decimal n ∷ [])

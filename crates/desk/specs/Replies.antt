@@ -17,7 +17,8 @@ use Rattle.higman.specs.Limits.{Plan, shapeInRange, granted, isCode, maxPairs, 
 use Rattle.higman.specs.Limits.{powerInRange}
 use Rattle.higman.specs.Answers.{Verdict, Accepted, InFrom, InTo, verdict, reasonNumber, Answer, Granted, Refused, refusalNumber}
 use Rattle.higman.specs.Answers.{followed, inverted, powered, Comparison, Alike, NotCompared, same, Route, Image, TooShort, NotRouted}
-use Rattle.higman.specs.Answers.{routeNumber, routed}
+use Rattle.higman.specs.Answers.{routed}
+use Rattle.higman.specs.Fronts.{block}
 use Rattle.higman.specs.Refusals.{noRecord, wrongState, shapeOutside, badWord, pairsFull, slotOutside, slotEmpty, powerOutside, countFull}
 use Rattle.higman.specs.Refusals.{Letter}
 use Rattle.higman.specs.Text.{Bytes, byte, bytes, digitOf, wordOf}
@@ -38,6 +39,8 @@ pub data Reply : Type 0 where
   ok : Reply
   okNumber : ℕ → Reply
   okWord : Word → Reply
+  -- a line `B⇥from⇥to` for each of these pairs, and `ok⇥` and how many (change request E1)
+  okBlock : Table → Reply
   -- the plan as P, M and E records that name the slot
   lists : ℕ → Plan → Reply
   -- a line for each of these, "in an order left open", and `ok⇥` and how many: U, the only reply that this file does not decide
@@ -98,13 +101,11 @@ abbrev pub ofComparison : Comparison → Outcome Bool
 ofComparison (Alike b) = pass b
 ofComparison (NotCompared r) = refuse (refusalNumber r) none
 
-abbrev pub imageOf : Route → Word
-imageOf (Image w) = w
-imageOf TooShort = []
-imageOf (NotRouted r) = []
-
-abbrev pub ofRoute : Route → Outcome Word
-ofRoute r = elim (routeNumber r) [ none ↦ pass (imageOf r) | some n ↦ refuse n none ]
+-- W: the image of a code or, where it is too short for one, its block. "W no longer gives 13" (change request E1).
+abbrev pub ofRoute : Table → Route → Outcome Reply
+ofRoute inside (Image v) = pass (okWord v)
+ofRoute inside TooShort = pass (okBlock inside)
+ofRoute inside (NotRouted r) = refuse (refusalNumber r) none
 
 -- `ok⇥1` or `ok⇥0`
 abbrev pub bit : Bool → ℕ
@@ -179,9 +180,9 @@ job d (S a b) = do
 job d (W a code) = do
   -- 9
   p ← planIn d a
-  -- 4 and 13
-  image ← ofRoute (routed p (wordOf code))
-  pass (d, okWord image)
+  -- 4
+  reply ← ofRoute (block (p .rows) (wordOf code)) (routed p (wordOf code))
+  pass (d, reply)
 job d (L a) = do
   -- 9
   p ← planIn d a
@@ -281,6 +282,12 @@ done-example : map (λ r. respond twoPlans r .1) (S (byte "A") (byte "A") ∷ S 
     ≡ okNumber 1 ∷ okNumber 0 ∷ lists (byte "B") (plan21 φ) ∷ ok ∷ surveys (record { slot = 0; plan = plan21 ψ } ∷ record { slot = 1; plan = plan21 φ } ∷ []) ∷ []
 unfolding _>>=_ respond operation job needsOpen slotsNamed isChange freshDesk changed slotCount same maxChanges
 done-example = refl
+
+-- W by ψ: an image, the blocks of 11 and of the belt, and a wrong digit
+front-example : map (λ code. respond twoPlans (W (byte "A") (bytes code)) .1) ("1122" ∷ "11" ∷ "1" ∷ "13" ∷ [])
+    ≡ okWord (spell 1212) ∷ okBlock (row 111 11 ∷ row 112 121 ∷ []) ∷ okBlock ψ ∷ refuses 4 none ∷ []
+unfolding _>>=_ respond operation job needsOpen slotsNamed isChange freshDesk changed slotCount routed block isCode maxCode digitOf
+front-example = refl
 
 emptied-example : respond twoPlans (C (byte "B")) .0 ≡ atCount (changed freshDesk 0 (some (plan21 ψ))) 3
 unfolding _>>=_ respond operation job needsOpen slotsNamed isChange freshDesk changed slotCount maxChanges

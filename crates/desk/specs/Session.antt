@@ -12,6 +12,7 @@ use Rattle.higman.specs.Bases.{all}
 use Rattle.higman.specs.Normal.{joined, normal, normalForm, keep, compose, inverse, identity}
 use Rattle.higman.specs.Limits.{isPlanWord, maxPairs, maxDigits, maxCode, maxPower, shapeInRange, granted, isCode, slotCount}
 use Rattle.higman.specs.Answers.{verdict, followed, inverted, raised, powered, routed}
+use Rattle.higman.specs.Fronts.{block}
 use Rattle.higman.specs.Text.{digitOf, lineEnd, Bytes, byte, bytes, lines}
 use Rattle.higman.specs.Refusals.{noRecord}
 use Rattle.higman.specs.Listing.{joinLines}
@@ -86,7 +87,7 @@ module _ (order : Order) where
   abbrev pub fedWhole : State → Bytes → Bytes
   fedWhole s input = let r = feed s input in r .1 ++ finish (r .0) .1
 
--- document 01, "A session in full"
+-- document 01, "A session in full", with the block that change request E1 gives for its `no⇥13`
 abbrev pub inputInFull : Bytes
 inputInFull =
     lines (
@@ -114,8 +115,10 @@ outputInFull =
     "M\t112\t1221" ∷
     "M\t12\t1222" ∷
     "E" ∷
-    "no\t13" ∷
-    "ok\t2" ∷
+    "B\t111\t11" ∷
+    "B\t112\t121" ∷
+    "ok\t2" ∷  -- lines
+    "ok\t2" ∷  -- changes
     [])
 
 linesFrom-example : linesFrom [] (bytes "T\n\nU") ≡ bytes "T" ∷ [] ∷ bytes "U" ∷ []
@@ -140,5 +143,5 @@ overlong-example order = refl
 session-in-full : (order : Order) → session order inputInFull ≡ outputInFull
 unfolding session run replyBytes _>>=_ respondLine lineOperation operation job needsOpen slotsNamed isChange parse grammar freshDesk
     changed withDraft dropped slotCount maxChanges maxLine maxNumeral isPlanWord digitOf maxPairs maxDigits maxCode maxPower shapeInRange
-    granted isCode verdict followed inverted raised powered routed keep compose inverse identity normalForm normal joined
+    granted isCode verdict followed inverted raised powered routed block keep compose inverse identity normalForm normal joined
 session-in-full order = refl

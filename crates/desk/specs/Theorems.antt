@@ -1,4 +1,4 @@
--- The statements, for every order of U's lines. Of one line: RefusalDrops, DeskStays, DeskTest and SurveyExact. Of a session:
+-- The statements, for every order of U's lines. Of one line: RefusalDrops, DeskStays, DeskTest, SurveyExact and BlockReplied. Of a session:
 -- LinesExact, LinesFed, FedInPieces (wherever its input is cut), SessionFed (what the state holds of a line is enough), TypedIn,
 -- AcceptedFromLines and ListingReadBack. Of a library call: CallsExact. proofs/ has one term of each. Read Conditions.antt next.
 use Prim.Native.Nat.{ℕ, suc, _≤_, _<_}
@@ -16,13 +16,15 @@ use Rattle.higman.specs.Tables.{Table}
 use Rattle.higman.specs.Normal.{keep}
 use Rattle.higman.specs.Limits.{Plan, Bases, Kept, shapeInRange, isPlanWord, maxPairs}
 use Rattle.higman.specs.Refusals.{bufferTooShort, invalidValue, Letter}
-use Rattle.higman.specs.Answers.{isTableOf}
+use Rattle.higman.specs.Answers.{isTableOf, followed, Granted}
+use Rattle.higman.specs.Fronts.{BlockOf, SendsInTurn}
 use Rattle.higman.specs.Listing.{slotNumber, isSlot, openRecord, pairRecords, joinLines}
 use Rattle.higman.specs.Buffers.{written}
 use Rattle.desk.specs.Limits.{maxChanges}
 use Rattle.desk.specs.Desk.{Desk, countOf, held, IsDesk, isDesk, freshDesk, changed, withDraft, dropped}
-use Rattle.desk.specs.Records.{Record, P, M, E, recordText, wellFormed}
-use Rattle.desk.specs.Replies.{refuse, pass, Effect, lists, surveys, Held, heldFrom, okNumber, refuses, respondLine, run, deskAfter}
+use Rattle.desk.specs.Records.{Record, P, M, E, W, recordText, wellFormed}
+use Rattle.desk.specs.Replies.{refuse, pass, Effect, lists, surveys, Held, heldFrom, okNumber, okBlock, refuses, operation}
+use Rattle.desk.specs.Replies.{respondLine, run, deskAfter}
 use Rattle.desk.specs.Bytes.{lineOf, okLine, heldFields, Order, replyBytes}
 use Rattle.desk.specs.Session.{linesFrom, unended, State, idle, feed, finish, fedWhole, session}
 use Rattle.desk.specs.Buffers.{Work, lentCall, plainCall}
@@ -57,6 +59,14 @@ pub record SurveyExact : Type 0 where
       → (held d i ≡ some p) ↔ List·Memᴰ (record { slot = i; plan = p }) (heldFrom 0 (d .slots))
   pub once : (d : Desk) → Ascending 0 (heldFrom 0 (d .slots))
   pub replied : (order : Order) (hs : List Held) → SurveyReply order hs
+
+-- Change request E1: where W gives a block, its lines are those of the plan in the slot, and where the plan is a kept *a then b*, they say
+-- of every longer code what a and then b do to it.
+abbrev pub BlockReplied : Type 0
+BlockReplied =
+    (d : Desk) → IsDesk d → (c : ℕ) (code : Bytes) (lines : Table) → operation d (W c code) ≡ pass (d, okBlock lines)
+    → (r : Plan) × (held d (slotNumber c) ≡ some r) × BlockOf r (wordOf code) lines
+    × ((a b : Plan) → Kept a → Kept b → followed a b ≡ Granted r → SendsInTurn a b (wordOf code) lines)
 
 -- two pieces, one after the other
 abbrev pub feedBoth : Order → State → Bytes → Bytes → State × Bytes

@@ -13,8 +13,8 @@ use Rattle.higman.specs.Refusals.{noRecord, invalidValue, Letter, letterByte}
 use Rattle.desk.specs.Limits.{maxChanges, maxLine}
 use Rattle.desk.specs.Desk.{Desk as DeskOf, isDesk, freshDesk, dropped}
 use Rattle.desk.specs.Records.{Record, P, E, F, I, K, S, C, T, parse, grammar, needsOpen, slotsNamed, isChange}
-use Rattle.desk.specs.Replies.{Reply, silent, ok, okNumber, okWord, lists, surveys, refuses, Outcome, refuse, pass, _>>=_}
-use Rattle.desk.specs.Replies.{operation, lineOperation}
+use Rattle.desk.specs.Replies.{Reply, silent, ok, okNumber, okWord, okBlock, lists, surveys, refuses, Outcome, refuse, pass}
+use Rattle.desk.specs.Replies.{_>>=_, operation, lineOperation}
 use Rattle.desk.specs.Replies.{job as jobOf}
 use Rattle.desk.specs.Bytes.{replyBytes}
 use Rattle.desk.specs.Buffers.{Work, Lent, lent, lentCall, plainCall}
@@ -52,6 +52,7 @@ replyNumber silent = 0
 replyNumber ok = 0
 replyNumber (okNumber n) = n
 replyNumber (okWord w) = 0
+replyNumber (okBlock t) = 0
 replyNumber (lists b p) = 0
 replyNumber (surveys hs) = 0
 replyNumber (refuses n c) = 0

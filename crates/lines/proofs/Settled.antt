@@ -11,7 +11,8 @@ use Rattle.higman.specs.Refusals.{Letter, letterByte}
 use Rattle.higman.specs.Buffers.{written}
 use Rattle.words.specs.Writing.{Wrote}
 use Rattle.desk.specs.Desk.{Desk, IsDesk, dropped}
-use Rattle.desk.specs.Replies.{Reply, silent, ok, okNumber, okWord, lists, surveys, refuses, Outcome, refuse, pass, Effect, settle, lineOperation, respondLine}
+use Rattle.desk.specs.Replies.{Reply, silent, ok, okNumber, okWord, okBlock, lists, surveys, refuses, Outcome, refuse, pass, Effect, settle}
+use Rattle.desk.specs.Replies.{lineOperation, respondLine}
 use Rattle.desk.specs.Bytes.{okLine, noLine, replyBytes}
 use Rattle.desk.proofs.Outcomes.{Passes, stops, passes, NoRefusal, Answered as Replied, line-answers}
 use Rattle.desk.proofs.Stays.{dropped-desk}
@@ -57,6 +58,7 @@ told-silent silent e = refl
 told-silent ok e = let z : _≡_ {A = ℕ} 0 1 = cc in absurd (omega arith)
 told-silent (okNumber k) e = let z : _≡_ {A = ℕ} 0 1 = cc in absurd (omega arith)
 told-silent (okWord v) e = let z : _≡_ {A = ℕ} 0 1 = cc in absurd (omega arith)
+told-silent (okBlock t) e = let z : _≡_ {A = ℕ} 0 1 = cc in absurd (omega arith)
 told-silent (lists b p) e = let z : _≡_ {A = ℕ} 0 1 = cc in absurd (omega arith)
 told-silent (surveys hs) e = let z : _≡_ {A = ℕ} 0 1 = cc in absurd (omega arith)
 told-silent (refuses k none) e = let z : _≡_ {A = ℕ} 0 1 = cc in absurd (omega arith)
@@ -67,6 +69,7 @@ told-ok silent e = let z : _≡_ {A = ℕ} 0 1 = cc in absurd (omega arith)
 told-ok ok e = refl
 told-ok (okNumber k) e = let z : _≡_ {A = ℕ} 0 1 = cc in absurd (omega arith)
 told-ok (okWord v) e = let z : _≡_ {A = ℕ} 0 1 = cc in absurd (omega arith)
+told-ok (okBlock t) e = let z : _≡_ {A = ℕ} 0 1 = cc in absurd (omega arith)
 told-ok (lists b p) e = let z : _≡_ {A = ℕ} 0 1 = cc in absurd (omega arith)
 told-ok (surveys hs) e = let z : _≡_ {A = ℕ} 0 1 = cc in absurd (omega arith)
 told-ok (refuses k none) e = let z : _≡_ {A = ℕ} 0 1 = cc in absurd (omega arith)
@@ -77,6 +80,7 @@ told-number silent n e = let z : _≡_ {A = ℕ} 0 1 = cc in absurd (omega arith
 told-number ok n e = let z : _≡_ {A = ℕ} 0 1 = cc in absurd (omega arith)
 told-number (okNumber k) n e = cc
 told-number (okWord v) n e = let z : _≡_ {A = ℕ} 0 1 = cc in absurd (omega arith)
+told-number (okBlock t) n e = let z : _≡_ {A = ℕ} 0 1 = cc in absurd (omega arith)
 told-number (lists b p) n e = let z : _≡_ {A = ℕ} 0 1 = cc in absurd (omega arith)
 told-number (surveys hs) n e = let z : _≡_ {A = ℕ} 0 1 = cc in absurd (omega arith)
 told-number (refuses k none) n e = let z : _≡_ {A = ℕ} 0 1 = cc in absurd (omega arith)
@@ -87,6 +91,7 @@ told-refused silent n e = let z : _≡_ {A = ℕ} 0 1 = cc in absurd (omega arit
 told-refused ok n e = let z : _≡_ {A = ℕ} 0 1 = cc in absurd (omega arith)
 told-refused (okNumber k) n e = let z : _≡_ {A = ℕ} 0 1 = cc in absurd (omega arith)
 told-refused (okWord v) n e = let z : _≡_ {A = ℕ} 0 1 = cc in absurd (omega arith)
+told-refused (okBlock t) n e = let z : _≡_ {A = ℕ} 0 1 = cc in absurd (omega arith)
 told-refused (lists b p) n e = let z : _≡_ {A = ℕ} 0 1 = cc in absurd (omega arith)
 told-refused (surveys hs) n e = let z : _≡_ {A = ℕ} 0 1 = cc in absurd (omega arith)
 told-refused (refuses k none) n e = cc
@@ -97,6 +102,7 @@ told-column silent n l e = let z : _≡_ {A = ℕ} 0 1 = cc in absurd (omega ari
 told-column ok n l e = let z : _≡_ {A = ℕ} 0 1 = cc in absurd (omega arith)
 told-column (okNumber k) n l e = let z : _≡_ {A = ℕ} 0 1 = cc in absurd (omega arith)
 told-column (okWord v) n l e = let z : _≡_ {A = ℕ} 0 1 = cc in absurd (omega arith)
+told-column (okBlock t) n l e = let z : _≡_ {A = ℕ} 0 1 = cc in absurd (omega arith)
 told-column (lists b p) n l e = let z : _≡_ {A = ℕ} 0 1 = cc in absurd (omega arith)
 told-column (surveys hs) n l e = let z : _≡_ {A = ℕ} 0 1 = cc in absurd (omega arith)
 told-column (refuses k none) n l e = let z : _≡_ {A = ℕ} 0 1 = cc in absurd (omega arith)
@@ -113,6 +119,7 @@ told-written silent n e = let z : _≡_ {A = ℕ} 0 1 = cc in absurd (omega arit
 told-written ok n e = let z : _≡_ {A = ℕ} 0 1 = cc in absurd (omega arith)
 told-written (okNumber k) n e = let z : _≡_ {A = ℕ} 0 1 = cc in absurd (omega arith)
 told-written (okWord v) n e = record { size = cc; whole = refl; no-refusal = tt }
+told-written (okBlock t) n e = record { size = cc; whole = refl; no-refusal = tt }
 told-written (lists b p) n e = record { size = cc; whole = refl; no-refusal = tt }
 told-written (surveys hs) n e = record { size = cc; whole = refl; no-refusal = tt }
 told-written (refuses k none) n e = let z : _≡_ {A = ℕ} 0 1 = cc in absurd (omega arith)

@@ -13,6 +13,7 @@ use Rattle.higman.specs.Text.{Bytes, wordBytes, wordOf, lineEnd}
 use Rattle.higman.specs.Limits.{Plan, Kept, maxPairs}
 use Rattle.higman.specs.Refusals.{Letter}
 use Rattle.higman.specs.Answers.{Route, Image, TooShort, NotRouted, routed}
+use Rattle.higman.specs.Fronts.{block}
 use Rattle.higman.specs.Listing.{slotNumber}
 use Rattle.higman.proofs.Tests.{all-at}
 use Rattle.desk.specs.Limits.{maxChanges}
@@ -27,12 +28,12 @@ use Rattle.desk.proofs.OpenPlans.{close-steps}
 use Rattle.desk.proofs.Demand1.{demand1}
 use Rattle.desk.proofs.Demand2.{demand2}
 use Rattle.replies.specs.Sizes.{maxReply, RepliesFit}
-use Rattle.replies.proofs.Sizes.{rooms, few-pairs, listing-fits, image-fits, ok-number-size, no-size, survey-size}
+use Rattle.replies.proofs.Sizes.{rooms, few-pairs, listing-fits, image-fits, block-fits, ok-number-size, no-size, survey-size}
 
--- 1 to 13, and 16
+-- 1 to 12, and 16
 number-small : (n : ℕ) → List·Memᴰ n refusalNumbers → n < 10 ^ 3
 number-small n m =
-    let within = all-at (λ k. leb k 16) (1 ∷ 2 ∷ 3 ∷ 4 ∷ 5 ∷ 6 ∷ 7 ∷ 8 ∷ 9 ∷ 10 ∷ 11 ∷ 12 ∷ 13 ∷ 16 ∷ []) tt n
+    let within = all-at (λ k. leb k 16) (1 ∷ 2 ∷ 3 ∷ 4 ∷ 5 ∷ 6 ∷ 7 ∷ 8 ∷ 9 ∷ 10 ∷ 11 ∷ 12 ∷ 16 ∷ []) tt n
     (subst (λ l. List·Memᴰ n l) (demand1 .numbers) m) in
     omega (arith, leb→le n 16 within)
 
@@ -60,20 +61,22 @@ module _ (order : Order) where
   unfolding replyBytes
   refusal-fits n c m = omega (arith, rooms .no-column, no-size n c (number-small n m))
 
-  word-fits : (p : Plan) (code : Word) → Kept p → (r : Route) → routed p code ≡ r
-      → Passes (λ v. length (replyBytes order (okWord v)) ≤ maxReply) (ofRoute r)
+  word-fits : (p : Plan) (code v : Word) → Kept p → routed p code ≡ Image v → length (replyBytes order (okWord v)) ≤ maxReply
   unfolding replyBytes
-  word-fits p code k (Image v) e =
-      passes {a = v} (omega (arith, image-fits p code v k e, length-append (wordBytes v) (lineEnd ∷ [])))
-  word-fits p code k TooShort e = stops
-  word-fits p code k (NotRouted r) e = stops
+  word-fits p code v k e = omega (arith, image-fits p code v k e, length-append (wordBytes v) (lineEnd ∷ []))
+
+  routed-fits : (p : Plan) (code : Word) → Kept p → (r : Route) → routed p code ≡ r
+      → Passes (λ reply. length (replyBytes order reply) ≤ maxReply) (ofRoute (block (p .rows) code) r)
+  routed-fits p code k (Image v) e = passes (word-fits p code v k e)
+  routed-fits p code k TooShort e = passes (block-fits order p code k)
+  routed-fits p code k (NotRouted r) e = stops
 
   module _ (d : Desk) (D : IsDesk d) where
     route-fits : (a : ℕ) (code : Bytes) → Passes Fits (operation d (W a code))
     unfolding job
     route-fits a code =
         passes-operation d (W a code) (λ _. passes-then (plan-held d a) (λ p x. passes-then
-        (word-fits p (wordOf code) (D .kept (slotNumber a) p x) (routed p (wordOf code)) refl) (λ v h. passes h)))
+        (routed-fits p (wordOf code) (D .kept (slotNumber a) p x) (routed p (wordOf code)) refl) (λ reply h. passes {a = (d, reply)} h)))
 
     record-fits : (r : Record) (e : Effect) → operation d r ≡ pass e → Fits e
     unfolding replyBytes maxChanges
@@ -116,4 +119,4 @@ module _ (order : Order) where
             subst (λ x. length (replyBytes order x) ≤ maxReply) (sym (r .replied)) (refusal-fits (r .number) (r .column) (r .numbered))
 
 pub replies-fit : RepliesFit
-replies-fit = record { rooms = rooms; listing = listing-fits; image = image-fits; every-reply = reply-fits }
+replies-fit = record { rooms = rooms; listing = listing-fits; image = image-fits; block = block-fits; every-reply = reply-fits }

@@ -14,21 +14,23 @@ use Rattle.higman.specs.Words.{Shape, Word, isWord}
 use Rattle.higman.specs.Bases.{all}
 use Rattle.higman.specs.Tables.{Pair, image}
 use Rattle.higman.specs.Limits.{Plan, Kept, maxPairs, maxDigits, maxCode, slotCount, fits, pairFits, granted, isCode}
-use Rattle.higman.specs.Text.{Bytes, wordBytes, decimal, lineEnd}
+use Rattle.higman.specs.Text.{Bytes, byte, wordBytes, decimal, lineEnd}
 use Rattle.higman.specs.Answers.{Route, Image, TooShort, NotRouted, BadCode, routed}
+use Rattle.higman.specs.Fronts.{block}
 use Rattle.higman.specs.Refusals.{Letter}
-use Rattle.higman.specs.Listing.{pairRecord, pairRecords, joinLines, closeRecord, listing}
+use Rattle.higman.specs.Listing.{pairLine, pairRecord, pairRecords, joinLines, closeRecord, listing}
 use Rattle.higman.proofs.Tests.{and-left, and-right, all-at}
 use Rattle.higman.proofs.Images.{row-of-image}
 use Rattle.higman.proofs.KeptPlans.{in-range}
+use Rattle.higman.proofs.Fronts.{block-own, block-few}
 use Rattle.words.proofs.Runs.{word-size}
 use Rattle.desk.specs.Desk.{Desk, IsDesk}
-use Rattle.desk.specs.Replies.{Held, heldFrom, surveys}
+use Rattle.desk.specs.Replies.{Held, heldFrom, surveys, okBlock}
 use Rattle.desk.specs.Bytes.{lineOf, okLine, noLine, columnField, heldFields, Order, replyBytes}
 use Rattle.desk.proofs.Surveys.{survey-exact}
 use Rattle.replies.specs.Lines.{HeldFits}
 use Rattle.replies.specs.Sizes.{maxReply, Rooms}
-use Rattle.replies.proofs.Lines.{decimal-size}
+use Rattle.replies.proofs.Lines.{decimal-size, block-lines}
 
 -- lines one behind the other, each of at most k bytes
 lines-fit : {A : Type 0} (f : A → Bytes) (k : ℕ) (l : List A) → ((a : A) → List·Memᴰ a l → length (f a) ≤ k)
@@ -56,15 +58,36 @@ module _ (q : Pair) (h : T (pairFits q)) where
   to-fits : length (q .to) ≤ maxDigits
   to-fits = leb→le (length (q .to)) maxDigits (and-right (fits (q .from)) (fits (q .to)) h)
 
-  record-fits : length (pairRecord q) ≤ 36
+  line-fits : (letter : ℕ) → length (pairLine letter q) ≤ 36
   unfolding maxDigits
-  record-fits = simp (length-append, length-map) (omega (arith, from-fits, to-fits))
+  line-fits letter = simp (length-append, length-map) (omega (arith, from-fits, to-fits))
 
 pub listing-fits : (slot : ℕ) (p : Plan) → Kept p → length (listing slot p) ≤ maxReply
 unfolding maxReply maxPairs
 listing-fits slot p k =
-    let pairs = lines-fit pairRecord 36 (p .rows) (λ q m. record-fits q (words-fit p k q m)) in
+    let pairs = lines-fit pairRecord 36 (p .rows) (λ q m. line-fits q (words-fit p k q m) (byte "M")) in
     omega (arith, few-pairs p k, length-append (joinLines (pairRecords (p .rows))) closeRecord)
+
+-- the lines of a block are no more, and their number has at most three digits
+pub block-lines-fit : (p : Plan) (w : Word) → Kept p → length (joinLines (map (pairLine (byte "B")) (block (p .rows) w))) ≤ maxPairs * 36
+unfolding maxPairs
+block-lines-fit p w k =
+    let each = lines-fit (pairLine (byte "B")) 36 (block (p .rows) w)
+    (λ q m. line-fits q (words-fit p k q (block-own (p .rows) w q m .0)) (byte "B")) in
+    omega (arith, few-pairs p k, block-few (p .rows) w)
+
+pub block-count-fits : (p : Plan) (w : Word) → Kept p → length (okLine (decimal (length (block (p .rows) w)) ∷ [])) ≤ 7
+unfolding maxPairs
+block-count-fits p w k =
+    let n = length (block (p .rows) w) in
+    omega (arith, decimal-size 2 n (omega (arith, few-pairs p k, block-few (p .rows) w)), length-append (decimal n) (lineEnd ∷ []))
+
+pub block-fits : (order : Order) (p : Plan) (w : Word) → Kept p → length (replyBytes order (okBlock (block (p .rows) w))) ≤ maxReply
+unfolding maxReply maxPairs
+block-fits order p w k =
+    let t = block (p .rows) w in
+    let whole = ap length (block-lines order t) ∙ length-append (joinLines (map (pairLine (byte "B")) t)) (okLine (decimal (length t) ∷ [])) in
+    omega (arith, block-lines-fit p w k, block-count-fits p w k)
 
 -- a route that gives an image was asked of a code, and gives the plan's
 abbrev imageIn : Route → Option Word

@@ -37,9 +37,9 @@ pub fn ok(out: &mut [u8], at: usize) -> usize
     writing::put(b'\n', out, end_at)
 }
 
-// `ok⇥` and a number: the pairs kept, S's 1 or 0, the count, or how many slots are held.
+// `ok⇥` and a number: the pairs kept, S's 1 or 0, the count, or how many lines stand before it.
 pub fn ok_number(k: u32, out: &mut [u8], at: usize) -> usize
-    requires { ⌜ at + 14 ≤ length (now out) ⌝ }
+    requires { ⌜ at + length (okLine (decimal k ∷ [])) ≤ length (now out) ⌝ }
     ensures { λ r. ⌜ Wrote (okLine (decimal k ∷ [])) (now (out .entry)) at (now (out .exit)) r ⌝ }
 {
     let number_at = put_two(b'o', b'k', out, at);

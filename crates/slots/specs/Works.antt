@@ -1,5 +1,5 @@
 -- What a record does to a head and its columns, and its reply: `operation` of desk's Replies.antt, through the desk that they hold. The
--- reply is told by a value, and written later, but for an image, a listing and a survey, which are written where they are found.
+-- reply is told by a value, and written later, but for an image, a block, a listing and a survey, which are written where they are found.
 use Prim.Native.Nat.{ℕ, _<_}
 use mathlib.Core.Path.{_≡_, refl}
 use mathlib.Core.Bool.{true, false}
@@ -14,8 +14,8 @@ use Rattle.higman.specs.Refusals.{Letter, letterByte}
 use Rattle.higman.specs.Buffers.{written}
 use Rattle.desk.specs.Desk.{Desk}
 use Rattle.desk.specs.Records.{Record, slotsNamed, isChange}
-use Rattle.desk.specs.Replies.{Reply as ReplyOf, silent, ok, okNumber, okWord, lists, surveys, refuses, Outcome, refuse, pass, Effect, operation}
-use Rattle.desk.specs.Replies.{_>>=_, openAmiss, outside, job, ofAnswer, keepIn}
+use Rattle.desk.specs.Replies.{Reply as ReplyOf, silent, ok, okNumber, okWord, okBlock, lists, surveys, refuses, Outcome, refuse, pass, Effect}
+use Rattle.desk.specs.Replies.{operation, _>>=_, openAmiss, outside, job, ofAnswer, keepIn}
 use Rattle.desk.specs.Bytes.{Order, byLetter, replyBytes}
 use Rattle.operations.specs.declared.Making.{Making}
 use Rattle.operations.specs.Answers.{making}
@@ -35,6 +35,7 @@ direct silent = []
 direct ok = []
 direct (okNumber n) = []
 direct (okWord w) = replyBytes deskOrder (okWord w)
+direct (okBlock t) = replyBytes deskOrder (okBlock t)
 direct (lists slot p) = replyBytes deskOrder (lists slot p)
 direct (surveys hs) = replyBytes deskOrder (surveys hs)
 direct (refuses n c) = []
@@ -45,6 +46,7 @@ told silent = Silent
 told ok = Ok
 told (okNumber n) = Number n
 told (okWord w) = Written (length (direct (okWord w)))
+told (okBlock t) = Written (length (direct (okBlock t)))
 told (lists slot p) = Written (length (direct (lists slot p)))
 told (surveys hs) = Written (length (direct (surveys hs)))
 told (refuses n none) = Refused n

@@ -1,4 +1,5 @@
--- `asking::route` meets its contract: the image is written behind the place of `ok⇥`, and then the line around it.
+-- `asking::route` meets its contract: the image is written behind the place of `ok⇥`, and then the line around it; where there is no image,
+-- the output is as it was, and the block is written.
 use Prim.Native.Nat.{ℕ, _-_, _≤_}
 use mathlib.Core.Path.{_≡_, refl, sym, _∙_, ap, subst}
 use mathlib.Core.Bool.{false}
@@ -13,27 +14,33 @@ use lib.Seq.{length-take-le}
 use Rattle.higman.specs.Limits.{Plan}
 use Rattle.higman.specs.Answers.{Route, routed}
 use Rattle.higman.specs.Text.{wordBytes, wordOf}
-use Rattle.higman.specs.Refusals.{slotEmpty, codeTooShort}
+use Rattle.higman.specs.Refusals.{slotEmpty}
+use Rattle.higman.specs.Words.{Word}
+use Rattle.higman.specs.Tables.{Table}
+use Rattle.higman.specs.Fronts.{block}
 use Rattle.higman.specs.Buffers.{written}
 use Rattle.tables.specs.Lines.{planOf as planIn}
 use Rattle.desk.specs.Desk.{Desk}
 use Rattle.desk.specs.Records.{Record, W, needsOpen, slotsNamed, isChange, reading}
-use Rattle.desk.specs.Replies.{okWord, openAmiss, job}
+use Rattle.desk.specs.Replies.{okWord, okBlock, openAmiss, job}
 use Rattle.desk.specs.Bytes.{replyBytes}
 use Rattle.operations.specs.Routing.{routingIn, imageInto}
+use Rattle.words.specs.Writing.{Wrote}
 use Rattle.replies.specs.Lines.{imageAt}
+use Rattle.replies.specs.Sizes.{maxReply}
 use Rattle.replies.proofs.Sizes.{image-fits, rooms}
 use Rattle.replies.proofs.Images.{written-lent, image-line}
 use Rattle.slots.specs.declared.Reply.the-variants.{Written}
 use Rattle.slots.specs.declared.Work.{Work}
 use Rattle.slots.specs.Blocks.{sizeAt}
 use Rattle.slots.specs.Desks.{deskOf}
-use Rattle.slots.specs.Works.{refusing, Done}
+use Rattle.slots.specs.Works.{deskOrder, refusing, Done}
 use Rattle.slots.proofs.Windows.{written-length}
 use Rattle.slots.proofs.Steps.{amiss-closed, outside-first, outside-next, refused-open, refused-slot, refused-job}
+use Rattle.asking.specs.Asked.{blockReply}
 use Rattle.asking.proofs.Answered.{Asks, answered}
 use Rattle.asking.proofs.Lent.{lentPlan, Named, in-blocks, from-inside, to-inside, named-empty, named-held, named-kept, parts-plan, parts-lent}
-use Rattle.asking.proofs.Jobs.{replied, route-empty, route-done, HasRoom, Sent, Stopped, route-sent, route-short, route-refused}
+use Rattle.asking.proofs.Jobs.{replied, route-empty, route-done, HasRoom, Sent, Short, Stopped, route-sent, route-short, route-refused}
 use Rattle.asking.proofs.route.Statement.{statement}
 use Rattle.asking.proofs.route.Tie as tie
 
@@ -136,8 +143,14 @@ behind c = take (length (out c) - imageAt) (drop imageAt (out c))
 abbrev desk : tie.After-part2 → Desk
 desk c = let a = asked (numbered c) .args in deskOf (a .t1) (a .columns .now)
 
+abbrev code : tie.After-part2 → Word
+code c = wordOf (asked (numbered c) .args .code .now)
+
 abbrev answer : tie.After-part2 → Route
-answer c = routed (plan c) (wordOf (asked (numbered c) .args .code .now))
+answer c = routed (plan c) (code c)
+
+abbrev inside : tie.After-part2 → Table
+inside c = block (plan c .rows) (code c)
 
 wide : (c : tie.After-part2) → imageAt ≤ length (out c)
 wide c = omega (arith, asked (numbered c) .pre .room, rooms .ok)
@@ -179,7 +192,7 @@ left-route c =
     let code = wordOf (asked (numbered p) .args .code .now) in
     c .route .ensures .1 ∙ ap (λ q. imageInto (routed q code) (behind p)) (lent p)
 
-job-told : (c : tie.After-part2) → job (desk c) (typed (asked (numbered c))) ≡ replied (desk c) (answer c)
+job-told : (c : tie.After-part2) → job (desk c) (typed (asked (numbered c))) ≡ replied (desk c) (inside c) (answer c)
 job-told c =
     let n = numbered c in
     let s = asked n in
@@ -188,11 +201,11 @@ job-told c =
     (named-held (named n) (full c))
 
 -- an image
-sent : (c : tie.After-digits) → let p = lender (c .before .before .before .before) in Sent (desk p) (answer p) (behind p) (c .digits .given .0 .0)
+sent : (c : tie.After-digits) → let p = lender (c .before .before .before .before) in Sent (desk p) (inside p) (answer p) (behind p) (c .digits .given .0 .0)
 sent c =
     let r = c .before .before .before .before in
     let p = lender r in
-    route-sent (desk p) (behind p) (answer p) (room p) (c .digits .given .0 .0) (sym (told-route r) ∙ c .digits .given .1)
+    route-sent (desk p) (inside p) (behind p) (answer p) (room p) (c .digits .given .0 .0) (sym (told-route r) ∙ c .digits .given .1)
 
 placed : (c : tie.After-digits) → let r = c .before .before .before .before in
     let p = lender r in
@@ -225,29 +238,71 @@ returns-4 c =
     answered (a .t1) (a .columns .now) (s .pre .holds) (typed s) (out p) (asks n) (okWord (sent d .image)) (job-told p ∙ sent d .reply)
     (Written (o .ok-image .result)) (ap Written (line .place ∙ zero-add _)) _ (line .contents)
 
--- a refusal leaves the output as it was
+-- a route without an image leaves the output as it was
+abbrev routed-out : tie.After-route → List ℕ
+routed-out c = let p = lender c in putMid imageAt (length (out p) - imageAt) (out p) (back c)
+
+unmoved : (c : tie.After-route) → let p = lender c in imageInto (answer p) (behind p) ≡ behind p → routed-out c ≡ out p
+unmoved c e =
+    let p = lender c in
+    let rest = length (out p) - imageAt in
+    ap (putMid imageAt rest (out p)) (left-route c ∙ e) ∙ put-same imageAt rest (out p)
+
+-- a refusal
 unsent : (c : tie.After-route) (n : ℕ) → let p = lender c in
     let s = asked (numbered p) in
     let a = s .args in
-    Stopped (desk p) (answer p) (behind p) n → (w : Work) → w ≡ refusing (a .t1) n
-    → Done (typed s) (a .t1) (a .columns .now) (out p) w (a .columns .now) (putMid imageAt (length (out p) - imageAt) (out p) (back c))
+    Stopped (desk p) (inside p) (answer p) (behind p) n → (w : Work) → w ≡ refusing (a .t1) n
+    → Done (typed s) (a .t1) (a .columns .now) (out p) w (a .columns .now) (routed-out c)
 unsent c n stopped w e =
     let p = lender c in
     let s = asked (numbered p) in
     let a = s .args in
-    let rest = length (out p) - imageAt in
-    let same = ap (putMid imageAt rest (out p)) (left-route c ∙ stopped .buffer) ∙ put-same imageAt rest (out p) in
-    subst (λ x. Done (typed s) (a .t1) (a .columns .now) (out p) w (a .columns .now) x) (sym same)
+    subst (λ x. Done (typed s) (a .t1) (a .columns .now) (out p) w (a .columns .now) x) (sym (unmoved c (stopped .buffer)))
     (refused-job (a .t1) (a .columns .now) (s .pre .holds) (typed s) (out p) (asks (numbered p) .fits) (asks (numbered p) .named) n
     (job-told p ∙ stopped .reply) w e)
 
+-- a code that is too short
+abbrev unmatched : tie.After-enum-told → tie.After-route
+unmatched c = c .before .before .before .before
+
+short : (c : tie.After-enum-told) → let p = lender (unmatched c) in Short (desk p) (inside p) (answer p) (behind p)
+short c =
+    let r = unmatched c in
+    let p = lender r in
+    route-short (desk p) (inside p) (behind p) (answer p) (room p) (sym (told-route r) ∙ c .enum-told .given .1)
+
+write-block-requires : tie.Need-write-block-requires
+write-block-requires c κs =
+    let e = c .before in
+    let r = unmatched e in
+    let p = lender r in
+    let n = numbered p in
+    let z = sizeAt (asked n .args .t1) (n .slot-number .result) in
+    record {
+      arity = z .arity;
+      roots = z .roots;
+      lent = parts-lent (named n) (full p) (p .before .part .ensures) (p .part2 .ensures);
+      short = ap (λ q. routed q (code p)) (lent p) ∙ short e .is-short;
+      space = subst (λ x. maxReply ≤ length x) (sym (unmoved r (short e .buffer))) (asked n .pre .room);
+    }
+
 returns-5 : tie.Need-returns-5
 returns-5 c =
-    let e = c .before in
-    let r = e .before .before .before .before in
+    let w = c .before .before in
+    let e = w .before .before in
+    let r = unmatched e in
     let p = lender r in
-    let stopped = route-short (desk p) (behind p) (answer p) (room p) (sym (told-route r) ∙ e .enum-told .given .1) in
-    unsent r codeTooShort stopped (c .refused4 .result) (c .refused4 .ensures)
+    let n = numbered p in
+    let s = asked n in
+    let a = s .args in
+    let reply = w .write-block .result in
+    let left = w .write-block .last .1 .1 .1 .0 in
+    let whole = subst (λ x. Wrote (blockReply (p .before .part .result .now) (p .part2 .result .now) (a .code .now)) x 0 left reply)
+    (unmoved r (short e .buffer)) (w .write-block .ensures) in
+    let line = subst (λ t. Wrote (replyBytes deskOrder (okBlock t)) (out p) 0 left reply) (ap (λ q. block (q .rows) (code p)) (lent p)) whole in
+    answered (a .t1) (a .columns .now) (s .pre .holds) (typed s) (out p) (asks n) (okBlock (inside p)) (job-told p ∙ short e .reply)
+    (Written reply) (ap Written (line .place ∙ zero-add _)) _ (line .contents)
 
 returns-6 : tie.Need-returns-6
 returns-6 c =
@@ -255,8 +310,8 @@ returns-6 c =
     let r = k .before .before .before .before in
     let p = lender r in
     let n = k .number .given .0 .0 in
-    let stopped = route-refused (desk p) (behind p) (answer p) (room p) n (sym (told-route r) ∙ k .number .given .1) in
-    unsent r n stopped (c .refused5 .result) (c .refused5 .ensures)
+    let stopped = route-refused (desk p) (inside p) (behind p) (answer p) (room p) n (sym (told-route r) ∙ k .number .given .1) in
+    unsent r n stopped (c .refused4 .result) (c .refused4 .ensures)
 
 pub route-spec : {M : Type 1} → statement M
 route-spec =
@@ -284,7 +339,7 @@ route-spec =
     (λ c. search needs)
     ok-image-requires
     (λ c. search needs)
-    (λ c κs. search needs)
+    write-block-requires
     (λ c. search needs)
     (λ c κs. search needs)
     (λ c. search needs)

@@ -10,6 +10,7 @@ use Rattle.higman.specs.Limits.{slotCount}
 use Rattle.desk.specs.Records.{U, needsOpen, slotsNamed, isChange}
 use Rattle.desk.specs.Replies.{heldFrom, surveys, job}
 use Rattle.desk.specs.Bytes.{replyBytes}
+use Rattle.replies.proofs.Sizes.{ok-number-size}
 use Rattle.slots.specs.declared.Reply.the-variants.{Written}
 use Rattle.slots.specs.Desks.{slotsOf, deskOf}
 use Rattle.slots.specs.Works.{deskOrder}
@@ -61,7 +62,8 @@ loop-again c =
 ok-number-requires : tie.Need-ok-number-requires Inv-loop μ-loop
 ok-number-requires c κs =
     let l = c .before .before in
-    survey-room (l .loop .inv) (l .before .before .before .pre .1 .room)
+    let v = l .loop .inv in
+    omega (arith, survey-room v (l .before .before .before .pre .1 .room), ok-number-size (l .loop .held) (omega (arith, v .few, v .below)))
 
 same-length : tie.Need-same-length Inv-loop μ-loop
 same-length c =

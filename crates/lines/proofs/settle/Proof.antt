@@ -2,7 +2,7 @@
 use mathlib.Core.Path.{_≡_}
 use borrow.Author.Needs.{needs}
 use native.Mathlib.Omega.{arith}
-use Rattle.replies.proofs.Sizes.{rooms}
+use Rattle.replies.proofs.Sizes.{rooms, ok-number-size}
 use Rattle.lines.proofs.Settled.{settled-silent, settled-written, settled-ok, settled-number, settled-refused, settled-column}
 use Rattle.lines.proofs.settle.Statement.{statement}
 use Rattle.lines.proofs.settle.Tie as tie
@@ -14,7 +14,9 @@ ok-requires : tie.Need-ok-requires
 ok-requires c κs = omega (arith, rooms .ok, start (c .before .before .before) .pre)
 
 ok-number-requires : tie.Need-ok-number-requires
-ok-number-requires c κs = omega (arith, rooms .ok-number, start (c .before .before .before .before) .pre)
+ok-number-requires c κs =
+    let r = c .before .before in
+    omega (arith, rooms .ok-number, start (r .before .before) .pre, ok-number-size (r .reply2 .given .0 .0) (omega (arith, c .before .known-told2 .given)))
 
 no-requires : tie.Need-no-requires
 no-requires c κs = omega (arith, rooms .no, start (c .before .before .before .before) .pre)
