@@ -311,6 +311,7 @@ mod tests {
             all.add(&tally(&reference::session(&sessions::session(seed))));
         }
         assert_eq!(verdict(&all, FULL_RANGE), None);
+        assert!(all.count("B line") > 10_000, "{}", all.line());
         assert_eq!(all.count("no 13") + all.count("other"), 0);
     }
 
