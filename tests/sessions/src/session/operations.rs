@@ -84,7 +84,7 @@ impl Session {
         let Some(held) = self.slots[a].clone() else {
             return self.record(&[b"W", name(a), b"1"]);
         };
-        let word = self.from_word(&held);
+        let word = self.word_of(&held);
         for end in 1..=word.len() {
             self.record(&[b"W", name(a), &word[..end]]);
         }
@@ -96,7 +96,7 @@ impl Session {
 
     /// A from-word, often the longest. Those of a plan that came from another
     /// aren't known here, and any word does for them.
-    fn from_word(&mut self, held: &Held) -> Word {
+    fn word_of(&mut self, held: &Held) -> Word {
         let longest = held
             .rows
             .iter()
