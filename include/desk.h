@@ -12,9 +12,12 @@
  *     P  opens a plan for a slot, of n ways and r belts      F  keeps *a then b* (a first) in c
  *     M  adds a pair (from, to) to the open plan             I  keeps the inverse of a in c
  *     E  closes it: reduces and keeps it                     K  keeps the power k of a in c
- *     S  whether a and b act alike, 1 or 0                   W  the image of a code under a
+ *     S  whether a and b act alike, 1 or 0                   W  the image of a code under a, or its block
  *     L  lists a as P, M and E records                       C  empties a
  *     T  the count of changes                                U  lists the held slots: slot, n, r, pairs; in no fixed order
+ *
+ * A block is W's reply to a code that no from-word begins: for each pair whose from-word extends the code, in the order of the
+ * from-words, a line of "B", the from-word and the to-word, and last of all "ok" and how many they are.
  *
  * Every answer begins with a number, 0 for a job done and else that of the first refusal that holds (refusals.h). First of all comes
  * REFUSED_VALUE (15): the struct is no desk; then no field of it is changed. Any other refusal drops the open plan, if there is one,
@@ -22,7 +25,7 @@
  *
  *     every record: 1, not a record; 2, M or E with no plan open, or any other record while one is open; and then
  *     P: 8, 3      M: 4, 5      E: 6 and 7 of the from column, 6 and 7 of the to column, 16      F: 8, 9, 10, 11, 16
- *     I: 8, 9, 16  C: 8, 9, 16  K: 8, 12, 9, 11, 16      S: 8, 9, 10      L: 8, 9      W: 8, 9, 4, 13      T, U: no more
+ *     I: 8, 9, 16  C: 8, 9, 16  K: 8, 12, 9, 11, 16      S: 8, 9, 10      L: 8, 9      W: 8, 9, 4      T, U: no more
  *
  * and last of all, in desk_line, 14.
  */
@@ -106,8 +109,8 @@ bool desk_is_desk(struct desk d);
 
 /*
  * Does what one line says, given without its byte 10, and writes the lines of the reply as the desk program writes them, each ended
- * by byte 10: "ok\t3\n", a listing, or nothing for P and M. A refusal writes nothing; its number is in the answer. If the buffer is
- * shorter than the reply, the job is refused with 14 and not done; DESK_LONGEST_REPLY bytes are enough for every reply.
+ * by byte 10: "ok\t3\n", a listing, a block, or nothing for P and M. A refusal writes nothing; its number is in the answer. If the
+ * buffer is shorter than the reply, the job is refused with 14 and not done; DESK_LONGEST_REPLY bytes are enough for every reply.
  *
  * d points to a desk of the caller's. Neither pointer is null, even where the length is 0; line points to line_length bytes and out
  * to out_length bytes; and neither the desk, nor the line, nor the buffer lies over another. Only the bytes of the reply, at the

@@ -19,7 +19,7 @@ enum refusal {
     REFUSED_SHAPES_DIFFER = 10, /* two plans of different shapes */
     REFUSED_LIMIT = 11,         /* the reduced result, or a power on the way to it, has over 128 pairs or a word over 16 digits */
     REFUSED_EXPONENT = 12,      /* k outside -1,000 to 1,000 */
-    REFUSED_TOO_SHORT = 13,     /* the code is a proper beginning of a from-word */
+    REFUSED_TOO_SHORT = 13,     /* the code is a proper beginning of a from-word; plans_route alone, a desk has a block for it */
     REFUSED_BUFFER = 14,        /* the lent buffer is shorter than the output; looked for last */
     REFUSED_VALUE = 15,         /* what was handed in is no draft, no plan or no desk; looked for first */
     REFUSED_COUNT = 16          /* the count of changes is at its limit, 4,000,000,000 */

@@ -121,6 +121,7 @@ static struct desk_written say(struct desk *d, const char *line, uint8_t *out, s
 
 static void check_desk(void)
 {
+    static const char block[] = "B\t111\t11\nB\t112\t121\nok\t2\n";
     static const char *const session[][2] = {
         {"P\tA\t2\t1", ""},
         {"M\t111\t11", ""},
@@ -130,6 +131,7 @@ static void check_desk(void)
         {"W\tA\t1122", "ok\t1212\n"},
         {"K\tA\t2\tB", "ok\t4\n"},
         {"L\tB", "P\tB\t2\t1\nM\t1111\t11\nM\t1112\t121\nM\t112\t1221\nM\t12\t1222\nE\n"},
+        {"W\tA\t11", block},
         {"T", "ok\t2\n"},
     };
     uint8_t out[DESK_LONGEST_REPLY];
@@ -149,8 +151,8 @@ static void check_desk(void)
         check(what, written.number == 0 && written.column == 0 && written.length == strlen(session[i][1])
                         && holds_text(out, sizeof out, session[i][1]));
     }
-    written = say(&d, "W\tA\t11", out, sizeof out);
-    check("desk_line refuses a short code", written.number == REFUSED_TOO_SHORT && holds_text(out, sizeof out, ""));
+    written = say(&d, "W\tA\t11", out, strlen(block) - 1);
+    check("desk_line refuses a buffer shorter than a block", written.number == REFUSED_BUFFER && holds_text(out, sizeof out, ""));
     written = say(&d, "T", out, 4);
     check("desk_line refuses a short buffer", written.number == REFUSED_BUFFER && holds_text(out, sizeof out, ""));
     check("slot A holds what plans.h calls a plan", d.blocks[0].pairs == p.pairs && !memcmp(d.columns, p.from, sizeof p.from)

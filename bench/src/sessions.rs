@@ -65,6 +65,9 @@ pub fn sessions() -> Vec<Session> {
         pairs.refused = pairs.records;
         pairs.records *= PAIRS;
     }
+    all.push(session("W block, 2 to 128 pairs", 20_000, &mut |_| {
+        front(rng, &words)
+    }));
     all
 }
 
@@ -91,6 +94,14 @@ fn digits(word: &Word) -> String {
 
 fn letter(rng: &mut Rng, first: u8, count: usize) -> char {
     char::from(first + rng.below(count) as u8)
+}
+
+/// A record that asks for the block of a front of a word of the basis, of any
+/// length from the belt on.
+fn front(rng: &mut Rng, words: &[Word]) -> String {
+    let word = digits(rng.pick(words));
+    let front = &word[..rng.between(1, word.len() - 1)];
+    format!("W\t{}\t{front}\n", letter(rng, b'A', 8))
 }
 
 /// A record that routes a code of this many digits, or of as many as the word

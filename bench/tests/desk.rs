@@ -1,5 +1,6 @@
 //! The desk on arrays held to the second implementation, on random sessions
-//! without the records that it doesn't know, whole and cut into pieces.
+//! without the records that it doesn't know, whole and cut into pieces; and on
+//! the blocks that are measured.
 
 use bench::arrays::desk::Desk;
 
@@ -21,6 +22,20 @@ fn random_sessions() {
             assert!(replies == expected, "seed {seed}, pieces of {size} bytes");
         }
     }
+}
+
+#[test]
+fn measured_blocks() {
+    let sessions = bench::sessions::sessions();
+    let mut blocks = sessions.iter().filter(|s| s.name.starts_with("W block"));
+    let input = blocks.next().expect("blocks are measured").input.as_bytes();
+    let (mut expected, mut replies) = (Vec::new(), Vec::new());
+    reference::Desk::new().feed(input, &mut expected);
+    Desk::default().feed(input, &mut replies);
+    assert!(replies == expected);
+    let lines = replies.split(|byte| *byte == b'\n');
+    let rows = lines.filter(|line| line.starts_with(b"B\t")).count();
+    assert!(rows > 100_000, "{rows}");
 }
 
 /// The lines that don't begin with an unknown letter, each with its byte 10.

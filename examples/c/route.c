@@ -1,7 +1,8 @@
 /*
- * Routes the codes that it is given by the plan of document 01, and says of every other why not. It ends with 1 if a code was refused.
+ * Routes the codes that it is given by the plan of document 01, those that are too short part by part, and says of every other why
+ * not. It ends with 1 if a code was refused.
  *
- *     cc -std=c99 -Iinclude examples/c/route.c target/staticlib/libdesk_c.a -o route && ./route 1122 11
+ *     cc -std=c99 -Iinclude examples/c/route.c target/staticlib/libdesk_c.a -o route && ./route 1122 11 13
  */
 #include <stdio.h>
 #include <stdlib.h>
@@ -19,6 +20,19 @@ static struct desk_written say(struct desk *d, const char *line, char reply[DESK
     return w;
 }
 
+/* Lines of "B", a from-word and a to-word, parted by tabs, and then one of "ok". */
+static void print_block(const char *code, char *lines)
+{
+    char *from, *to;
+
+    printf("%s, part by part:\n", code);
+    for (lines = strtok(lines, "\n"); lines != NULL && *lines == 'B'; lines = strtok(NULL, "\n")) {
+        from = lines + strlen("B\t");
+        to = strchr(from, '\t');
+        printf("  %.*s -> %s\n", (int)(to - from), from, to + 1);
+    }
+}
+
 static int route(struct desk *d, const char *code)
 {
     char line[DESK_LONGEST_LINE + 2];
@@ -32,8 +46,10 @@ static int route(struct desk *d, const char *code)
         printf("%s: refused with %d, %s\n", code, w.number, refusal_reason(w.number));
         return EXIT_FAILURE;
     }
-    /* "ok", a tab, the image and byte 10 */
-    printf("%s -> %s", code, reply + strlen("ok\t"));
+    if (*reply == 'B')
+        print_block(code, reply);
+    else /* "ok", a tab, the image and byte 10 */
+        printf("%s -> %s", code, reply + strlen("ok\t"));
     return EXIT_SUCCESS;
 }
 

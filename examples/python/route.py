@@ -1,9 +1,10 @@
-"""Routes the codes that it is given by the plan of document 01, and says of every other why not. It ends with 1 if a code was refused.
+"""Routes the codes that it is given by the plan of document 01, those that are too short part by part, and says of every other why not.
+It ends with 1 if a code was refused.
 
 ctypes needs a shared library, which the archive can be made into, as its code is position independent:
 
     cc -shared -Wl,--whole-archive target/staticlib/libdesk_c.a -Wl,--no-whole-archive -o libdesk.so
-    python3 examples/python/route.py ./libdesk.so 1122 11
+    python3 examples/python/route.py ./libdesk.so 1122 11 13
 """
 
 import ctypes
@@ -94,6 +95,17 @@ def say(library, desk, line):
     return out.raw[: written.length].decode()
 
 
+def route(library, desk, code):
+    """Prints the image of a code, or where its parts go if it is too short."""
+    *parts, last = [line.split("\t") for line in say(library, desk, f"W\tA\t{code}").splitlines()]
+    if not parts:
+        print(f"{code} -> {last[1]}")
+        return
+    print(f"{code}, part by part:")
+    for _, source, target in parts:
+        print(f"  {source} -> {target}")
+
+
 def main(path, codes):
     library = load(path)
     desk = library.desk_fresh()
@@ -105,8 +117,7 @@ def main(path, codes):
     status = 0
     for code in codes:
         try:
-            image = say(library, desk, f"W\tA\t{code}").rstrip("\n").split("\t")[1]
-            print(f"{code} -> {image}")
+            route(library, desk, code)
         except Refused as refusal:
             print(f"{code}: {refusal}")
             status = 1

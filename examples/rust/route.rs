@@ -1,8 +1,9 @@
-//! Routes the codes that it is given by the plan of document 01, and says of
-//! every other why not. It ends with 1 if a code was refused.
+//! Routes the codes that it is given by the plan of document 01, those that are
+//! too short part by part, and says of every other why not. It ends with 1 if a
+//! code was refused.
 //!
 //!     rustc -L target/staticlib -l static=desk_c examples/rust/route.rs
-//!     ./route 1122 11
+//!     ./route 1122 11 13
 
 use std::env;
 use std::process::ExitCode;
@@ -93,10 +94,36 @@ impl Desk {
         Ok(String::from_utf8(out).expect("replies are ASCII"))
     }
 
-    fn route(&mut self, code: &str) -> Result<String, u8> {
+    fn route(&mut self, code: &str) -> Result<Routed, u8> {
         let reply = self.line(&format!("W\tA\t{code}"))?;
-        let image = reply.trim_end().strip_prefix("ok\t");
-        Ok(image.expect("an image follows").to_string())
+        if let Some(image) = reply.strip_prefix("ok\t") {
+            return Ok(Routed::Image(image.trim_end().to_string()));
+        }
+        let rows = reply.lines().filter_map(|line| line.strip_prefix("B\t"));
+        let rows = rows.filter_map(|row| row.split_once('\t'));
+        let part = |(from, to): (&str, &str)| (from.to_string(), to.to_string());
+        Ok(Routed::Block(rows.map(part).collect()))
+    }
+}
+
+/// Where the plan sends a code: to its image, or, where it is too short, each
+/// from-word that it begins to a to-word.
+enum Routed {
+    Image(String),
+    Block(Vec<(String, String)>),
+}
+
+impl Routed {
+    fn print(&self, code: &str) {
+        match self {
+            Routed::Image(image) => println!("{code} -> {image}"),
+            Routed::Block(parts) => {
+                println!("{code}, part by part:");
+                for (from, to) in parts {
+                    println!("  {from} -> {to}");
+                }
+            }
+        }
     }
 }
 
@@ -116,7 +143,7 @@ fn main() -> ExitCode {
     let mut status = ExitCode::SUCCESS;
     for code in env::args().skip(1) {
         match desk.route(&code) {
-            Ok(image) => println!("{code} -> {image}"),
+            Ok(routed) => routed.print(&code),
             Err(number) => {
                 println!("{code}: refused with {number}, {}", reason(number));
                 status = ExitCode::FAILURE;

@@ -9,9 +9,9 @@ use library::{Plan, PLACES};
 
 use super::columns::{verdict, Column};
 use super::table::product;
-use super::words::{self, digits, Shape};
-use super::{inverse, kept, matching, power};
-use super::{BEYOND_LIMITS, SHAPES_DIFFER, SHORT_CODE, WRONG_CODE, WRONG_EXPONENT, WRONG_SLOT};
+use super::words::{self, digits, Shape, ROW_BYTES};
+use super::{extending, inverse, kept, matching, power};
+use super::{BEYOND_LIMITS, SHAPES_DIFFER, WRONG_CODE, WRONG_EXPONENT, WRONG_SLOT};
 
 const NO_RECORD: u8 = 1;
 const OUT_OF_TURN: u8 = 2;
@@ -191,7 +191,8 @@ impl Desk {
             return no(WRONG_CODE);
         }
         let Some(place) = matching(plan, code) else {
-            return no(SHORT_CODE);
+            write_block(plan, code, out);
+            return Ok(());
         };
         let mut image = [0; 16];
         let length = words::write(plan.to[place], &mut image);
@@ -233,6 +234,17 @@ fn shape(plan: &Plan) -> Shape {
         arity: plan.arity,
         roots: plan.roots,
     }
+}
+
+/// The pairs whose from-words extend the code, a line each, and how many.
+fn write_block(plan: &Plan, code: &[u8], out: &mut Vec<u8>) {
+    let places = extending(plan, code);
+    for place in places.clone() {
+        let mut row = [0; ROW_BYTES];
+        let length = words::write_row(b'B', plan.from[place], plan.to[place], &mut row);
+        out.extend_from_slice(&row[..length]);
+    }
+    writeln!(out, "ok\t{}", places.len()).expect("a vector takes all");
 }
 
 fn packed(word: &[u8]) -> u64 {

@@ -7,6 +7,8 @@ pub mod desk;
 mod table;
 mod words;
 
+use std::ops::Range;
+
 use library::{Calls, Compared, Kept, Made, Plan, Verdict, Written, PLACES};
 
 use columns::{draft, plan, Column};
@@ -200,6 +202,16 @@ fn matching(value: &Plan, code: &[u8]) -> Option<usize> {
     begins(aligned(from[place]), start).then_some(place)
 }
 
+/// The places of the from-words that a code begins, where none begins the code:
+/// they stand together, behind all words that are before the code.
+fn extending(value: &Plan, code: &[u8]) -> Range<usize> {
+    let start = words::beginning(code);
+    let from = &value.from[..value.pairs];
+    let first = from.partition_point(|word| aligned(*word) < start);
+    let below = |word: &&u64| begins(start, aligned(**word));
+    first..first + from[first..].iter().take_while(below).count()
+}
+
 fn listing_length(value: &Plan) -> usize {
     let columns = value.from.iter().zip(&value.to).take(value.pairs);
     let rows = columns.map(|(from, to)| 4 + (digits(*from) + digits(*to)) as usize);
@@ -212,14 +224,7 @@ fn write_listing(shape: Shape, value: &Plan, slot: u8, out: &mut [u8]) {
     out[..8].copy_from_slice(&[b'P', b'\t', slot, b'\t', arity, b'\t', roots, b'\n']);
     let mut at = 8;
     for (from, to) in value.from.iter().zip(&value.to).take(value.pairs) {
-        out[at..at + 2].copy_from_slice(b"M\t");
-        at += 2;
-        at += words::write(*from, &mut out[at..]);
-        out[at] = b'\t';
-        at += 1;
-        at += words::write(*to, &mut out[at..]);
-        out[at] = b'\n';
-        at += 1;
+        at += words::write_row(b'M', *from, *to, &mut out[at..]);
     }
     out[at..].copy_from_slice(b"E\n");
 }

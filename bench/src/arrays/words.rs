@@ -105,6 +105,21 @@ pub fn write(word: u64, out: &mut [u8]) -> usize {
     length
 }
 
+/// The most bytes of a row.
+pub const ROW_BYTES: usize = 36;
+
+/// Writes a letter and a pair of words, parted by tabs, and byte 10; says how
+/// many bytes they are.
+pub fn write_row(letter: u8, from: u64, to: u64, out: &mut [u8]) -> usize {
+    out[..2].copy_from_slice(&[letter, b'\t']);
+    let mut at = 2 + write(from, &mut out[2..]);
+    out[at] = b'\t';
+    at += 1;
+    at += write(to, &mut out[at..]);
+    out[at] = b'\n';
+    at + 1
+}
+
 #[cfg(test)]
 mod tests {
     use super::*;
@@ -134,6 +149,14 @@ mod tests {
         ] {
             assert!(!is_word(SHAPE, word), "{word:x}");
         }
+    }
+
+    #[test]
+    fn the_longest_row_fits() {
+        let mut out = [0; ROW_BYTES];
+        assert_eq!(write_row(b'B', ONES, ONES, &mut out), ROW_BYTES);
+        assert_eq!(write_row(b'M', 0x12, 0x1, &mut out), 7);
+        assert_eq!(&out[..7], b"M\t12\t1\n");
     }
 
     #[test]

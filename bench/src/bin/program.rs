@@ -197,7 +197,7 @@ fn starts(
 fn aims(rows: &[Times], starts: &[(&str, f64)]) {
     for row in rows {
         let name = row.name;
-        if name.starts_with('W') {
+        if name.starts_with("W,") {
             let (slower, faster) = (row.desk / row.lines, row.second / row.desk);
             aim(name, "desk / lines at most 6", slower, slower <= 6.0);
             aim(name, "second / desk at least 1.7", faster, faster >= 1.7);

@@ -300,7 +300,7 @@ mod tests {
     fn a_reply_that_never_came_up_fails_a_full_range_only() {
         let few = tally(b"ok\nno\t1\n");
         let (fails, missing) = verdict(&few, FULL_RANGE).unwrap();
-        assert!(fails && missing.contains("no 13") && !missing.contains("no 1,"));
+        assert!(fails && missing.contains("no 12") && !missing.contains("no 1,"));
         assert!(!verdict(&few, FULL_RANGE - 1).unwrap().0);
     }
 
@@ -311,6 +311,8 @@ mod tests {
             all.add(&tally(&reference::session(&sessions::session(seed))));
         }
         assert_eq!(verdict(&all, FULL_RANGE), None);
+        assert!(all.count("B line") > 10_000, "{}", all.line());
+        assert_eq!(all.count("no 13") + all.count("other"), 0);
     }
 
     #[test]

@@ -159,6 +159,46 @@ fn a_lost_last_line_is_found() {
     is_found("lost-last-line");
 }
 
+#[test]
+fn a_block_in_the_order_of_its_to_words_is_found() {
+    is_found("block-in-to-order");
+}
+
+#[test]
+fn a_block_for_a_from_word_is_found() {
+    is_found("block-of-a-from-word");
+}
+
+#[test]
+fn a_pair_missing_in_a_block_is_found() {
+    is_found("block-pair-missing");
+}
+
+#[test]
+fn a_block_that_is_not_closed_is_found() {
+    is_found("block-not-closed");
+}
+
+#[test]
+fn a_block_that_counts_one_pair_less_is_found() {
+    is_found("block-count-short");
+}
+
+#[test]
+fn a_block_of_words_that_begin_the_code_is_found() {
+    is_found("block-of-beginnings");
+}
+
+#[test]
+fn a_front_that_is_still_refused_is_found() {
+    is_found("block-refused");
+}
+
+#[test]
+fn a_block_before_a_wrong_digit_is_found() {
+    is_found("block-before-wrong-digit");
+}
+
 /// A directory with this one case in it, and nothing else.
 fn one_case(directory: &str, name: &str) -> PathBuf {
     let target = PathBuf::from(env!("CARGO_TARGET_TMPDIR")).join(directory);

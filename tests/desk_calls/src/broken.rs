@@ -7,6 +7,7 @@ use library::{packed, Plan};
 use reference::COUNT_LIMIT;
 
 use crate::calls::Calls;
+use crate::checks::side_by_side::AMPLE;
 use crate::faults::Fault;
 use crate::second::Second;
 use crate::values::{Desk, Done, Job, Written, OPEN, SLOTS};
@@ -134,6 +135,38 @@ impl Broken {
         }
     }
 
+    /// The wrong answer to a front of a code, where the fault has one. No plan is
+    /// open then, so that the desk stays as it is.
+    fn wrong_block(&self, desk: &Desk, line: &[u8], out: &mut [u8]) -> Option<Written> {
+        let block = self.block(desk, line)?;
+        let mut ends = (1..=out.len().min(block.len())).rev();
+        let end = ends.find(|end| block[end - 1] == b'\n').unwrap_or(0);
+        let (fitting, left) = block.split_at(end);
+        match self.fault {
+            Fault::FrontRefused => Some(Written::refused(13, 0)),
+            Fault::LinesBeforeShortBuffer if !left.is_empty() => {
+                out[..end].copy_from_slice(fitting);
+                Some(Written::refused(14, 0))
+            }
+            Fault::BlockNotClosed if left.starts_with(b"ok") => {
+                out[..end].copy_from_slice(fitting);
+                Some(Written::bytes(end))
+            }
+            _ => None,
+        }
+    }
+
+    /// The block that is the reply to a line.
+    fn block(&self, desk: &Desk, line: &[u8]) -> Option<Vec<u8>> {
+        if !line.starts_with(b"W") {
+            return None;
+        }
+        let (mut rehearsed, mut reply) = (*desk, vec![0; AMPLE]);
+        let written = self.second.line(&mut rehearsed, line, &mut reply);
+        reply.truncate(written.length);
+        reply.starts_with(b"B").then_some(reply)
+    }
+
     /// What is wrong with the buffer after an answer.
     fn spoil_buffer(&self, line: &[u8], answer: &mut Written, out: &mut [u8]) {
         let end = answer.length;
@@ -192,9 +225,12 @@ impl Calls for Broken {
             return Written::refused(if form { 1 } else { 15 }, 0);
         }
         let mut after = self.seen(desk);
+        if let Some(answer) = self.wrong_block(&after, line, out) {
+            return answer;
+        }
         let mut answer = self.second.line(&mut after, line, out);
         if answer.number == 14 {
-            let (mut done, mut whole) = (self.seen(&before), [0; 5000]);
+            let (mut done, mut whole) = (self.seen(&before), [0; AMPLE]);
             let written = self.second.line(&mut done, line, &mut whole);
             if self.is(Fault::WorkBeforeShortBuffer) {
                 after = done;

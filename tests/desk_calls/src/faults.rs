@@ -13,6 +13,13 @@ pub enum Fault {
     OpenAfterShortBuffer,
     /// 14 isn't answered where one byte is missing: the reply is cut.
     CutReply,
+    /// 14 is answered, and the lines of a block that have room are written.
+    LinesBeforeShortBuffer,
+    /// The line that closes a block isn't reckoned with: where there is room for
+    /// the others, they are the reply.
+    BlockNotClosed,
+    /// A front of a code is refused with 13.
+    FrontRefused,
     /// A refusal leaves the open plan open.
     OpenAfterRefusal,
     /// A refusal unnames the open plan and leaves its words.
@@ -83,10 +90,13 @@ pub enum Fault {
 type Check = fn(&dyn Calls);
 
 /// Each fault, and a check that has to see it.
-pub const FAULTS: [(Fault, Check); 35] = [
+pub const FAULTS: [(Fault, Check); 38] = [
     (Fault::WorkBeforeShortBuffer, buffers::of_every_length),
     (Fault::OpenAfterShortBuffer, buffers::of_every_length),
     (Fault::CutReply, buffers::of_every_length),
+    (Fault::LinesBeforeShortBuffer, buffers::of_every_line),
+    (Fault::BlockNotClosed, paper::block_without_room),
+    (Fault::FrontRefused, paper::session),
     (Fault::OpenAfterRefusal, refusals::one_after_another),
     (Fault::WordsAfterRefusal, refusals::one_after_another),
     (Fault::CountedRefusal, refusals::one_after_another),

@@ -15,6 +15,11 @@ fn the_session_of_the_paper_in_jobs() {
 }
 
 #[test]
+fn a_block_without_room() {
+    paper::block_without_room(&Library);
+}
+
+#[test]
 fn refusals_of_calls_in_the_paper() {
     paper::refusals_of_calls(&Library);
 }
@@ -67,6 +72,11 @@ fn jobs_of_every_number() {
 #[test]
 fn buffers_of_every_length() {
     buffers::of_every_length(&Library);
+}
+
+#[test]
+fn buffers_for_some_lines_of_a_block() {
+    buffers::of_every_line(&Library);
 }
 
 #[test]

@@ -4,7 +4,7 @@
 
 use std::collections::BTreeMap;
 
-use crate::plan::{self, Plan};
+use crate::plan::{self, Plan, Routed};
 use crate::records::Record;
 use crate::refusal::Refusal;
 use crate::words::{Shape, Word};
@@ -238,8 +238,10 @@ impl Desk {
 
     fn route(&self, operand: u8, code: &[u8]) -> Reply {
         slots_in_range(&[operand])?;
-        let image = self.held(operand)?.route(code)?;
-        Ok([b"ok\t", image.as_slice(), b"\n"].concat())
+        match self.held(operand)?.route_or_block(code)? {
+            Routed::Image(image) => Ok([b"ok\t", image.as_slice(), b"\n"].concat()),
+            Routed::Block(pairs) => Ok(block_lines(&pairs)),
+        }
     }
 
     fn list(&self, operand: u8) -> Reply {
@@ -296,6 +298,16 @@ fn slots_in_range(slots: &[u8]) -> Result<(), Refusal> {
     } else {
         Err(Refusal::SlotRange)
     }
+}
+
+/// "One line `B⇥from⇥to` for every pair", closed by "`ok⇥` and how many".
+fn block_lines(pairs: &[(Word, Word)]) -> Vec<u8> {
+    let mut lines = Vec::new();
+    for (from, to) in pairs {
+        lines.extend([b"B\t", from.as_slice(), b"\t", to, b"\n"].concat());
+    }
+    lines.extend(ok_line(pairs.len() as u64));
+    lines
 }
 
 fn ok_line(number: u64) -> Vec<u8> {

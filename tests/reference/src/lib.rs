@@ -1,8 +1,8 @@
 //! A second implementation of the sort plan desk, written from the papers.
 //! It keeps words as strings of digits and plans as ordered maps, and follows
 //! the definitions word by word: it is made to be read and compared with, not
-//! to be fast. Document 01 decides on records and numbers, document 004 on
-//! words, bases and maps.
+//! to be fast. Document 01 decides on records and numbers, with change request
+//! E1 for the blocks of W, and document 004 on words, bases and maps.
 
 pub mod basis;
 pub mod desk;
@@ -14,7 +14,7 @@ pub mod words;
 
 pub use basis::{Fault, Flaw, Side};
 pub use desk::{session, Desk, OpenPlan, COUNT_LIMIT, LINE_BYTES};
-pub use plan::Plan;
+pub use plan::{Plan, Routed};
 pub use records::Record;
 pub use refusal::Refusal;
 pub use words::{Shape, Word, CODE_DIGITS, PAIRS, WORD_DIGITS};

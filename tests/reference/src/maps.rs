@@ -42,6 +42,17 @@ pub fn image(pairs: &Pairs, code: &[u8]) -> Option<Word> {
     Some([to, &code[from.len()..]].concat())
 }
 
+/// The pairs whose from-words properly extend the code, in order. Where no
+/// from-word begins the code, the block below it is covered by them.
+pub fn pairs_extending<'a>(
+    pairs: &'a Pairs,
+    code: &'a [u8],
+) -> impl Iterator<Item = (&'a Word, &'a Word)> {
+    pairs
+        .iter()
+        .filter(|(from, _)| from.len() > code.len() && from.starts_with(code))
+}
+
 /// The minimal common expansion of the two from-columns (document 004,
 /// Corollary 3.17): the words of each that begin with a word of the other.
 pub fn common_expansion(left: &Pairs, right: &Pairs) -> BTreeSet<Word> {

@@ -18,6 +18,16 @@ pub struct Plan {
     pairs: Pairs,
 }
 
+/// Where a plan sends a code, as W tells it.
+#[derive(Clone, Debug, PartialEq, Eq)]
+pub enum Routed {
+    /// The image of a code that a from-word begins.
+    Image(Word),
+    /// Of any other code the pairs whose from-words extend it, in order: "the
+    /// images of its parts".
+    Block(Vec<(Word, Word)>),
+}
+
 impl Plan {
     /// The plan typed as these pairs, reduced: a whole run of P, M and E. The
     /// refusals are 3, then 4 and 5 pair by pair as M gives them, then 6 and 7.
@@ -125,13 +135,35 @@ impl Plan {
         Ok(maps::act_alike(&self.pairs, &other.pairs))
     }
 
-    /// The image of a routed code: refusal 4 if it is empty, has more than
-    /// 1,024 digits or a wrong one, then 13 if it is too short for the plan.
+    /// The library's route of a single code: refusal 4, then 13 if the code is
+    /// too short for the plan.
     pub fn route(&self, code: &[u8]) -> Result<Word, Refusal> {
+        self.may_route(code)?;
+        self.image(code).ok_or(Refusal::CodeTooShort)
+    }
+
+    /// The route of W, which has a block for a code that is too short: refusal
+    /// 4 alone.
+    pub fn route_or_block(&self, code: &[u8]) -> Result<Routed, Refusal> {
+        self.may_route(code)?;
+        Ok(match self.image(code) {
+            Some(image) => Routed::Image(image),
+            None => Routed::Block(self.block(code)),
+        })
+    }
+
+    /// "4, a word that is empty, too long or has a wrong digit", of a code.
+    fn may_route(&self, code: &[u8]) -> Result<(), Refusal> {
         if code.len() > CODE_DIGITS || !self.shape.is_code(code) {
             return Err(Refusal::BadWord);
         }
-        self.image(code).ok_or(Refusal::CodeTooShort)
+        Ok(())
+    }
+
+    /// "Every pair whose from-word extends the code, in from order".
+    pub fn block(&self, code: &[u8]) -> Vec<(Word, Word)> {
+        let extending = maps::pairs_extending(&self.pairs, code);
+        extending.map(|(f, t)| (f.clone(), t.clone())).collect()
     }
 
     /// The image of a code of whatever length; nothing if no from-word begins

@@ -21,7 +21,7 @@ pub enum Record<'a> {
     Power { operand: u8, k: i64, target: u8 },
     /// S: whether two plans act alike.
     Same { first: u8, second: u8 },
-    /// W: routes a code.
+    /// W: routes a code, or gives the block below it.
     Route { operand: u8, code: &'a [u8] },
     /// L: lists a plan.
     List { operand: u8 },

@@ -1,6 +1,7 @@
 //! The refusals of the desk and the numbers document 01 gives them. Numbers
 //! 14 and 15 belong to library calls with lent buffers and lent plans; nothing
-//! of that kind is lent here, so they don't occur.
+//! of that kind is lent here, so they don't occur. 13 is the library's alone
+//! too, since W has a block instead, but a route needs nothing lent.
 
 use crate::basis::{Fault, Flaw, Side};
 

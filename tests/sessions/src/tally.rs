@@ -1,7 +1,7 @@
 //! Which replies an output holds and how often: a tally by kind, and the
-//! kinds that a long run of sessions has to have met. Refusals 14 and 15 are
-//! given by library calls alone, and 16 needs four thousand million changes,
-//! so no session meets them.
+//! kinds that a long run of sessions has to have met. Refusals 13, 14 and 15
+//! are given by library calls alone, and 16 needs four thousand million
+//! changes, so no session meets them.
 
 use std::collections::BTreeMap;
 use std::fmt;
@@ -9,11 +9,13 @@ use std::fmt;
 /// The refusals that sessions can meet, in the form of the tally.
 const REFUSALS: &[&str] = &[
     "no 1", "no 2", "no 3", "no 4", "no 5", "no 6 F", "no 6 T", "no 7 F", "no 7 T", "no 8", "no 9",
-    "no 10", "no 11", "no 12", "no 13",
+    "no 10", "no 11", "no 12",
 ];
 
 /// The other replies that sessions can meet.
-const GRANTED: &[&str] = &["ok", "ok value", "P line", "M line", "E line", "U line"];
+const GRANTED: &[&str] = &[
+    "ok", "ok value", "P line", "M line", "E line", "U line", "B line",
+];
 
 /// How often each kind of reply came up.
 #[derive(Default, Clone, PartialEq, Eq, Debug)]
@@ -40,6 +42,7 @@ fn kind(line: &[u8]) -> String {
         [b"P", _, _, _] => "P line".to_string(),
         [b"M", _, _] => "M line".to_string(),
         [b"E"] => "E line".to_string(),
+        [b"B", _, _] => "B line".to_string(),
         [slot, _, _, _] if slot.len() == 1 => "U line".to_string(),
         _ => "other".to_string(),
     }
@@ -99,11 +102,12 @@ mod tests {
 
     #[test]
     fn each_line_is_counted_under_its_kind() {
-        let output = b"ok\t3\nok\nno\t13\nno\t7\tT\nP\tA\t2\t1\nM\t1\t1\nE\nA\t2\t1\t1\nok\t1\n";
+        let output =
+            b"ok\t3\nok\nno\t12\nno\t7\tT\nP\tA\t2\t1\nM\t1\t1\nE\nB\t11\t1\nB\t2\t1\t1\nok\t1\n";
         let tally = tally(output);
         assert_eq!(tally.count("ok value"), 2);
         let once = [
-            "ok", "no 13", "no 7 T", "P line", "M line", "E line", "U line",
+            "ok", "no 12", "no 7 T", "P line", "M line", "E line", "B line", "U line",
         ];
         assert!(once.iter().all(|kind| tally.count(kind) == 1));
         assert_eq!(tally.count("no 7 F"), 0);
@@ -116,7 +120,7 @@ mod tests {
             .iter()
             .map(|kind| kind.replace(' ', "\t") + "\n")
             .collect();
-        let granted = "ok\nok\t1\nP\tA\t2\t1\nM\t1\t1\nE\nH\t2\t1\t1\n";
+        let granted = "ok\nok\t1\nP\tA\t2\t1\nM\t1\t1\nE\nH\t2\t1\t1\nB\t11\t1\n";
         let mut tally = tally((all.clone() + granted).as_bytes());
         assert!(tally.missing().is_empty());
         tally.counts.remove("no 11");

@@ -4,13 +4,14 @@
 use super::side_by_side::{SideBySide, AMPLE};
 use crate::calls::Calls;
 use crate::random::desks::{prepared, with_psi_open};
+use crate::second::Second;
 use crate::values::Desk;
 
 pub fn of_every_length(calls: &dyn Calls) {
     let mut both = SideBySide::new(calls, &Desk::FRESH);
     let open = with_psi_open(&prepared(), b'A');
     let deep_image = [b"W\tA\t12", &[b'1'; 1022][..]].concat();
-    let lines: [&[u8]; 15] = [
+    let lines: [&[u8]; 17] = [
         b"F\tA\tB\tC",
         b"I\tE\tF",
         b"K\tA\t14\tA",
@@ -25,6 +26,8 @@ pub fn of_every_length(calls: &dyn Calls) {
         b"U",
         b"P\tF\t2\t1",
         b"W\tA\t11",
+        b"W\tD\t1",
+        b"W\tE\t1",
         b"X",
     ];
     let on_open: [&[u8]; 4] = [b"E", b"M\t1\t1", b"T", b"M\t\t"];
@@ -43,5 +46,24 @@ pub fn of_every_length(calls: &dyn Calls) {
             both.line(b"U");
         }
     }
-    both.tally.demand(10, &["0", "1", "2", "13", "14"]);
+    both.tally.demand(10, &["0", "1", "2", "14", "a block"]);
+}
+
+/// Blocks with buffers that have room for some of their lines, whole or in part:
+/// none may be written unless all are.
+pub fn of_every_line(calls: &dyn Calls) {
+    let mut both = SideBySide::new(calls, &Desk::FRESH);
+    let desk = prepared();
+    for line in [&b"W\tA\t11"[..], b"W\tA\t1", b"W\tD\t1", b"W\tE\t1"] {
+        let (mut rehearsed, mut reply) = (desk, [0; AMPLE]);
+        let written = Second::default().line(&mut rehearsed, line, &mut reply);
+        let ends = (0..written.length).filter(|place| reply[*place] == b'\n');
+        for end in ends {
+            for room in end..end + 3 {
+                both.start(&desk);
+                both.line_into(line, room);
+            }
+        }
+    }
+    both.tally.demand(4, &["14", "a block"]);
 }

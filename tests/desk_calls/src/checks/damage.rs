@@ -12,7 +12,7 @@ use crate::random::Rng;
 use crate::values::{Desk, BLOCKS, WORDS};
 
 /// Lines that would be done, refused, or be no record at all.
-const LINES: [&[u8]; 10] = [
+const LINES: [&[u8]; 11] = [
     b"T",
     b"U",
     b"",
@@ -20,6 +20,7 @@ const LINES: [&[u8]; 10] = [
     b"E",
     b"M\t1\t1",
     b"L\tA",
+    b"W\tA\t1",
     b"P\tA\t2\t1",
     b"K\tA\t0\tB",
     &[b'1'; 1101],

@@ -8,7 +8,7 @@ use crate::random::Rng;
 use crate::values::Desk;
 
 /// Records that are done on the prepared desk, and then one for an open plan.
-const RECORDS: [&[u8]; 13] = [
+const RECORDS: [&[u8]; 14] = [
     b"P\tF\t2\t1",
     b"F\tA\tB\tF",
     b"I\tA\tF",
@@ -16,6 +16,7 @@ const RECORDS: [&[u8]; 13] = [
     b"K\tB\t1000\tF",
     b"S\tA\tB",
     b"W\tA\t1122",
+    b"W\tA\t11",
     b"L\tE",
     b"C\tA",
     b"T",
@@ -48,7 +49,8 @@ pub fn of_any_bytes(calls: &dyn Calls) {
             }
         }
     }
-    both.tally.demand(10, &["0", "1", "2", "4", "8", "9"]);
+    both.tally
+        .demand(10, &["0", "1", "2", "4", "8", "9", "a block"]);
 }
 
 /// The record with bytes 10, 0, 9, 13 and another put in at each place or
@@ -107,7 +109,7 @@ pub fn for_every_slot(calls: &dyn Calls) {
     let mut both = SideBySide::new(calls, &Desk::FRESH);
     let desk = prepared();
     for byte in 0..=255 {
-        let lines: [&[u8]; 12] = [
+        let lines: [&[u8]; 13] = [
             &[b'C', 9, byte],
             &[b'L', 9, byte],
             &[b'I', 9, byte, 9, b'F'],
@@ -120,6 +122,7 @@ pub fn for_every_slot(calls: &dyn Calls) {
             &[b'K', 9, byte, 9, b'2', 9, b'F'],
             &[b'K', 9, b'B', 9, b'2', 9, byte],
             &[b'W', 9, byte, 9, b'1', b'2', b'1', b'1'],
+            &[b'W', 9, byte, 9, b'1'],
         ];
         for line in lines {
             both.start(&desk);

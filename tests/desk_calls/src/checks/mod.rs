@@ -17,9 +17,10 @@ use crate::calls::Calls;
 pub type Check = (&'static str, fn(&dyn Calls));
 
 /// Every check, those that take long behind the others.
-pub const ALL: [Check; 16] = [
+pub const ALL: [Check; 18] = [
     ("paper::session", paper::session),
     ("paper::session_in_jobs", paper::session_in_jobs),
+    ("paper::block_without_room", paper::block_without_room),
     ("paper::refusals_of_calls", paper::refusals_of_calls),
     ("lines::of_any_bytes", lines::of_any_bytes),
     ("lines::at_the_limit", lines::at_the_limit),
@@ -28,6 +29,7 @@ pub const ALL: [Check; 16] = [
     ("jobs::in_chains", jobs::in_chains),
     ("jobs::of_every_number", jobs::of_every_number),
     ("buffers::of_every_length", buffers::of_every_length),
+    ("buffers::of_every_line", buffers::of_every_line),
     ("refusals::one_after_another", refusals::one_after_another),
     ("damage::of_every_kind", damage::of_every_kind),
     ("damage::of_any_word", damage::of_any_word),

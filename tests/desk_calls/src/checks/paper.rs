@@ -1,11 +1,14 @@
-//! The session of document 01 in full, with the replies that it gives, in lines
-//! and as far as that goes in jobs; and what only calls refuse, in so many words.
-//! Nothing here asks the second implementation.
+//! The session of document 01 in full, with the replies that it and E1 give, in
+//! lines and as far as that goes in jobs; and what only calls refuse, in so many
+//! words. Nothing here asks the second implementation.
 
 use crate::calls::Calls;
 use crate::values::{Desk, Done, Job, Written};
 
 const PLAN: [&str; 4] = ["P\tA\t2\t1", "M\t111\t11", "M\t112\t121", "M\t12\t122"];
+
+/// What E1 puts in the place of the session's 13.
+const BLOCK: &str = "B\t111\t11\nB\t112\t121\nok\t2\n";
 
 /// Asserts the reply to a line, in a buffer that it fills and in one that is
 /// longer.
@@ -41,9 +44,7 @@ pub fn session(calls: &dyn Calls) {
     let listing = "P\tB\t2\t1\nM\t1111\t11\nM\t1112\t121\nM\t112\t1221\nM\t12\t1222\nE\n";
     reply(calls, &mut desk, "L\tB", listing);
     assert_eq!(desk.columns[256..260], [0x1111, 0x1112, 0x112, 0x12]);
-    let mut out = [b'.'; 40];
-    let written = calls.line(&mut desk, b"W\tA\t11", &mut out);
-    assert_eq!((written, out), (Written::refused(13, 0), [b'.'; 40]));
+    reply(calls, &mut desk, "W\tA\t11", BLOCK);
     reply(calls, &mut desk, "T", "ok\t2\n");
     assert!(calls.is_desk(&desk));
 }
@@ -78,6 +79,27 @@ pub fn session_in_jobs(calls: &dyn Calls) {
     for (job, answer) in jobs {
         assert_eq!(calls.job(&mut desk, job), answer, "to {job:?}");
     }
+}
+
+/// A block too is refused with 14 where "the lent buffer is shorter than the
+/// output", and the buffer "then holds what it held before".
+pub fn block_without_room(calls: &dyn Calls) {
+    let mut desk = calls.fresh();
+    for line in PLAN {
+        reply(calls, &mut desk, line, "");
+    }
+    reply(calls, &mut desk, "E", "ok\t3\n");
+    let before = desk;
+    for room in 0..BLOCK.len() {
+        let mut out = vec![b'.'; room];
+        let answer = calls.line(&mut desk, b"W\tA\t11", &mut out);
+        assert_eq!(answer, Written::refused(14, 0), "with {room} bytes");
+        assert!(out.iter().all(|byte| *byte == b'.'), "with {room} bytes");
+        assert_eq!(desk, before, "with {room} bytes");
+    }
+    reply(calls, &mut desk, "W\tA\t11", BLOCK);
+    reply(calls, &mut desk, "W\tA\t112", "ok\t121\n");
+    reply(calls, &mut desk, "T", "ok\t1\n");
 }
 
 /// "Library calls put 15 before all these"; "such a desk has no open plan to

@@ -9,7 +9,7 @@ use crate::random::desks::{prepared, with_psi_open};
 use crate::values::{Desk, Job};
 
 /// Refused on the prepared desk, or with a plan open there.
-const LINES: [&[u8]; 31] = [
+const LINES: [&[u8]; 32] = [
     b"",
     b"X",
     b"E\t",
@@ -40,6 +40,7 @@ const LINES: [&[u8]; 31] = [
     b"S\tA\tC",
     b"S\tF\tZ",
     b"W\tA\t11",
+    b"W\tA\t13",
     b"W\tA\t",
 ];
 
@@ -69,7 +70,7 @@ pub fn one_after_another(calls: &dyn Calls) {
     both.tally.demand(
         1,
         &[
-            "0", "1", "2", "3", "4", "5", "6F", "7F", "8", "9", "10", "11", "12", "13", "16",
+            "0", "1", "2", "3", "4", "5", "6F", "7F", "8", "9", "10", "11", "12", "16",
         ],
     );
 }

@@ -12,10 +12,10 @@ use crate::random::jobs::some_job;
 use crate::random::Rng;
 use crate::values::Desk;
 
-/// Every answer that a sound desk can get.
+/// Every answer that a sound desk can get, and blocks of W.
 const ANSWERS: [&str; 18] = [
-    "0", "1", "2", "3", "4", "5", "6F", "6T", "7F", "7T", "8", "9", "10", "11", "12", "13", "14",
-    "16",
+    "0", "1", "2", "3", "4", "5", "6F", "6T", "7F", "7T", "8", "9", "10", "11", "12", "14", "16",
+    "a block",
 ];
 
 pub fn of_lines(calls: &dyn Calls) {
@@ -23,7 +23,7 @@ pub fn of_lines(calls: &dyn Calls) {
     for seed in 0..SESSIONS {
         run(calls, seed, 0, &mut tally);
     }
-    tally.demand(10, &ANSWERS);
+    tally.demand(5, &ANSWERS);
 }
 
 pub fn with_jobs(calls: &dyn Calls) {
@@ -31,7 +31,7 @@ pub fn with_jobs(calls: &dyn Calls) {
     for seed in SESSIONS..2 * SESSIONS {
         run(calls, seed, 25, &mut tally);
     }
-    tally.demand(10, &ANSWERS);
+    tally.demand(5, &ANSWERS);
 }
 
 /// Desks with no room left: the longest replies, and products that mostly are
@@ -39,8 +39,10 @@ pub fn with_jobs(calls: &dyn Calls) {
 pub fn of_full_desks(calls: &dyn Calls) {
     let mut rng = Rng::new(201);
     let mut both = SideBySide::new(calls, &Desk::FRESH);
-    let lines: [&[u8]; 9] = [
+    let lines: [&[u8]; 11] = [
         b"U",
+        b"W\tA\t1",
+        b"W\tH\t1",
         b"L\tA",
         b"L\tH",
         b"F\tA\tB\tC",
@@ -65,7 +67,7 @@ pub fn of_full_desks(calls: &dyn Calls) {
             both.job(some_job(&mut rng));
         }
     }
-    both.tally.demand(5, &["0", "5", "6F", "11"]);
+    both.tally.demand(5, &["0", "5", "6F", "11", "a block"]);
 }
 
 /// Seventy-two seeds in a row meet every shape.

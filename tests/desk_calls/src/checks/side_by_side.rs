@@ -104,6 +104,9 @@ impl<'a> SideBySide<'a> {
             self.desk,
             self.expected
         );
+        let written = &room[GUARD..GUARD + answer.length];
+        let block = line.starts_with(b"W") && written.starts_with(b"B\t");
+        self.tally.count_if(block, "a block");
         self.count(answer.number, answer.column);
         answer
     }

@@ -3,6 +3,7 @@
 //! the reading of input in pieces.
 
 mod bases;
+mod blocks;
 mod following;
 mod forms;
 mod group;

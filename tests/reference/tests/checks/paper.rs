@@ -1,7 +1,8 @@
-//! The cases document 01 prints: the session in full, the plans to try and
-//! the ways a desk goes wrong. Spaces stand for tabs in the texts below.
+//! The cases document 01 prints: the session in full, with the block that E1
+//! puts into it, the plans to try and the ways a desk goes wrong. Spaces stand
+//! for tabs in the texts below.
 
-use reference::{session, Desk, Plan, Refusal, Shape, Word};
+use reference::{session, Desk, Plan, Refusal, Routed, Shape, Word};
 
 const BINARY: Shape = Shape { arity: 2, roots: 1 };
 
@@ -42,7 +43,7 @@ fn the_session_in_full() {
     let input = "P\tA\t2\t1\nM\t111\t11\nM\t112\t121\nM\t12\t122\nE\nW\tA\t1122\n\
                  K\tA\t2\tB\nL\tB\nW\tA\t11\nT\n";
     let output = "ok\t3\nok\t1212\nok\t4\nP\tB\t2\t1\nM\t1111\t11\nM\t1112\t121\n\
-                  M\t112\t1221\nM\t12\t1222\nE\nno\t13\nok\t2\n";
+                  M\t112\t1221\nM\t12\t1222\nE\nB\t111\t11\nB\t112\t121\nok\t2\nok\t2\n";
     assert_eq!(session(input.as_bytes()), output.as_bytes());
 }
 
@@ -156,6 +157,8 @@ fn psi_and_its_powers() {
     assert_eq!(psi().then(&psi().inverse()), Ok(Plan::identity(BINARY)));
     assert_eq!(psi().route(b"12"), Ok(b"122".to_vec()));
     assert_eq!(psi().route(b"11"), Err(Refusal::CodeTooShort));
+    let block = words(&[("111", "11"), ("112", "121")]);
+    assert_eq!(psi().route_or_block(b"11"), Ok(Routed::Block(block)));
     let fourteenth = psi().power(14).expect("within the limits");
     assert_eq!(fourteenth.size(), 16);
     let longest = fourteenth.pairs().keys().map(Vec::len).max();

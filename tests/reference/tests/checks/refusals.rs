@@ -37,8 +37,8 @@ fn order_of_the_later_conditions() {
         ("W A 1113", "no 4"),
         ("W A 11130", "no 4"),
         ("W A 110", "no 4"),
-        ("W A 1", "no 13"),
-        ("W A 11", "no 13"),
+        ("W A 1x", "no 4"),
+        ("W D 1113", "no 4"),
         ("W B 3", "no 4"),
         ("L C", "no 9"),
         ("C C", "no 9"),
@@ -60,6 +60,8 @@ fn granted_neighbours() {
         ("S A A", "ok 1"),
         ("S A D", "ok 0"),
         ("W A 12", "ok 122"),
+        ("W A 11", "B 111 11\nB 112 121\nok 2"),
+        ("W A 1", "B 111 11\nB 112 121\nB 12 122\nok 3"),
         ("W B 133", "ok 233"),
         ("W B 2", "ok 1"),
         ("C A", "ok"),
@@ -139,12 +141,12 @@ fn refusals_change_no_slot() {
              M 1 1
              P B 2 1
              C C
-             W A 1
+             W A 10
              X",
         ),
         &mut refused,
     );
-    let numbers = "10 11 11 11 12 9 7\tT 2 9 13 1";
+    let numbers = "10 11 11 11 12 9 7\tT 2 9 4 1";
     let expected: Vec<String> = numbers.split(' ').map(|n| format!("no\t{n}\n")).collect();
     assert_eq!(String::from_utf8(refused).unwrap(), expected.concat());
     let mut after = Vec::new();

@@ -70,14 +70,9 @@ pub fn wrong_code(session: &mut Session) {
     let length = session.rng.between(1, 12);
     let mut code = plans::random_code(&mut session.rng, shape, length);
     let place = session.rng.below(code.len());
-    code[place] = match session.rng.below(5) {
-        0 => b'0',
-        1 if place == 0 => plans::digit(shape.r) + 1,
-        1 => plans::digit(shape.n) + 1,
-        2 => b'x',
-        3 => b'\r',
-        _ => code[place],
-    };
+    if session.rng.chance(80) {
+        code[place] = plans::wrong_digit(&mut session.rng, shape, place);
+    }
     if session.rng.chance(20) {
         code.clear();
     }

@@ -39,7 +39,7 @@ pub fn even_basis(rng: &mut Rng, shape: Shape, splits: usize) -> Vec<Word> {
 }
 
 /// A basis whose splits follow one word down, so that it goes deep early.
-fn deep_basis(rng: &mut Rng, shape: Shape, splits: usize) -> Vec<Word> {
+pub fn deep_basis(rng: &mut Rng, shape: Shape, splits: usize) -> Vec<Word> {
     let mut words = shape.belts();
     let mut index = rng.below(words.len());
     for _ in 0..splits {

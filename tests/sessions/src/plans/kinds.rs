@@ -2,7 +2,7 @@
 //! permuted, and the same map on more pairs, with and without parts that must
 //! not join again.
 
-use super::bases::{basis, even_basis};
+use super::bases::{basis, deep_basis, even_basis};
 use super::turning::turned_ways;
 use super::words::{extended, Row, Shape, Word, MOST_DIGITS, MOST_PAIRS};
 use crate::rng::Rng;
@@ -19,6 +19,16 @@ pub fn identity(shape: Shape) -> Vec<Row> {
 /// Two bases of as many splits, and so of as many words, paired by chance.
 pub fn any_plan(rng: &mut Rng, shape: Shape, splits: usize) -> Vec<Row> {
     let from = basis(rng, shape, splits);
+    let mut to = basis(rng, shape, splits);
+    rng.shuffle(&mut to);
+    pair_up(from, to)
+}
+
+/// A plan with from-words of many digits, whatever the to-words.
+pub fn deep_plan(rng: &mut Rng, shape: Shape) -> Vec<Row> {
+    let most = shape.most_splits();
+    let splits = rng.between(most.min(9), most.min(MOST_DIGITS - 1));
+    let from = deep_basis(rng, shape, splits);
     let mut to = basis(rng, shape, splits);
     rng.shuffle(&mut to);
     pair_up(from, to)

@@ -12,10 +12,10 @@ mod turning;
 mod words;
 
 pub use bases::{basis, some_splits};
-pub use kinds::{any_plan, padded, permutation, rings};
+pub use kinds::{any_plan, deep_plan, padded, permutation, rings};
 pub use near_miss::near_miss;
 pub use turning::{turning_plan, turning_splits, Blocks};
-pub use words::{digit, random_code, Row, Shape, Word, MOST_PAIRS};
+pub use words::{digit, random_code, wrong_digit, Row, Shape, Word, MOST_PAIRS};
 
 use crate::rng::Rng;
 use kinds::{growing_plan, identity, twisted};
@@ -80,8 +80,11 @@ mod tests {
     fn every_plan_is_two_bases_within_the_limits() {
         let mut rng = Rng::new(11);
         for shape in every_shape() {
-            for _ in 0..25 {
-                let rows = some_plan(&mut rng, shape);
+            for turn in 0..25 {
+                let rows = match turn {
+                    0 => deep_plan(&mut rng, shape),
+                    _ => some_plan(&mut rng, shape),
+                };
                 let (from, to) = columns(&rows);
                 assert!(rows.len() <= MOST_PAIRS);
                 assert!(from.iter().chain(&to).all(|word| word.len() <= MOST_DIGITS));

@@ -47,6 +47,17 @@ pub fn parts(word: &[u8], n: usize) -> Vec<Word> {
     (1..=n).map(|way| extended(word, way)).collect()
 }
 
+/// A byte that no code of the shape has at this place.
+pub fn wrong_digit(rng: &mut Rng, shape: Shape, place: usize) -> u8 {
+    match rng.below(4) {
+        0 => b'0',
+        1 if place == 0 => digit(shape.r) + 1,
+        1 => digit(shape.n) + 1,
+        2 => b'x',
+        _ => b'\r',
+    }
+}
+
 /// A code of `length` digits that obeys the shape.
 pub fn random_code(rng: &mut Rng, shape: Shape, length: usize) -> Word {
     let mut code = vec![digit(rng.between(1, shape.r))];

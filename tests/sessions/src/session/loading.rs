@@ -34,6 +34,16 @@ impl Session {
         self.slots[slot] = Some(Held { shape, rows });
     }
 
+    /// Loads a plan with long from-words and says where.
+    pub(super) fn load_deep_plan(&mut self) -> usize {
+        let slot = self.some_slot();
+        let shape = self.some_shape();
+        let rows = plans::deep_plan(&mut self.rng, shape);
+        self.load(slot, shape, &rows);
+        self.slots[slot] = Some(Held { shape, rows });
+        slot
+    }
+
     /// A plan of the shape: one on the common basis or on the blocks, a loaded
     /// plan written in another way or with two images swapped, or any plan.
     fn plan_to_load(&mut self, shape: Shape) -> Vec<Row> {

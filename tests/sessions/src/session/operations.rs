@@ -1,7 +1,8 @@
-//! The steps that work on held plans and ask about them, one record each: F,
-//! I, K, S, W, L and C, with the powers and the codes that they take.
+//! The steps that work on held plans and ask about them: F, I, K, S, W, L and
+//! C, with the powers and the codes that they take. Each is one record, but
+//! that W also comes with all fronts of a word.
 
-use super::{name, Session};
+use super::{name, Held, Session};
 use crate::plans::{self, Word};
 
 impl Session {
@@ -72,8 +73,44 @@ impl Session {
         self.record(&[b"W", name(a), &code]);
     }
 
+    /// W with every front of a word, from the belt alone to the word itself,
+    /// and with a wrong digit in one of them; sometimes of a plan that is loaded
+    /// for the length of its words.
+    pub(super) fn fronts(&mut self) {
+        let a = match self.rng.chance(20) {
+            true => self.load_deep_plan(),
+            false => self.held_slot(),
+        };
+        let Some(held) = self.slots[a].clone() else {
+            return self.record(&[b"W", name(a), b"1"]);
+        };
+        let word = self.word_of(&held);
+        for end in 1..=word.len() {
+            self.record(&[b"W", name(a), &word[..end]]);
+        }
+        let mut front = word[..self.rng.between(1, word.len())].to_vec();
+        let place = self.rng.below(front.len());
+        front[place] = plans::wrong_digit(&mut self.rng, held.shape, place);
+        self.record(&[b"W", name(a), &front]);
+    }
+
+    /// A from-word, often the longest. Those of a plan that came from another
+    /// aren't known here, and any word does for them.
+    fn word_of(&mut self, held: &Held) -> Word {
+        let longest = held
+            .rows
+            .iter()
+            .map(|(from, _)| from)
+            .max_by_key(|w| w.len());
+        match longest {
+            None => plans::random_code(&mut self.rng, held.shape, 6),
+            Some(word) if self.rng.chance(40) => word.clone(),
+            Some(_) => self.rng.pick(&held.rows).0.clone(),
+        }
+    }
+
     /// A code for a slot: behind one of its from-words, a beginning of one,
-    /// any code of the shape, or a very long one.
+    /// any code of the shape, a few digits, or a very long one.
     fn code_for(&mut self, slot: usize) -> Word {
         let Some(held) = self.slots[slot].clone() else {
             return b"1".to_vec();
@@ -81,6 +118,9 @@ impl Session {
         let length = self.rng.between(1, 20);
         let mut code = plans::random_code(&mut self.rng, held.shape, length);
         if held.rows.is_empty() {
+            if self.rng.chance(50) {
+                code.truncate(self.rng.between(1, 4));
+            }
             return code;
         }
         let word = &self.rng.pick(&held.rows).0;

@@ -68,6 +68,22 @@ fn every_boundary_comes_up() {
     }
 }
 
+/// A front of so many digits is one that the next W has a digit more of.
+#[test]
+fn fronts_of_every_length_come_up() {
+    let lines = all_lines(0..200);
+    for digits in 1..16 {
+        let longer = |pair: &&[Vec<u8>]| {
+            let code = pair[0].strip_prefix(b"W\t");
+            code.is_some_and(|code| code.len() == 2 + digits)
+                && pair[1].len() == pair[0].len() + 1
+                && pair[1].starts_with(&pair[0])
+        };
+        let found = lines.windows(2).filter(longer).count();
+        assert!(found > 4, "{found} fronts of {digits} digits");
+    }
+}
+
 #[test]
 fn n_and_r_come_up_at_their_ends() {
     let lines = all_lines(0..200);

@@ -1,0 +1,63 @@
+//! The cases that are too long to write by hand: each is built here from a
+//! rule that stands in its comment, without any desk, and the files in
+//! `tests/cases` have to hold exactly these bytes. To write the files anew,
+//! run this test with WRITE_LONG_CASES set to anything.
+
+mod blocks;
+mod case;
+mod lines;
+mod plans;
+
+use case::Case;
+use std::fs;
+use std::path::PathBuf;
+
+fn all() -> Vec<Case> {
+    vec![
+        plans::kept(),
+        plans::joined(),
+        plans::too_many(),
+        plans::followed_too_far(),
+        plans::reduced_in_time(),
+        plans::power_in_between(),
+        lines::long_codes(),
+        lines::long_lines(),
+        lines::long_garbage(),
+        lines::last_line("long-last-line-1100", 1096, "no|9"),
+        lines::last_line("long-last-line-1101", 1097, "no|1"),
+        lines::last_line("long-last-line-9000", 8996, "no|1"),
+        blocks::of_128_pairs(),
+        blocks::of_long_words(),
+    ]
+}
+
+#[test]
+fn the_files_are_the_rules_written_out() {
+    let directory = PathBuf::from(env!("CARGO_MANIFEST_DIR")).join("../cases");
+    for case in all() {
+        let input = directory.join(format!("{}.in", case.name));
+        let output = directory.join(format!("{}.out", case.name));
+        if std::env::var_os("WRITE_LONG_CASES").is_some() {
+            fs::write(&input, &case.input).unwrap();
+            fs::write(&output, &case.output).unwrap();
+        }
+        assert!(fs::read(&input).unwrap() == case.input, "{}", case.name);
+        assert!(fs::read(&output).unwrap() == case.output, "{}", case.name);
+    }
+}
+
+#[test]
+fn the_rules_have_the_sizes_they_speak_of() {
+    assert_eq!(plans::still().len(), 128);
+    assert_eq!(plans::turned_belts(&[1, 2, 3, 4, 5, 6]).len(), 99);
+    let lines = lines::long_lines().input;
+    let lengths: Vec<usize> = lines
+        .split(|&byte| byte == b'\n')
+        .map(<[u8]>::len)
+        .collect();
+    assert!(lengths.contains(&1100) && lengths.contains(&1101));
+    assert!(lengths.iter().all(|&length| length <= 1101));
+    let deep = blocks::deep_rows();
+    assert!(deep.len() == 128 && deep.is_sorted());
+    assert_eq!(deep.iter().filter(|row| row.0.len() == 16).count(), 112);
+}
