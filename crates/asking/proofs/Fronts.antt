@@ -3,22 +3,21 @@
 use Prim.Native.Nat.{ℕ, _+_, _-_, _≤_}
 use mathlib.Core.Path.{_≡_, sym, _∙_, ap, subst}
 use mathlib.Core.Bool.{true}
-use mathlib.Core.List.{List, [], _∷_, _++_, map}
+use mathlib.Core.List.{List, [], _∷_, map}
 use native.Mathlib.Omega.{arith}
-use lib.Dec.{leb, leb→le}
 use lib.ListN.{length, take, drop, length-append, length-drop}
 use lib.Seq.{length-take-le, take-all}
 use Rattle.higman.specs.Words.{Word}
-use Rattle.higman.specs.Bases.{all}
 use Rattle.higman.specs.Tables.{Table}
-use Rattle.higman.specs.Limits.{Plan, Kept, maxPairs, maxDigits, fits, pairFits, granted, isCode}
+use Rattle.higman.specs.Limits.{Plan, Kept, maxPairs, maxDigits, isCode}
 use Rattle.higman.specs.Text.{byte, wordOf, decimal}
 use Rattle.higman.specs.Answers.{routed, TooShort}
 use Rattle.higman.specs.Listing.{pairLine, joinLines}
 use Rattle.higman.specs.Fronts.{block}
-use Rattle.higman.proofs.Tests.{so, and-left, and-right, all-at}
+use Rattle.higman.proofs.Tests.{so}
 use Rattle.higman.proofs.Statements.{answers-exact}
-use Rattle.higman.proofs.Fronts.{short-code, block-few}
+use Rattle.higman.proofs.Answers.{none-of-short}
+use Rattle.higman.proofs.Fronts.{block-few}
 use Rattle.words.specs.Packed.{unpack}
 use Rattle.words.specs.Bytes.{shape}
 use Rattle.words.specs.Writing.{Wrote}
@@ -32,20 +31,17 @@ use Rattle.tables.specs.Routing.{IsCode}
 use Rattle.operations.proofs.Codes.{searchable, code-digits}
 use Rattle.desk.specs.Bytes.{okLine}
 use Rattle.replies.specs.Sizes.{maxReply}
-use Rattle.replies.proofs.Lines.{block-lines}
-use Rattle.replies.proofs.Sizes.{few-pairs, block-lines-fit, block-count-fits}
+use Rattle.replies.proofs.Lines.{block-is-pair-lines}
+use Rattle.replies.proofs.Sizes.{few-pairs, words-fit, from-fits, block-lines-fit, block-count-fits}
 use Rattle.slots.specs.Works.{deskOrder}
 use Rattle.slots.proofs.Windows.{written-length}
 use Rattle.asking.specs.Asked.{AskedOfFront, blockReply}
 
 -- a code that begins a from-word has no more digits than that
 short-fits : (p : Plan) → Kept p → (w : Word) → routed p w ≡ TooShort → length w ≤ maxDigits
-unfolding granted
 short-fits p k w short =
-    let (q, i, x, m, e) = answers-exact .too-short p k w (short-code p w short .0) .0 short in
-    let within = all-at pairFits (p .rows) (and-right (leb (length (p .rows)) maxPairs) (all pairFits (p .rows)) (k .within)) q m in
-    let from-fits = leb→le (length (q .from)) maxDigits (and-left (fits (q .from)) (fits (q .to)) within) in
-    omega (arith, ap length e, length-append w (i ∷ x))
+    let (q, i, x, m, e) = answers-exact .too-short p k w (none-of-short p w short .0) .0 short in
+    omega (arith, from-fits q (words-fit p k q m), ap length e, length-append w (i ∷ x))
 
 module _ {from to code out : List ℕ} (a : AskedOfFront from to code out) where
   abbrev plan : Plan
@@ -57,7 +53,7 @@ module _ {from to code out : List ℕ} (a : AskedOfFront from to code out) where
   pub front-digits : IsCode code
   front-digits =
       code-digits (a .arity) (a .roots) from to (a .lent) code
-      (so (isCode (shape (a .arity) (a .roots)) (wordOf code)) (short-code plan (wordOf code) (a .short) .0))
+      (so (isCode (shape (a .arity) (a .roots)) (wordOf code)) (none-of-short plan (wordOf code) (a .short) .0))
 
   pub front-sorted : sorted (wordsOf from) ≡ true
   front-sorted = searchable (a .arity) (a .roots) from to (a .lent) code .in-order
@@ -121,4 +117,4 @@ module _ {from to code out : List ℕ} (a : AskedOfFront from to code out) where
       block-wrote {out″} {r} w =
           let last = subst (λ n. Wrote (okLine (decimal n ∷ [])) out′ used out″ r) run-count w in
           let first = subst (λ l. Wrote l out 0 out′ used) run-lines v in
-          subst (λ l. Wrote l out 0 out″ r) (sym (block-lines deskOrder inside)) (wrote-then (omega arith) first last)
+          subst (λ l. Wrote l out 0 out″ r) (sym (block-is-pair-lines deskOrder inside)) (wrote-then (omega arith) first last)

@@ -1,4 +1,4 @@
--- What the records that write their reply themselves, W, L and U, are asked of, and what U promises.
+-- What the records that write their reply themselves, W, L and U, are asked of, and what W with a front and U promise.
 use Prim.Native.Nat.{ℕ, _≤_}
 use mathlib.Core.Path.{_≡_}
 use mathlib.Core.List.{List}

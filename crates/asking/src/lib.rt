@@ -74,7 +74,7 @@ pub fn compare(head: Head, columns: &[u64], a: u8, b: u8) -> Work
 }
 
 // W of a code that no from-word begins (change request E1): "one line `B⇥from⇥to` for every pair whose from-word extends the code, in
-// from order, and closes with `ok⇥` and how many". Such a code has fewer digits than a plan word may have, so that its front is all of it.
+// from order, and closes with `ok⇥` and how many". Such a code has fewer digits than a plan word may have, so that `front` packs all of it.
 fn write_block(from: &[u64], to: &[u64], code: &[u8], out: &mut [u8]) -> usize
     requires { ⌜ AskedOfFront (now from) (now to) (now code) (now out) ⌝ }
     ensures { λ r. ⌜ Wrote (blockReply (now (from .entry)) (now (to .entry)) (now (code .entry))) (now (out .entry)) 0 (now (out .exit)) r ⌝ }

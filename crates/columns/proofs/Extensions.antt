@@ -11,26 +11,24 @@ use lib.ListN.{length, length-append}
 use Rattle.higman.specs.Words.{Word, begins, beginsProperly}
 use Rattle.higman.specs.Fronts.{block}
 use Rattle.higman.proofs.Tests.{passes, clash}
-use Rattle.higman.proofs.Prefixes.{begins-append, tail-of-begins, proper-tail, proper-of-tail}
+use Rattle.higman.proofs.Prefixes.{tail-of-begins, proper-tail, begins-of-proper, proper-of-tail}
 use Rattle.higman.proofs.Fronts.{block-taken, block-passed}
 use Rattle.words.specs.Packed.{unpack}
 use Rattle.columns.specs.Packed.{wordsOf, pairOf, table, rows, rowsAt, inOrder, sorted}
 use Rattle.columns.specs.Columns.{wordAt, PartedAt, Extending}
-use Rattle.columns.proofs.InOrder.{InOrder, in-order-of-test, test-of-in-order, in-order-of-begins, in-order-refl, in-order-antisym, begins-between}
+use Rattle.columns.proofs.InOrder.{InOrder, in-order-of-test, test-of-in-order, in-order-of-begins, in-order-refl}
+use Rattle.columns.proofs.InOrder.{in-order-antisym, begins-between}
 use Rattle.columns.proofs.WordOrder.{three-ways, in-order-total}
 use Rattle.columns.proofs.Places.{sorted-at}
 
 module _ (w u : Word) where
-  begins-of-proper : beginsProperly w u ≡ true → begins w u ≡ true
-  begins-of-proper e = let (i, x, f) = proper-tail w u e in subst (λ v. begins w v ≡ true) (sym f) (begins-append w (i ∷ x))
-
   -- a longer word that w begins is not in order with w
   proper-apart : inOrder u w ≡ true → beginsProperly w u ≡ false
   proper-apart o = ⊎-elim (λ e. absurd (never (proper-tail w u e) e)) (λ e. e) (passes (beginsProperly w u))
     where
       never : (i : ℕ) × (x : Word) × (u ≡ w ++ i ∷ x) → beginsProperly w u ≡ true → ⊥
       never (i, x, f) e =
-          let same = in-order-antisym u w (in-order-of-test u w o) (in-order-of-begins w u (begins-of-proper e)) in
+          let same = in-order-antisym u w (in-order-of-test u w o) (in-order-of-begins w u (begins-of-proper w u e)) in
           omega (arith, ap length (sym same ∙ f), length-append w (i ∷ x))
 
   -- and one that is not in order with w is longer, if w begins it
@@ -43,7 +41,7 @@ module _ (w u : Word) where
       by-tail (i ∷ x, f) = proper-of-tail w u i x f
 
   not-proper : begins w u ≡ false → beginsProperly w u ≡ false
-  not-proper b = ⊎-elim (λ e. absurd (clash (begins-of-proper e) b)) (λ e. e) (passes (beginsProperly w u))
+  not-proper b = ⊎-elim (λ e. absurd (clash (begins-of-proper w u e) b)) (λ e. e) (passes (beginsProperly w u))
 
 -- a walk from the start on has passed words that w begins
 pub record Passed (column : List ℕ) (w : Word) (start end : ℕ) : Type 0 where

@@ -31,7 +31,8 @@ pub record PartedAt (column : List ℕ) (w r : ℕ) : Type 0 where
 unfoldable pub placeIn : List Word → Word → ℕ
 placeIn c w = Option·getD (firstMatch (λ u. u) (λ place u tail. place) c w) (length c)
 
--- The words from the place start up to the place end are those that w begins and does not equal.
+-- The words from the place start up to the place end, which is not among them, are those that w begins and does not equal. (Where there is
+-- no such word the two places are equal, and any place between the words before w and those behind it will do.)
 pub record Extending (column : List ℕ) (w : Word) (start end : ℕ) : Type 0 where
   pub forward : start ≤ end
   pub within : end ≤ length column
@@ -73,7 +74,7 @@ placeIn-example : map (placeIn (spell 11 ∷ spell 12 ∷ [])) (spell 1211 ∷ s
 unfolding placeIn
 placeIn-example = refl
 
--- of 11, 111 and 12, the word 11 begins 111, itself and not 12
+-- of 11, 111 and 12, only 111 is begun by 11 and longer
 extending-example : Extending (0x11 ∷ 0x111 ∷ 0x12 ∷ []) (spell 11) 1 2
 unfolding unpack unpackIn
 extending-example = record { forward = omega arith; within = omega arith; front = front; inside = inside; back = back }

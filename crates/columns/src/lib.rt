@@ -1,6 +1,6 @@
-// Columns (document 01, "Codes"): sorted lists of packed words. What is asked of a column, which word of it begins a word, whether its
-// words overlap, whether a block is covered, is answered by binary search or in one pass over the words. Like those of the crate
-// `tables` above, these functions may ask something of their callers.
+// Columns (document 01, "Codes"): sorted lists of packed words. What is asked of a column, which word of it begins a word and
+// which words a word begins, whether its words overlap, whether a block is covered, is answered by binary search or in one pass over the
+// words. Like those of the crate `tables` above, these functions may ask something of their callers.
 ghost use mathlib.Core.Path.{_≡_};
 ghost use mathlib.Core.Bool.{true, false};
 ghost use Prim.Native.Nat.{_+_, _-_, _≤_};
@@ -18,7 +18,7 @@ pub mod sorting;
 
 use words::MAX_WAYS;
 
-// The places of a column from start on, up to end.
+// The places of a column from start on, up to end, which is not among them.
 pub struct Run {
     pub start: usize,
     pub end: usize,

@@ -30,8 +30,8 @@ use Rattle.desk.specs.Desk.{Draft, Desk, held, IsDesk}
 use Rattle.desk.specs.Records.{Record, P, M, E, F, I, K, S, W, L, C, T as Tᴿ, U, needsOpen, slotsNamed, isChange}
 use Rattle.higman.specs.Listing.{slotNumber}
 use Rattle.higman.specs.Text.{wordOf}
-use Rattle.desk.specs.Replies.{Reply, okWord, okBlock, Outcome, refuse, pass, _>>=_, isOpen, openAmiss, outside, atLimit, openPlan, planIn, ofVerdict}
-use Rattle.desk.specs.Replies.{ofAnswer, ofComparison, ofRoute, job, operation, _when_}
+use Rattle.desk.specs.Replies.{Reply, okWord, okBlock, Outcome, refuse, pass, _>>=_, isOpen, openAmiss, outside, atLimit}
+use Rattle.desk.specs.Replies.{openPlan, planIn, ofVerdict, ofAnswer, ofComparison, ofRoute, job, operation, _when_}
 use Rattle.desk.specs.Conditions.{Condition, inColumn, isEmpty, ofPlan, ofOpen, ofBoth, conditions, firstOf, refusalOf, _if_}
 
 -- an outcome is refused as the first condition that holds says

@@ -5,7 +5,7 @@ use mathlib.Core.Path.{_≡_, refl, sym, _∙_, ap, subst}
 use mathlib.Core.Logic.{_⊎_, inl, inr, _↔_}
 use mathlib.Core.Bool.{Bool, true, false}
 use mathlib.Core.List.{List, List·Memᴰ, List·Memᴰ·head, List·Memᴰ·tail}
-use mathlib.Core.Option.{Option, none, some, Option·some-injective, Option·none-ne-some}
+use mathlib.Core.Option.{some, Option·some-injective}
 use native.Mathlib.Omega.{arith}
 use lib.Dec.{T}
 use lib.IntN.{ℤ}
@@ -13,17 +13,17 @@ use borrow.Author.Tests.{lt-leb}
 use Rattle.higman.specs.Words.{Word, isWord}
 use Rattle.higman.specs.Tables.{Table, image, sameTable}
 use Rattle.higman.specs.Normal.{andThen, power}
-use Rattle.higman.specs.Limits.{Plan, Bases, Kept, isCode, slotCount}
+use Rattle.higman.specs.Limits.{Plan, Bases, Kept, slotCount}
 use Rattle.higman.specs.Answers.{Accepted, verdict, Answer, Granted, Refused, followed, inverted, powered, Comparison, Alike, NotCompared}
-use Rattle.higman.specs.Answers.{same, sameShape, Route, Image, TooShort, NotRouted, BadCode, ShapesDiffer, routed}
+use Rattle.higman.specs.Answers.{same, sameShape, Route, Image, TooShort, NotRouted, ShapesDiffer, routed}
 use Rattle.higman.specs.Theorems.{ActAlike}
 use Rattle.higman.specs.Fronts.{block, BlockOf, SendsInTurn}
 use Rattle.higman.proofs.Tests.{T-of}
 use Rattle.higman.proofs.KeptPlans.{arity-of-range}
-use Rattle.higman.proofs.Answers.{followed-cases, inverted-cases, shape-path}
+use Rattle.higman.proofs.Answers.{followed-cases, inverted-cases, shape-path, image-of-route, none-of-short}
 use Rattle.higman.proofs.Demand3.{demand3}
-use Rattle.higman.proofs.Statements.{normal-form, group-acts, answers-exact}
-use Rattle.higman.proofs.Fronts.{short-code, fronts-exact}
+use Rattle.higman.proofs.Statements.{normal-form, followed-acts, group-acts, answers-exact}
+use Rattle.higman.proofs.Fronts.{fronts-exact}
 use Rattle.higman.specs.Text.{Bytes, wordOf}
 use Rattle.desk.specs.Limits.{maxChanges}
 use Rattle.desk.specs.Desk.{Draft, Desk, countOf, held, IsDesk}
@@ -32,7 +32,7 @@ use Rattle.higman.specs.Listing.{slotNumber}
 use Rattle.desk.specs.Replies.{pass, Effect, Reply, silent, ok, okNumber, okWord, okBlock, lists, surveys, refuses, bit, ofAnswer}
 use Rattle.desk.specs.Replies.{ofComparison, ofRoute, keepIn, closed, job, operation}
 use Rattle.desk.specs.Theorems.{BlockReplied}
-use Rattle.desk.specs.Demands.{KeptAsTyped, KeptIn, Demand2}
+use Rattle.desk.specs.Demands.{KeptAsTyped, KeptIn, RoutedBy, Demand2}
 use Rattle.desk.proofs.ReadBack.{typed-in, listing-read-back}
 use Rattle.desk.proofs.TypedLines.{accepted-from-lines}
 use Rattle.desk.proofs.Outcomes.{Passes, stops, passes, passes-then, any-then, passed, plan-held, passes-operation}
@@ -120,9 +120,7 @@ follows d a b c e h o =
       record { effect = f; there = kept-there d (slotNumber c) e r h l′ f; kept = demand3 .followed-kept p q r P Q g },
       s,
       ap (λ z. z .shape) u,
-      λ w v i j.
-          subst (λ z. image (z .rows) w ≡ some v) (sym u)
-          (group-acts .compose-acts (p .shape) (arity-of-range (p .shape) (P .in-range)) (p .rows) (q .rows) (P .bases) (subst (λ z. Bases z (q .rows)) (sym s) (Q .bases)) w v i j),
+      followed-acts p q r P Q g,
     )
 
 -- I
@@ -181,33 +179,14 @@ route-steps d a code =
     passes-operation d (W a code) (λ _. passes-then (plan-held d a) (λ p x. passes-then (route-made _ (routed p (wordOf code)))
     (λ reply r. passes (p, reply, x, r, refl))))
 
-abbrev isImage : Route → Option Word
-isImage (Image v) = some v
-isImage TooShort = none
-isImage (NotRouted r) = none
-
--- a route that gives an image gives the plan's
-image-of-route : (p : Plan) (c v : Word) → routed p c ≡ Image v → image (p .rows) c ≡ some v
-unfolding routed
-image-of-route p c v e = go (isCode (p .shape) c) (image (p .rows) c) (ap isImage e)
-  where
-    go : (b : Bool) (o : Option Word)
-        → isImage (elim b as (λ _. Route) [ true ↦ elim o [ some v ↦ Image v | none ↦ TooShort ] | false ↦ NotRouted BadCode ]) ≡ some v
-        → o ≡ some v
-    go false o h = absurd (Option·none-ne-some v h)
-    go true none h = absurd (Option·none-ne-some v h)
-    go true (some u) h = h
-
 routes : (d : Desk) (a : ℕ) (code : Bytes) (e : Effect) → operation d (W a code) ≡ pass e
-    → (p : Plan) × (held d (slotNumber a) ≡ some p) × (((v : Word) × (image (p .rows) (wordOf code) ≡ some v) × (e ≡ (d, okWord v)))
-    ⊎ ((image (p .rows) (wordOf code) ≡ none) × (e ≡ (d, okBlock (block (p .rows) (wordOf code))))))
+    → (p : Plan) × (held d (slotNumber a) ≡ some p) × RoutedBy p (wordOf code) d e
 routes d a code e o = let (p, reply, x, r, f) = passed (route-steps d a code) e o in (p, x, by-route p reply f r)
   where
     by-route : (p : Plan) (reply : Reply) → e ≡ (d, reply) → RouteMade (block (p .rows) (wordOf code)) (routed p (wordOf code)) reply
-        → ((v : Word) × (image (p .rows) (wordOf code) ≡ some v) × (e ≡ (d, okWord v)))
-        ⊎ ((image (p .rows) (wordOf code) ≡ none) × (e ≡ (d, okBlock (block (p .rows) (wordOf code)))))
-    by-route p reply f (inl (v, r, g)) = inl (v, image-of-route p (wordOf code) v r, f ∙ ap (λ x. (d, x)) g)
-    by-route p reply f (inr (r, g)) = inr (short-code p (wordOf code) r .1, f ∙ ap (λ x. (d, x)) g)
+        → RoutedBy p (wordOf code) d e
+    by-route p reply f (inl (v, r, g)) = inl (v, image-of-route p (wordOf code) v r .1, f ∙ ap (λ x. (d, x)) g)
+    by-route p reply f (inr (r, g)) = inr (none-of-short p (wordOf code) r .1, f ∙ ap (λ x. (d, x)) g)
 
 block-replied : BlockReplied
 block-replied d D c code lines o =
@@ -217,7 +196,7 @@ block-replied d D c code lines o =
       p,
       x,
       subst (BlockOf p (wordOf code)) (sym same) (fronts-exact .kept-plan p kept (wordOf code) short),
-      λ a b A B g. subst (SendsInTurn a b (wordOf code)) (sym same) (fronts-exact .composed a b p A B g (wordOf code) short),
+      λ a b A B g. subst (SendsInTurn a b (wordOf code)) (sym same) (fronts-exact .composed a b p A B g (wordOf code) short .1),
     )
   where
     by-route : (p : Plan) (reply : Reply) → okBlock lines ≡ reply

@@ -18,7 +18,7 @@ use Rattle.higman.specs.Theorems.{ActAlike, ResultsReduced, MinimalExpansion, D
 use Rattle.higman.specs.Fronts.{block}
 use Rattle.higman.specs.Automorphisms.{PlansAreAutomorphisms}
 use Rattle.higman.specs.Refusals.{noRecord, wrongState, shapeOutside, badWord, pairsFull, wordsOverlap, rootUncovered, slotOutside}
-use Rattle.higman.specs.Refusals.{slotEmpty, shapesDiffer, limitBroken, powerOutside, bufferTooShort, invalidValue}
+use Rattle.higman.specs.Refusals.{slotEmpty, shapesDiffer, limitBroken, powerOutside, codeTooShort, bufferTooShort, invalidValue}
 use Rattle.higman.specs.Refusals.{countFull, Letter}
 use Rattle.desk.specs.Limits.{maxChanges, maxLine}
 use Rattle.desk.specs.Desk.{Draft, Desk, freshDesk, countOf, held, IsDesk, changed, withDraft, withPair, dropped}
@@ -78,7 +78,7 @@ pub record Demand1 : Type 0 where
   pub desk-stays : DeskStays
   -- the paper's numbers
   pub numbers : refusalNumbers ≡ 1 ∷ 2 ∷ 3 ∷ 4 ∷ 5 ∷ 6 ∷ 7 ∷ 8 ∷ 9 ∷ 10 ∷ 11 ∷ 12 ∷ 16 ∷ []
-  pub library-numbers : (bufferTooShort ≡ 14) × (invalidValue ≡ 15)
+  pub library-numbers : (codeTooShort ≡ 13) × (bufferTooShort ≡ 14) × (invalidValue ≡ 15)
   -- 1 exactly where a line is no record, a record's line does what the record does, and every other number is given under its
   -- condition and no other: the first that holds
   pub no-record : (d : Desk) (line : Bytes) → ((c : Option Letter) × (lineOperation d line ≡ refuse noRecord c)) ↔ NoRecord line
@@ -145,6 +145,12 @@ pub record KeptIn (d : Desk) (c : ℕ) (e : Effect) (p : Plan) : Type 0 where
   pub there : held (e .0) (slotNumber c) ≡ some p
   pub kept : Kept p
 
+-- W: the image of a code under a plan or, where it has none, its block
+abbrev pub RoutedBy : Plan → Word → Desk → Effect → Type 0
+RoutedBy p w d e =
+    ((v : Word) × (image (p .rows) w ≡ some v) × (e ≡ (d, okWord v)))
+    ⊎ ((image (p .rows) w ≡ none) × (e ≡ (d, okBlock (block (p .rows) w))))
+
 -- Demand 2: plans accepted exactly when both columns are bases, operations those of G(n,r), a listing read back is the same plan.
 pub record Demand2 : Type 0 where
   pub accepted : (d : Desk) (o : Draft) → IsDesk d → d .draft ≡ some o
@@ -158,10 +164,8 @@ pub record Demand2 : Type 0 where
       × ((w v : Word) → T (isWord (p .shape) w) → image (p .rows) w ≡ some v → image (r .rows) v ≡ some w)
   pub repeats : (d : Desk) (a c : ℕ) (k : ℤ) (e : Effect) → IsDesk d → operation d (K a k c) ≡ pass e
       → (p : Plan) × (held d (slotNumber a) ≡ some p) × KeptIn d c e (record { shape = p .shape; rows = power (p .shape) (p .rows) k })
-  -- W: the image, and where there is none the block
   pub routes : (d : Desk) (a : ℕ) (code : Bytes) (e : Effect) → operation d (W a code) ≡ pass e
-      → (p : Plan) × (held d (slotNumber a) ≡ some p) × (((v : Word) × (image (p .rows) (wordOf code) ≡ some v) × (e ≡ (d, okWord v)))
-      ⊎ ((image (p .rows) (wordOf code) ≡ none) × (e ≡ (d, okBlock (block (p .rows) (wordOf code))))))
+      → (p : Plan) × (held d (slotNumber a) ≡ some p) × RoutedBy p (wordOf code) d e
   pub blocks : BlockReplied
   pub compares : (d : Desk) (a b : ℕ) (e : Effect) → IsDesk d → operation d (S a b) ≡ pass e
       → (p : Plan) × (q : Plan) × (held d (slotNumber a) ≡ some p) × (held d (slotNumber b) ≡ some q)

@@ -29,7 +29,7 @@ pub data Record : Type 0 where
   K : ℕ → ℤ → ℕ → Record
   -- S⇥a⇥b: whether the plans act alike
   S : ℕ → ℕ → Record
-  -- W⇥a⇥code: the image
+  -- W⇥a⇥code: the image or, of a front, the block
   W : ℕ → Bytes → Record
   -- L⇥a lists the plan
   L : ℕ → Record

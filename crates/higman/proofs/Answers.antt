@@ -1,20 +1,21 @@
--- What a granted answer is: the composition, the inverse and the power of the group, within the limits. And when a power is refused.
+-- What a granted answer is: the composition, the inverse and the power of the group, within the limits. When a power is refused. And what
+-- a route says of its code.
 use Prim.Native.Nat.{ℕ, zero, suc, _≤_}
 use mathlib.Core.Path.{_≡_, refl, sym, _∙_, ap, subst}
 use mathlib.Core.Logic.{_⊎_, inl, inr, ⊎-elim, _↔_}
 use mathlib.Core.Bool.{Bool, true, false}
-use mathlib.Core.Option.{Option, none, some}
+use mathlib.Core.Option.{Option, none, some, Option·none-ne-some}
 use native.Mathlib.Nat.{le-refl}
 use native.Mathlib.Omega.{arith}
 use lib.Dec.{T, leb, leb·zero, eqb, eqb-refl, eqb→eq}
 use borrow.Author.Tests.{leb-true, leb-false}
 use lib.IntN.{ℤ, pos, negsuc, natAbs}
-use Rattle.higman.specs.Words.{Shape}
-use Rattle.higman.specs.Tables.{Table}
+use Rattle.higman.specs.Words.{Shape, Word}
+use Rattle.higman.specs.Tables.{Table, image}
 use Rattle.higman.specs.Normal.{compose, inverse, identity, repeated, power}
-use Rattle.higman.specs.Limits.{Plan, granted, maxPower}
+use Rattle.higman.specs.Limits.{Plan, granted, isCode, maxPower}
 use Rattle.higman.specs.Answers.{Answer, Granted, Refused, Refusal, ShapesDiffer, LimitBroken, PowerOutside, refusalNumber}
-use Rattle.higman.specs.Answers.{sameShape, grant, followed, inverted, raised, repeatable, powered}
+use Rattle.higman.specs.Answers.{sameShape, grant, followed, inverted, raised, repeatable, powered, BadCode, Route, Image, TooShort, NotRouted, routed}
 use Rattle.higman.proofs.Tests.{passes, so, T-of, clash, and-left, and-right, and-intro}
 
 abbrev IsGranted : Answer → Type 0
@@ -197,3 +198,36 @@ powered-one a u e g = powered-is a (pos 1) one-inside (some u) (raised-one (a .s
 
 pub powered-minus-one : (a : Plan) (u : Table) → compose (a .shape) (identity (a .shape)) (inverse (a .shape) (a .rows)) ≡ u → T (granted u) → powered a (negsuc 0) ≡ Granted (record { shape = a .shape; rows = u })
 powered-minus-one a u e g = powered-is a (negsuc 0) one-inside (some u) (raised-one (a .shape) (inverse (a .shape) (a .rows)) u e g)
+
+-- a route is of a code, and its answer says what the image is
+abbrev routeBy : Bool → Option Word → Route
+routeBy b o = elim b [ true ↦ elim o [ some v ↦ Image v | none ↦ TooShort ] | false ↦ NotRouted BadCode ]
+
+abbrev imageIn : Route → Option Word
+imageIn (Image v) = some v
+imageIn TooShort = none
+imageIn (NotRouted r) = none
+
+abbrev isShort : Route → Type 0
+isShort (Image v) = ⊥
+isShort TooShort = Unit {0}
+isShort (NotRouted r) = ⊥
+
+module _ (a : Plan) (w : Word) where
+  pub image-of-route : (v : Word) → routed a w ≡ Image v → T (isCode (a .shape) w) × (image (a .rows) w ≡ some v)
+  unfolding routed
+  image-of-route v e = by-tests (isCode (a .shape) w) (image (a .rows) w) (ap imageIn e)
+    where
+      by-tests : (b : Bool) (o : Option Word) → imageIn (routeBy b o) ≡ some v → T b × (o ≡ some v)
+      by-tests false o h = absurd (Option·none-ne-some v h)
+      by-tests true none h = absurd (Option·none-ne-some v h)
+      by-tests true (some u) h = (tt, h)
+
+  pub none-of-short : routed a w ≡ TooShort → T (isCode (a .shape) w) × (image (a .rows) w ≡ none)
+  unfolding routed
+  none-of-short e = by-tests (isCode (a .shape) w) (image (a .rows) w) (subst isShort (sym e) tt)
+    where
+      by-tests : (b : Bool) (o : Option Word) → isShort (routeBy b o) → T b × (o ≡ none)
+      by-tests false o h = absurd h
+      by-tests true none h = (tt, refl)
+      by-tests true (some v) h = absurd h

@@ -1,32 +1,31 @@
 -- The block of a front: which pairs it has, that they stand in order, and that it sends every longer code as the plan does. The term of the
 -- statement of specs/Fronts.antt; for *a then b* by what compositions do.
 use Prim.Native.Nat.{_≤_}
-use mathlib.Core.Path.{_≡_, refl, sym, _∙_, ap, subst}
+use mathlib.Core.Path.{_≡_, refl, sym, _∙_, ap}
 use mathlib.Core.Logic.{_⊎_, inl, inr}
 use mathlib.Core.Bool.{Bool, true, false}
-use mathlib.Core.List.{[], _∷_, _++_, append-nil, List·Memᴰ, List·Memᴰ·head, List·Memᴰ·tail, List·Memᴰ·cases-cons, List·Memᴰ·not-nil, Memᴰ·map}
-use mathlib.Core.Option.{Option, none, some, Option·none-ne-some, Option·some-injective}
+use mathlib.Core.List.{[], _∷_, _++_, List·Memᴰ, List·Memᴰ·head, List·Memᴰ·tail, List·Memᴰ·cases-cons, List·Memᴰ·not-nil, Memᴰ·map}
+use mathlib.Core.Option.{some}
 use native.Mathlib.Omega.{arith}
 use lib.Dec.{T}
 use lib.ListN.{length}
 use Rattle.higman.specs.Words.{Word, begins, beginsProperly}
 use Rattle.higman.specs.Tables.{Pair, Table, froms, image}
-use Rattle.higman.specs.Normal.{compose, ordered}
-use Rattle.higman.specs.Limits.{Plan, Bases, Kept, isCode}
-use Rattle.higman.specs.Answers.{followed, Granted, Route, Image, TooShort, NotRouted, BadCode, routed}
+use Rattle.higman.specs.Normal.{ordered}
+use Rattle.higman.specs.Limits.{Plan, Kept}
+use Rattle.higman.specs.Answers.{followed, Granted, TooShort, routed}
 use Rattle.higman.specs.Fronts.{block, SentByOne, BlockOf, SendsInTurn, FrontsExact}
-use Rattle.higman.proofs.Tests.{so, T-of, clash, pair-path}
+use Rattle.higman.proofs.Tests.{so, T-of, clash}
 use Rattle.higman.proofs.Prefixes.{tail-of-begins, comparable, proper-of-tail}
 use Rattle.higman.proofs.Proper.{Apart}
-use Rattle.higman.proofs.Images.{row-of-image, image-of-row, image-of-from}
+use Rattle.higman.proofs.Images.{row-of-image, longer-of-none}
 use Rattle.higman.proofs.Actions.{and-then-some}
-use Rattle.higman.proofs.Expansions.{same-of-apart}
+use Rattle.higman.proofs.Smallest.{one-row}
 use Rattle.higman.proofs.Columns.{overlap-of-apart}
 use Rattle.higman.proofs.Ordered.{Before, Sorted, sorted-of-test, test-of-sorted, ordered-apart, before-froms}
-use Rattle.higman.proofs.KeptPlans.{arity-of-range}
-use Rattle.higman.proofs.Answers.{followed-cases}
+use Rattle.higman.proofs.Answers.{none-of-short}
 use Rattle.higman.proofs.Demand3.{demand3}
-use Rattle.higman.proofs.Statements.{group-acts, answers-exact}
+use Rattle.higman.proofs.Statements.{followed-acts, answers-exact}
 
 -- one pair of a table more
 module _ (p : Pair) (t : Table) (w : Word) where
@@ -94,41 +93,9 @@ sorted-block (q ∷ t) w h = by-test (beginsProperly w (q .from)) (sorted-block 
     by-test true rest = (before-froms (q .from) (block t w) before-rest, rest)
     by-test false rest = rest
 
-length-of-mem : {p : Pair} {t : Table} → List·Memᴰ p t → 1 ≤ length t
-length-of-mem (List·Memᴰ·head e) = omega arith
-length-of-mem (List·Memᴰ·tail m) = omega arith
-
--- a table whose from-words are apart has one pair at most whose from-word begins a code
-one-row : (t : Table) → Apart (froms t) → (p q : Pair) → List·Memᴰ p t → List·Memᴰ q t → (x y : Word) → p .from ++ x ≡ q .from ++ y → p ≡ q
-one-row t a p q m n x y e = by-from (by-either (comparable (p .from) (q .from) x y e))
-  where
-    from-listed : {r : Pair} → List·Memᴰ r t → List·Memᴰ (r .from) (froms t)
-    from-listed k = Memᴰ·map (λ r. r .from) k
-
-    by-either : ((z : Word) × (q .from ≡ p .from ++ z)) ⊎ ((z : Word) × (p .from ≡ q .from ++ z)) → p .from ≡ q .from
-    by-either (inl (z, f)) = same-of-apart (froms t) a (p .from) (q .from) z (from-listed m) (from-listed n) f
-    by-either (inr (z, f)) = sym (same-of-apart (froms t) a (q .from) (p .from) z (from-listed n) (from-listed m) f)
-
-    by-from : p .from ≡ q .from → p ≡ q
-    by-from f =
-        pair-path f (Option·some-injective (p .to) (q .to) (sym (image-of-from t a p m) ∙ ap (image t) f ∙ image-of-from t a q n))
-
-abbrev isShort : Route → Type 0
-isShort (Image v) = ⊥
-isShort TooShort = Unit {0}
-isShort (NotRouted r) = ⊥
-
--- a code that is too short is a code, and has no image
-pub short-code : (a : Plan) (w : Word) → routed a w ≡ TooShort → T (isCode (a .shape) w) × (image (a .rows) w ≡ none)
-unfolding routed
-short-code a w e = by-tests (isCode (a .shape) w) (image (a .rows) w) (subst isShort (sym e) tt)
-  where
-    by-tests : (b : Bool) (o : Option Word)
-        → isShort (elim b as (λ _. Route) [ true ↦ elim o [ some v ↦ Image v | none ↦ TooShort ] | false ↦ NotRouted BadCode ])
-        → T b × (o ≡ none)
-    by-tests false o h = absurd h
-    by-tests true none h = (tt, refl)
-    by-tests true (some v) h = absurd h
+nonempty-of-mem : {p : Pair} {t : Table} → List·Memᴰ p t → 1 ≤ length t
+nonempty-of-mem (List·Memᴰ·head e) = omega arith
+nonempty-of-mem (List·Memᴰ·tail m) = omega arith
 
 module _ (a : Plan) (A : Kept a) (w : Word) (short : routed a w ≡ TooShort) where
   rows-ordered : Sorted (froms (a .rows))
@@ -137,21 +104,14 @@ module _ (a : Plan) (A : Kept a) (w : Word) (short : routed a w ≡ TooShort) wh
   block-ordered : ordered (froms (block (a .rows) w)) ≡ true
   block-ordered = test-of-sorted (froms (block (a .rows) w)) (sorted-block (a .rows) w rows-ordered)
 
-  -- no from-word begins the front, so one that meets a longer code extends the front
-  extends : (p : Pair) → List·Memᴰ p (a .rows) → (x y : Word) → w ++ x ≡ p .from ++ y → T (beginsProperly w (p .from))
-  extends p m x y e = by-either (comparable w (p .from) x y e)
-    where
-      no-image : (z : Word) → w ≡ p .from ++ z → ⊥
-      no-image z f =
-          Option·none-ne-some (p .to ++ z)
-          (sym (short-code a w short .1)
-          ∙ ap (image (a .rows)) f
-          ∙ image-of-row (a .rows) (ordered-apart (froms (a .rows)) (A .in-order)) p m z)
+  apart : Apart (froms (a .rows))
+  apart = ordered-apart (froms (a .rows)) (A .in-order)
 
-      by-either : ((z : Word) × (p .from ≡ w ++ z)) ⊎ ((z : Word) × (w ≡ p .from ++ z)) → T (beginsProperly w (p .from))
-      by-either (inl ([], f)) = absurd (no-image [] (sym (append-nil w) ∙ sym f ∙ sym (append-nil (p .from))))
-      by-either (inl (i ∷ z, f)) = T-of (proper-of-tail w (p .from) i z f)
-      by-either (inr (z, f)) = absurd (no-image z f)
+  -- no from-word begins the front, so one that begins a longer code extends the front
+  extends : (p : Pair) → List·Memᴰ p (a .rows) → (x y : Word) → w ++ x ≡ p .from ++ y → T (beginsProperly w (p .from))
+  extends p m x y e =
+      let (i, z, f) = longer-of-none (a .rows) apart w (none-of-short a w short .1) p m (comparable w (p .from) x y e) in
+      T-of (proper-of-tail w (p .from) i z f)
 
   sends : (code v : Word) → T (begins w code) → image (a .rows) code ≡ some v → SentByOne (block (a .rows) w) code v
   sends code v b i =
@@ -171,12 +131,12 @@ module _ (a : Plan) (A : Kept a) (w : Word) (short : routed a w ≡ TooShort) wh
           → T (begins (q .from) code) → q ≡ p
       only p tail m f q n c =
           let (y, e) = tail-of-begins (q .from) code (so (begins (q .from) code) c) in
-          one-row (a .rows) (ordered-apart (froms (a .rows)) (A .in-order)) q p (block-own (a .rows) w q n .0) m y tail (sym e ∙ f)
+          one-row (a .rows) apart q p (block-own (a .rows) w q n .0) m y tail (sym e ∙ f)
 
   some-line : 1 ≤ length (block (a .rows) w)
   some-line =
-      let (p, i, x, m, e) = answers-exact .too-short a A w (short-code a w short .0) .0 short in
-      length-of-mem (in-block (a .rows) w p m (T-of (proper-of-tail w (p .from) i x e)))
+      let (p, i, x, m, e) = answers-exact .too-short a A w (none-of-short a w short .0) .0 short in
+      nonempty-of-mem (in-block (a .rows) w p m (T-of (proper-of-tail w (p .from) i x e)))
 
   block-of : BlockOf a w (block (a .rows) w)
   block-of =
@@ -188,16 +148,21 @@ module _ (a : Plan) (A : Kept a) (w : Word) (short : routed a w ≡ TooShort) wh
         sends = sends;
       }
 
--- what the composition does, the two plans do in turn
+-- what the two plans do in turn, the composition does
 composed : (a b c : Plan) → Kept a → Kept b → followed a b ≡ Granted c → (w : Word) → routed c w ≡ TooShort
-    → SendsInTurn a b w (block (c .rows) w)
-composed a b c A B g w short code u v word front i j =
-    let (same-shape, within, c-is) = followed-cases a b c g in
-    let s = a .shape in
-    let there : image (compose s (a .rows) (b .rows)) code ≡ some v =
-    group-acts .compose-acts s (arity-of-range s (A .in-range)) (a .rows) (b .rows) (A .bases) (subst (λ z. Bases z (b .rows)) (sym same-shape) (B .bases)) code v word
-    (and-then-some (image (a .rows)) (image (b .rows)) code u i ∙ j) in
-    sends c (demand3 .followed-kept a b c A B g) w short code v front (subst (λ p. image (p .rows) code ≡ some v) (sym c-is) there)
+    → BlockOf c w (block (c .rows) w) × SendsInTurn a b w (block (c .rows) w)
+composed a b c A B g w short =
+    let C = demand3 .followed-kept a b c A B g in (
+      block-of c C w short,
+      λ code u v word front i j.
+          sends c C w short code v front
+          (followed-acts a b c A B g code v word (and-then-some (image (a .rows)) (image (b .rows)) code u i ∙ j)),
+    )
 
 pub fronts-exact : FrontsExact
-fronts-exact = record { kept-plan = block-of; composed = composed }
+fronts-exact =
+    record {
+      pairs = λ t w p. (block-own t w p, λ h. in-block t w p (h .0) (h .1));
+      kept-plan = block-of;
+      composed = composed;
+    }

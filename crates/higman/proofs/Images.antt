@@ -58,6 +58,19 @@ pub image-of-from : (t : Table) → Apart (froms t) → (p : Pair) → List·Mem
 image-of-from t a p m =
     sym (ap (image t) (append-nil (p .from))) ∙ image-of-row t a p m [] ∙ ap some (append-nil (p .to))
 
+-- no from-word begins a word without an image, so one that is comparable with it is longer
+pub longer-of-none : (t : Table) → Apart (froms t) → (w : Word) → image t w ≡ none → (p : Pair) → List·Memᴰ p t
+    → ((z : Word) × (p .from ≡ w ++ z)) ⊎ ((z : Word) × (w ≡ p .from ++ z)) → (i : ℕ) × (x : Word) × (p .from ≡ w ++ i ∷ x)
+longer-of-none t a w e p m k = go k
+  where
+    not-begun : (z : Word) → w ≡ p .from ++ z → ⊥
+    not-begun z f = Option·none-ne-some (p .to ++ z) (sym e ∙ ap (image t) f ∙ image-of-row t a p m z)
+
+    go : ((z : Word) × (p .from ≡ w ++ z)) ⊎ ((z : Word) × (w ≡ p .from ++ z)) → (i : ℕ) × (x : Word) × (p .from ≡ w ++ i ∷ x)
+    go (inl ([], f)) = absurd (not-begun [] (sym (append-nil w) ∙ sym f ∙ sym (append-nil (p .from))))
+    go (inl (i ∷ x, f)) = (i, x, f)
+    go (inr (z, f)) = absurd (not-begun z f)
+
 -- what a block goes to, its parts follow
 pub image-steady : (t : Table) → Apart (froms t) → (w v x : Word) → image t w ≡ some v → image t (w ++ x) ≡ some (v ++ x)
 image-steady t a w v x e = let (p, y, m, f, g) = row-of-image t w v e in go p y m f g

@@ -107,5 +107,8 @@ proper-tail u w e = by-tail (after u w) refl e
     by-tail (some []) h k = absurd (clash k refl)
     by-tail (some (i ∷ x)) h k = (i, x, after-some u w (i ∷ x) h)
 
+pub begins-of-proper : (u w : Word) → beginsProperly u w ≡ true → begins u w ≡ true
+begins-of-proper u w e = let (i, x, f) = proper-tail u w e in subst (λ v. begins u v ≡ true) (sym f) (begins-append u (i ∷ x))
+
 pub proper-of-tail : (u w : Word) (i : ℕ) (x : Word) → w ≡ u ++ i ∷ x → beginsProperly u w ≡ true
 proper-of-tail u w i x e = subst (λ v. beginsProperly u v ≡ true) (sym e) (rw (after-append u (i ∷ x), beginsProperly))

@@ -3,7 +3,7 @@
 use Prim.Native.Nat.{ℕ, suc, _≤_, _<_, zero-le, suc-le-suc}
 use mathlib.Core.Path.{_≡_, refl, sym, _∙_, ap, subst}
 use mathlib.Core.Logic.{_⊎_, inl, inr}
-use mathlib.Core.List.{List, [], _∷_, _++_, append-assoc, append-cancel-right, Memᴰ·map, Memᴰ·of-map, List·Permᴰ}
+use mathlib.Core.List.{List, [], _∷_, _++_, append-assoc, Memᴰ·map, Memᴰ·of-map, List·Permᴰ}
 use mathlib.Core.List.{List·Memᴰ, List·Memᴰ·head, List·Memᴰ·tail, List·Memᴰ·cases-cons}
 use mathlib.Core.Option.{Option·some-injective}
 use native.Mathlib.Nat.{le-trans}
@@ -15,7 +15,7 @@ use Rattle.higman.specs.Bases.{all, longest}
 use Rattle.higman.specs.Tables.{Pair, Table, froms, image}
 use Rattle.higman.specs.Normal.{keep}
 use Rattle.higman.specs.Limits.{maxPairs, maxDigits, fits, pairFits, granted}
-use Rattle.higman.proofs.Tests.{IsWord, and-left, and-right, and-intro, all-at, all-of}
+use Rattle.higman.proofs.Tests.{IsWord, and-left, and-right, and-intro, all-at, all-of, pair-path}
 use Rattle.higman.proofs.Prefixes.{comparable, word-append, ones, ones-ways, ones-length}
 use Rattle.higman.proofs.Proper.{Apart}
 use Rattle.higman.proofs.Images.{row-of-image, image-of-row, image-of-from}
@@ -52,20 +52,20 @@ length-le-of-extended (u ∷ c) e a h =
 abbrev pub Extended : Table → Pair → Type 0
 Extended t p = (q : Pair) × (x : Word) × List·Memᴰ q t × (q .from ≡ p .from ++ x) × (q .to ≡ p .to ++ x)
 
+-- two pairs of a table that begin one word are one pair
+pub one-row : (t : Table) → Apart (froms t) → (p q : Pair) → List·Memᴰ p t → List·Memᴰ q t → (x y : Word) → p .from ++ x ≡ q .from ++ y
+    → p ≡ q
+one-row t a p q m k x y e = same-pair (same-from (comparable (p .from) (q .from) x y e))
+  where
+    same-from : ((z : Word) × (q .from ≡ p .from ++ z)) ⊎ ((z : Word) × (p .from ≡ q .from ++ z)) → p .from ≡ q .from
+    same-from (inl (z, f)) = same-of-apart (froms t) a (p .from) (q .from) z (Memᴰ·map (λ r. r .from) m) (Memᴰ·map (λ r. r .from) k) f
+    same-from (inr (z, f)) =
+        sym (same-of-apart (froms t) a (q .from) (p .from) z (Memᴰ·map (λ r. r .from) k) (Memᴰ·map (λ r. r .from) m) f)
+
+    same-pair : p .from ≡ q .from → p ≡ q
+    same-pair f = pair-path f (Option·some-injective _ _ (sym (image-of-from t a p m) ∙ ap (image t) f ∙ image-of-from t a q k))
+
 module _ (s : Shape) (n : 1 ≤ s .arity) where
-  -- two pairs of a table that begin one word are one pair
-  one-row : (t : Table) → Apart (froms t) → (p q : Pair) → List·Memᴰ p t → List·Memᴰ q t → (x y : Word) → p .from ++ x ≡ q .from ++ y → (p .from ≡ q .from) × (p .to ≡ q .to)
-  one-row t a p q m k x y e = let f = go (comparable (p .from) (q .from) x y e) in (f, to f)
-    where
-      go : ((z : Word) × (q .from ≡ p .from ++ z)) ⊎ ((z : Word) × (p .from ≡ q .from ++ z)) → p .from ≡ q .from
-      go (inl (z, f)) = same-of-apart (froms t) a (p .from) (q .from) z (Memᴰ·map (λ r. r .from) m) (Memᴰ·map (λ r. r .from) k) f
-      go (inr (z, f)) = sym (same-of-apart (froms t) a (q .from) (p .from) z (Memᴰ·map (λ r. r .from) k) (Memᴰ·map (λ r. r .from) m) f)
-
-      to : p .from ≡ q .from → p .to ≡ q .to
-      to f =
-          append-cancel-right (p .to) (q .to) []
-          (Option·some-injective _ _ (sym (image-of-row t a p m []) ∙ ap (λ w. image t (w ++ [])) f ∙ image-of-row t a q k []))
-
   -- Each pair of the normal form is extended by a pair of the table.
   pub keep-extended : (t : Table) → Element s t → (p : Pair) → List·Memᴰ p (keep s t) → Extended t p
   keep-extended t E p m =
@@ -94,8 +94,9 @@ module _ (s : Shape) (n : 1 ≤ s .arity) where
           let y′ = E .from-proper .words (q .from) (Memᴰ·map (λ r. r .from) l) in
           let e = keep-acts s n t E (q .from) (q .to) y′ (image-of-from t (E .from-proper .apart) q l) in
           let (r, y, h, f′, g′) = row-of-image (keep s t) (q .from) (q .to) e in
-          let (a, b) = one-row (keep s t) (K .element .from-proper .apart) p r m h (ones k) (y ++ z) (f ∙ ap (λ w. w ++ z) f′ ∙ append-assoc (r .from) y z) in
-          (q, y, l, f′ ∙ ap (λ w. w ++ y) (sym a), g′ ∙ ap (λ w. w ++ y) (sym b))
+          let same = sym (one-row (keep s t) (K .element .from-proper .apart) p r m h (ones k) (y ++ z)
+          (f ∙ ap (λ w. w ++ z) f′ ∙ append-assoc (r .from) y z)) in
+          (q, y, l, f′ ∙ ap (λ r. r .from ++ y) same, g′ ∙ ap (λ r. r .to ++ y) same)
 
   pub keep-length : (t : Table) → Element s t → length (keep s t) ≤ length t
   keep-length t E =

@@ -11,14 +11,14 @@ use lib.ListN.{length, length-append}
 use Rattle.higman.specs.Words.{Shape, Word, isWord}
 use Rattle.higman.specs.Bases.{Basis, Column, all, overlap, gap}
 use Rattle.higman.specs.Tables.{Pair, Table, froms, tos, image, sameTable}
-use Rattle.higman.specs.Normal.{keep, compose, inverse, power, Reduced, ordered}
+use Rattle.higman.specs.Normal.{keep, andThen, compose, inverse, power, Reduced, ordered}
 use Rattle.higman.specs.Limits.{Plan, Bases, Kept, shapeInRange, granted, isCode, maxCode}
 use Rattle.higman.specs.Answers.{Reason, Overlap, Gap, Verdict, Accepted, InFrom, InTo, fault, verdict, accepts, isTableOf, isKept}
-use Rattle.higman.specs.Answers.{same, Alike, NotCompared, Comparison, sameShape, Route, Image, TooShort, NotRouted, routed}
+use Rattle.higman.specs.Answers.{followed, Granted, same, Alike, NotCompared, Comparison, sameShape, Route, Image, TooShort, NotRouted, routed}
 use Rattle.higman.specs.Theorems.{NormalForm, GroupActs, AnswersExact, ActAlike}
 use Rattle.higman.proofs.Tests.{so, T-of, and-left, and-right, and-intro, IsWord, word-of-test, same-table, same-table-refl}
 use Rattle.higman.proofs.Proper.{Proper}
-use Rattle.higman.proofs.Images.{row-of-image, image-of-row}
+use Rattle.higman.proofs.Images.{row-of-image, longer-of-none}
 use Rattle.higman.proofs.Expansions.{same-of-apart}
 use Rattle.higman.proofs.Columns.{Comparable, comparable-of-proper, column-is-basis}
 use Rattle.higman.proofs.Results.{identity-bases}
@@ -29,7 +29,7 @@ use Rattle.higman.proofs.KeptPlans.{element-of-bases, bases-of-element,
 use Rattle.higman.proofs.KeptPlans.{member-of-kept, kept-of-member}
 use Rattle.higman.proofs.Joins.{any-joins}
 use Rattle.higman.proofs.Reached.{reached}
-use Rattle.higman.proofs.Answers.{powered-cases, power-refused, same-shape-refl}
+use Rattle.higman.proofs.Answers.{followed-cases, powered-cases, power-refused, same-shape-refl}
 use Rattle.higman.proofs.Demand3.{alike-rows, power-below}
 
 pub normal-form : NormalForm
@@ -46,6 +46,17 @@ normal-form =
       reached = reached;
       any-joins = any-joins;
     }
+
+-- what is granted of two plans acts as the first and then the second
+pub followed-acts : (a b c : Plan) → Kept a → Kept b → followed a b ≡ Granted c → (w v : Word) → T (isWord (a .shape) w)
+    → andThen (image (a .rows)) (image (b .rows)) w ≡ some v → image (c .rows) w ≡ some v
+followed-acts a b c A B g w v y e =
+    let (same-shape, within, c-is) = followed-cases a b c g in
+    let s = a .shape in
+    let n = arity-of-range s (A .in-range) in
+    let first = element-of-bases s (a .rows) n (A .bases) in
+    let second = element-of-bases s (b .rows) n (subst (λ z. Bases z (b .rows)) (sym same-shape) (B .bases)) in
+    subst (λ p. image (p .rows) w ≡ some v) (sym c-is) (compose-acts s n (a .rows) (b .rows) first second w v (word-of-test s w y) e)
 
 pub group-acts : GroupActs
 unfolding power
@@ -206,15 +217,8 @@ too-short a A w c = (to, from)
     under-a-pair e =
         let (u, m, k) = comparable-of-proper s (froms (a .rows)) (arity-of-range s (A .in-range)) P w (word-of-code s w c) in
         let (p, l, q) = Memᴰ·of-map (λ r. r .from) (a .rows) m in
-        go p l u q k
-      where
-        begun : (p : Pair) → List·Memᴰ p (a .rows) → (z : Word) → w ≡ p .from ++ z → ⊥
-        begun p l z f = Option·none-ne-some (p .to ++ z) (sym e ∙ ap (image (a .rows)) f ∙ image-of-row (a .rows) (P .apart) p l z)
-
-        go : (p : Pair) → List·Memᴰ p (a .rows) → (u : Word) → p .from ≡ u → Comparable w u → Begun a w
-        go p l u q (inr (z, f)) = absurd (begun p l z (f ∙ ap (λ v. v ++ z) (sym q)))
-        go p l u q (inl ([], f)) = absurd (begun p l [] (sym (append-nil w) ∙ sym (q ∙ f) ∙ sym (append-nil (p .from))))
-        go p l u q (inl (i ∷ x, f)) = (p, i, x, l, q ∙ f)
+        let (i, x, f) = longer-of-none (a .rows) (P .apart) w e p l (subst (Comparable w) (sym q) k) in
+        (p, i, x, l, f)
 
     to : routed a w ≡ TooShort → Begun a w
     to e = go (image (a .rows) w) refl

@@ -1,5 +1,5 @@
--- What the calls answer: the verdict on two columns, and a granted plan or a refusal for F, I, K, S and W. Each refusal has its
--- number of Refusals.antt. The contracts of the calls cite these answers. Read Listing.antt next.
+-- What the calls answer: the verdict on two columns, and a granted plan or a refusal for F, I, K, S and the library's route, which W asks
+-- too. Each refusal has its number of Refusals.antt. The contracts of the calls cite these answers. Read Listing.antt next.
 use Prim.Native.Nat.{ℕ, zero, suc}
 use mathlib.Core.Path.{_≡_, refl}
 use mathlib.Core.Bool.{Bool, true, false, _&&_}
@@ -129,7 +129,7 @@ routeNumber (Image w) = none
 routeNumber TooShort = some codeTooShort
 routeNumber (NotRouted r) = some (refusalNumber r)
 
--- W: "4; 13, the code is a proper beginning of a from-word"
+-- the route of a single code: "4; 13, the code is a proper beginning of a from-word"
 unfoldable pub routed : Plan → Word → Route
 routed a c =
     elim

@@ -20,7 +20,7 @@ pub data Reply : Type 0 where
   refuses : ℕ → Reply
   refusesColumn : ℕ → Letter → Reply
 
--- What E makes of these pairs, typed in; what F, I, K and W make of the plans that other questions keep.
+-- What E makes of these pairs, typed in; what F, I, K and the library's route make of the plans that other questions keep.
 pub data Question : Type 0 where
   typed : Table → Question
   inTurn : Question → Question → Question

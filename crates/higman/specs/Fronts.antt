@@ -48,11 +48,13 @@ SendsInTurn a b w lines =
     → SentByOne lines code v
 
 pub record FrontsExact : Type 0 where
+  -- the block of any word under any table
+  pub pairs : (t : Table) (w : Word) (p : Pair) → List·Memᴰ p (block t w) ↔ (List·Memᴰ p t × T (beginsProperly w (p .from)))
   -- where the library's route of a code says 13, the plan has a block for it
   pub kept-plan : (a : Plan) → Kept a → (w : Word) → routed a w ≡ TooShort → BlockOf a w (block (a .rows) w)
   -- the block of "a kept a then b"
   pub composed : (a b c : Plan) → Kept a → Kept b → followed a b ≡ Granted c → (w : Word) → routed c w ≡ TooShort
-      → SendsInTurn a b w (block (c .rows) w)
+      → BlockOf c w (block (c .rows) w) × SendsInTurn a b w (block (c .rows) w)
 
 -- "`B⇥111⇥11`, `B⇥112⇥121`"; the belt alone; a from-word, and a code behind one
 block-example : map (block ψ) (spell 11 ∷ spell 1 ∷ spell 12 ∷ spell 1112 ∷ [])
@@ -61,8 +63,7 @@ unfolding block
 block-example = refl
 
 -- 1121 begins with 112 alone of the two, and goes to 1211
-sent-example : SentByOne (block ψ (spell 11)) (spell 1121) (spell 1211)
-unfolding block
+sent-example : SentByOne (row 111 11 ∷ row 112 121 ∷ []) (spell 1121) (spell 1211)
 sent-example =
     record { line = row 112 121; tail = spell 1; listed = List·Memᴰ·tail (List·Memᴰ·head refl); begun = refl; sent = refl; only = only }
   where

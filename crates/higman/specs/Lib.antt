@@ -1,6 +1,7 @@
 -- The definitions, in reading order: words, and words as text; bases; tables; the normal form and the group; what is granted; the
--- numbers of the refusals; the answers of the calls; the listing; lent buffers; the statements of the theorems; fronts of codes
--- and their blocks; Higman's algebras, and the statement that the plans are their automorphisms; and the worked cases. proofs/ has a term of each statement.
+-- numbers of the refusals; the answers of the calls; the listing; lent buffers; the statements of the theorems; fronts of codes and
+-- their blocks; Higman's algebras, and the statement that the plans are their automorphisms; and the worked cases. proofs/ has a term
+-- of each statement.
 pub mod Words
 pub mod Text
 pub mod Bases

@@ -127,7 +127,7 @@ pub record RoutingExact : Type 0 where
   pub no-plan : (v : Plan) (code out : List ℕ) → isPlan v ≡ false → RouteRefused v code out (Reply.Refused 15)
   pub no-code : (v : Plan) (code out : List ℕ) → isPlan v ≡ true → isCode (shapeOf v) (wordOf code) ≡ false
       → RouteRefused v code out (Reply.Refused 4)
-  -- a code that W takes has an image or is too short
+  -- a code that is routed has an image or is too short
   pub image-or-short : (v : Plan) (code : List ℕ) → CodeTaken v code
       → ((x : Word) × (image (rowsOf v) (wordOf code) ≡ some x)) ⊎ ProperBeginning v code
   pub too-short : (v : Plan) (code out : List ℕ) → CodeTaken v code → ProperBeginning v code → RouteRefused v code out Reply.TooShort

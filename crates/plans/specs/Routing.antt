@@ -29,7 +29,7 @@ matched p code =
 abbrev pub matching : Plan → List ℕ → List ℕ
 matching p code = drop (matched p code) code
 
--- W: 15, 4, 13, 14
+-- the route of a single code: 15, 4, 13, 14
 unfoldable pub routing : Plan → List ℕ → ℕ → Route
 routing p code room = elim (isPlan p) [ true ↦ routingIn (Of.routed (planOf p) (wordOf code)) room | false ↦ Refused invalidValue ]
 

@@ -23,7 +23,7 @@ pub fn unmatched<'a>(p: Plan, code: &'a [u8]) -> &'a [u8]
     routing::unmatched(p.arity, p.roots, &from[..n], code)
 }
 
-// W: writes a code's image at the front of the buffer. 15, 4, 13, 14.
+// The route of a single code: writes its image at the front of the buffer. 15, 4, 13, 14.
 pub fn route(p: Plan, code: &[u8], out: &mut [u8]) -> Route
     ensures { λ r. ⌜ r ≡ routing p (now (code .entry)) (length (now (out .entry))) ⌝ }
     ensures { λ _. ⌜ now (out .exit) ≡ routedBuffer p (now (code .entry)) (now (out .entry)) ⌝ }

@@ -242,7 +242,7 @@ pub extern "C" fn plans_unmatched(p: Plan, code: &[u8]) -> usize
     tail.len()
 }
 
-// W: the image of a code.
+// The route of a single code: its image.
 #[no_mangle]
 pub extern "C" fn plans_route(p: Plan, code: &[u8], out: &mut [u8]) -> Written
     ensures { λ r. ⌜ r ≡ routedOf (routing p (now (code .entry)) (length (now (out .entry)))) ⌝ }

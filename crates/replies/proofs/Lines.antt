@@ -17,11 +17,11 @@ pub decimal-size : (d k : ℕ) → k < 10 ^ suc d → length (decimal k) ≤ suc
 decimal-size d k h = leb→le (length (decimal k)) (suc d) (digits-below d k .1 h)
 
 -- B⇥from⇥to
-part-line : (p : Pair) → lineOf (partFields p) ≡ pairLine (byte "B") p
-part-line p =
+part-is-pair-line : (p : Pair) → lineOf (partFields p) ≡ pairLine (byte "B") p
+part-is-pair-line p =
     ap (λ x. byte "B" ∷ tab ∷ x) (append-assoc (wordBytes (p .from)) (tab ∷ wordBytes (p .to)) (lineEnd ∷ []))
 
-pub block-lines : (order : Order) (t : Table)
+pub block-is-pair-lines : (order : Order) (t : Table)
     → replyBytes order (okBlock t) ≡ joinLines (map (pairLine (byte "B")) t) ++ okLine (decimal (length t) ∷ [])
-block-lines order t =
-    text-exact .replies order .block t ∙ ap (λ f. joinLines (map f t) ++ okLine (decimal (length t) ∷ [])) (λ i p. part-line p i)
+block-is-pair-lines order t =
+    text-exact .replies order .block t ∙ ap (λ f. joinLines (map f t) ++ okLine (decimal (length t) ∷ [])) (λ i p. part-is-pair-line p i)

@@ -1,27 +1,27 @@
--- Every reply has room in `maxReply` bytes: a listing by the limits of a plan, an image by those of a plan and of a code, a survey by the
--- number of slots, and every other reply by the digits of its number.
+-- Every reply has room in `maxReply` bytes: a listing and a block by the limits of a plan, an image by those of a plan and of a code, a
+-- survey by the number of slots, and every other reply by the digits of its number.
 use Prim.Native.Nat.{ℕ, suc, _+_, _*_, _^_, _≤_, _<_}
 use mathlib.Core.Path.{_≡_, refl, _∙_, ap}
-use mathlib.Core.Bool.{Bool, true, false}
 use mathlib.Core.List.{List, [], _∷_, _++_, map, map-map, List·Memᴰ, List·Memᴰ·head, List·Memᴰ·tail, List·Permᴰ, List·Permᴰ·nil}
 use mathlib.Core.List.{List·Permᴰ·cons, List·Permᴰ·swap, List·Permᴰ·trans}
-use mathlib.Core.Option.{Option, none, some, Option·none-ne-some}
+use mathlib.Core.Option.{Option, none, some}
 use native.Mathlib.Nat.{suc-mul}
 use native.Mathlib.Omega.{arith}
 use lib.Dec.{T, leb, leb→le}
 use lib.ListN.{length, length-append, length-map}
 use Rattle.higman.specs.Words.{Shape, Word, isWord}
 use Rattle.higman.specs.Bases.{all}
-use Rattle.higman.specs.Tables.{Pair, image}
+use Rattle.higman.specs.Tables.{Pair}
 use Rattle.higman.specs.Limits.{Plan, Kept, maxPairs, maxDigits, maxCode, slotCount, fits, pairFits, granted, isCode}
 use Rattle.higman.specs.Text.{Bytes, byte, wordBytes, decimal, lineEnd}
-use Rattle.higman.specs.Answers.{Route, Image, TooShort, NotRouted, BadCode, routed}
+use Rattle.higman.specs.Answers.{Image, routed}
 use Rattle.higman.specs.Fronts.{block}
 use Rattle.higman.specs.Refusals.{Letter}
 use Rattle.higman.specs.Listing.{pairLine, pairRecord, pairRecords, joinLines, closeRecord, listing}
 use Rattle.higman.proofs.Tests.{and-left, and-right, all-at}
 use Rattle.higman.proofs.Images.{row-of-image}
 use Rattle.higman.proofs.KeptPlans.{in-range}
+use Rattle.higman.proofs.Answers.{image-of-route}
 use Rattle.higman.proofs.Fronts.{block-own, block-few}
 use Rattle.words.proofs.Runs.{word-size}
 use Rattle.desk.specs.Desk.{Desk, IsDesk}
@@ -30,7 +30,7 @@ use Rattle.desk.specs.Bytes.{lineOf, okLine, noLine, columnField, heldFields, O
 use Rattle.desk.proofs.Surveys.{survey-exact}
 use Rattle.replies.specs.Lines.{HeldFits}
 use Rattle.replies.specs.Sizes.{maxReply, Rooms}
-use Rattle.replies.proofs.Lines.{decimal-size, block-lines}
+use Rattle.replies.proofs.Lines.{decimal-size, block-is-pair-lines}
 
 -- lines one behind the other, each of at most k bytes
 lines-fit : {A : Type 0} (f : A → Bytes) (k : ℕ) (l : List A) → ((a : A) → List·Memᴰ a l → length (f a) ≤ k)
@@ -47,12 +47,12 @@ module _ (p : Plan) (k : Kept p) where
   unfolding granted
   few-pairs = leb→le (length (p .rows)) maxPairs (and-left (leb (length (p .rows)) maxPairs) (all pairFits (p .rows)) (k .within))
 
-  words-fit : (q : Pair) → List·Memᴰ q (p .rows) → T (pairFits q)
+  pub words-fit : (q : Pair) → List·Memᴰ q (p .rows) → T (pairFits q)
   unfolding granted
   words-fit q m = all-at pairFits (p .rows) (and-right (leb (length (p .rows)) maxPairs) (all pairFits (p .rows)) (k .within)) q m
 
 module _ (q : Pair) (h : T (pairFits q)) where
-  from-fits : length (q .from) ≤ maxDigits
+  pub from-fits : length (q .from) ≤ maxDigits
   from-fits = leb→le (length (q .from)) maxDigits (and-left (fits (q .from)) (fits (q .to)) h)
 
   to-fits : length (q .to) ≤ maxDigits
@@ -86,25 +86,8 @@ pub block-fits : (order : Order) (p : Plan) (w : Word) → Kept p → length (re
 unfolding maxReply maxPairs
 block-fits order p w k =
     let t = block (p .rows) w in
-    let whole = ap length (block-lines order t) ∙ length-append (joinLines (map (pairLine (byte "B")) t)) (okLine (decimal (length t) ∷ [])) in
+    let whole = ap length (block-is-pair-lines order t) ∙ length-append (joinLines (map (pairLine (byte "B")) t)) (okLine (decimal (length t) ∷ [])) in
     omega (arith, block-lines-fit p w k, block-count-fits p w k)
-
--- a route that gives an image was asked of a code, and gives the plan's
-abbrev imageIn : Route → Option Word
-imageIn (Image v) = some v
-imageIn TooShort = none
-imageIn (NotRouted r) = none
-
-image-of-code : (p : Plan) (code v : Word) → routed p code ≡ Image v → T (isCode (p .shape) code) × (image (p .rows) code ≡ some v)
-unfolding routed
-image-of-code p code v e = by-tests (isCode (p .shape) code) (image (p .rows) code) (ap imageIn e)
-  where
-    by-tests : (b : Bool) (o : Option Word)
-        → imageIn (elim b as (λ _. Route) [ true ↦ elim o [ some u ↦ Image u | none ↦ TooShort ] | false ↦ NotRouted BadCode ]) ≡ some v
-        → T b × (o ≡ some v)
-    by-tests false o h = absurd (Option·none-ne-some v h)
-    by-tests true none h = absurd (Option·none-ne-some v h)
-    by-tests true (some u) h = (tt, h)
 
 code-fits : (s : Shape) (code : Word) → T (isCode s code) → length code ≤ maxCode
 unfolding isCode
@@ -114,7 +97,7 @@ code-fits s code h = leb→le (length code) maxCode (and-right (isWord s code) (
 pub image-fits : (p : Plan) (code v : Word) → Kept p → routed p code ≡ Image v → length (wordBytes v) + 4 ≤ maxReply
 unfolding maxReply maxDigits maxCode
 image-fits p code v k e =
-    let (c, i) = image-of-code p code v e in
+    let (c, i) = image-of-route p code v e in
     let (q, x, m, from, to) = row-of-image (p .rows) code v i in
     let head = to-fits q (words-fit p k q m) in
     let whole : length code ≡ length (q .from) + length x = ap length from ∙ length-append (q .from) x in

@@ -15,7 +15,7 @@ use Rattle.desk.specs.Replies.{okBlock, respondLine}
 use Rattle.desk.specs.Bytes.{okLine, Order, replyBytes}
 
 -- "A plan is 1 to 128 pairs", "A word in a plan has at most 16 digits": 128 M records of 36 bytes each, and 10 bytes of the P record and
--- the E record. Listings are the longest replies: a block has as many lines of the same length, and `ok⇥128` and its byte 10 behind them.
+-- the E record. Listings are the longest replies: a block has at most as many lines of that length, and `ok⇥128` and its byte 10 behind.
 unfoldable pub maxReply : ℕ
 maxReply = 4_618
 

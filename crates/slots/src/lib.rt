@@ -49,7 +49,7 @@ pub enum Reply {
     Ok,
     // `ok⇥` and the number
     Number(u32),
-    // so many bytes stand at the front of the output already: an image, a listing or a survey
+    // so many bytes stand at the front of the output already: an image, a block, a listing or a survey
     Written(usize),
     // `no⇥` and the number
     Refused(u8),

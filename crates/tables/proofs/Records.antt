@@ -27,15 +27,21 @@ pub listing-size : (slot : ℕ) (s : Shape) (t : Table) → length (listing slot
 listing-size slot s t = omega (arith, length-append (joinLines (pairRecords t)) closeRecord)
 
 module _ (letter : ℕ) (from to : List ℕ) (i : ℕ) where
-  pub lines-step : i < length from → length from ≡ length to → pairLines letter (drop i from) (drop i to) ≡ pairLine letter (pairOf (getD from i 0) (getD to i 0)) ++ pairLines letter (drop (i + 1) from) (drop (i + 1) to)
+  -- the line of the pair there, and those from the next place on
+  abbrev lineHere : List ℕ
+  lineHere = pairLine letter (pairOf (getD from i 0) (getD to i 0))
+
+  abbrev linesBehind : List ℕ
+  linesBehind = pairLines letter (drop (i + 1) from) (drop (i + 1) to)
+
+  pub lines-step : i < length from → length from ≡ length to → pairLines letter (drop i from) (drop i to) ≡ lineHere ++ linesBehind
   lines-step h e =
       ap₂ (pairLines letter) (drop-cons from i 0 h) (drop-cons to i 0 (omega arith))
-      ∙ ap (λ n. pairLine letter (pairOf (getD from i 0) (getD to i 0)) ++ pairLines letter (drop n from) (drop n to)) (sym (add-one i))
+      ∙ ap (λ n. lineHere ++ pairLines letter (drop n from) (drop n to)) (sym (add-one i))
 
-  pub lines-size : i < length from → length from ≡ length to → length (pairLines letter (drop i from) (drop i to)) ≡ length (pairLine letter (pairOf (getD from i 0) (getD to i 0))) + length (pairLines letter (drop (i + 1) from) (drop (i + 1) to))
-  lines-size h e =
-      ap length (lines-step h e)
-      ∙ length-append (pairLine letter (pairOf (getD from i 0) (getD to i 0))) (pairLines letter (drop (i + 1) from) (drop (i + 1) to))
+  pub lines-size : i < length from → length from ≡ length to
+      → length (pairLines letter (drop i from) (drop i to)) ≡ length lineHere + length linesBehind
+  lines-size h e = ap length (lines-step h e) ∙ length-append lineHere linesBehind
 
   pub lines-none : length from ≤ i → pairLines letter (drop i from) (drop i to) ≡ []
   lines-none h = ap (λ f. pairLines letter f (drop i to)) (drop-of-length-le from h)

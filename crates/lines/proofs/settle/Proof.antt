@@ -16,7 +16,8 @@ ok-requires c κs = omega (arith, rooms .ok, start (c .before .before .before) .
 ok-number-requires : tie.Need-ok-number-requires
 ok-number-requires c κs =
     let r = c .before .before in
-    omega (arith, rooms .ok-number, start (r .before .before) .pre, ok-number-size (r .reply2 .given .0 .0) (omega (arith, c .before .known-told2 .given)))
+    let small = ok-number-size (r .reply2 .given .0 .0) (omega (arith, c .before .known-told2 .given)) in
+    omega (arith, rooms .ok-number, start (r .before .before) .pre)
 
 no-requires : tie.Need-no-requires
 no-requires c κs = omega (arith, rooms .no, start (c .before .before .before .before) .pre)

@@ -10,7 +10,9 @@ use Rattle.tables.proofs.list.pair_line.Statement.{statement}
 use Rattle.tables.proofs.list.pair_line.Tie as tie
 
 put-word-requires : tie.Need-put-word-requires
-put-word-requires c κs = let a = c .before .before .before .before .before .before .args in omega (arith, pair-size (a .letter) (pairOf (a .from) (a .to)))
+put-word-requires c κs =
+    let a = c .before .before .before .before .before .before .args in
+    omega (arith, pair-size (a .letter) (pairOf (a .from) (a .to)))
 
 put-word-requires-2 : tie.Need-put-word-requires-2
 put-word-requires-2 c κs =
