@@ -15,7 +15,8 @@ use Rattle.higman.specs.Tables.{Table, image}
 use Rattle.higman.specs.Normal.{compose, inverse, identity, repeated, power}
 use Rattle.higman.specs.Limits.{Plan, granted, isCode, maxPower}
 use Rattle.higman.specs.Answers.{Answer, Granted, Refused, Refusal, ShapesDiffer, LimitBroken, PowerOutside, refusalNumber}
-use Rattle.higman.specs.Answers.{sameShape, grant, followed, inverted, raised, repeatable, powered, BadCode, Route, Image, TooShort, NotRouted, routed}
+use Rattle.higman.specs.Answers.{sameShape, grant, followed, inverted, raised, repeatable, powered, BadCode}
+use Rattle.higman.specs.Answers.{Route, Image, TooShort, NotRouted, routed}
 use Rattle.higman.proofs.Tests.{passes, so, T-of, clash, and-left, and-right, and-intro}
 
 abbrev IsGranted : Answer → Type 0

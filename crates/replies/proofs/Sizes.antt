@@ -86,7 +86,8 @@ pub block-fits : (order : Order) (p : Plan) (w : Word) → Kept p → length (re
 unfolding maxReply maxPairs
 block-fits order p w k =
     let t = block (p .rows) w in
-    let whole = ap length (block-is-pair-lines order t) ∙ length-append (joinLines (map (pairLine (byte "B")) t)) (okLine (decimal (length t) ∷ [])) in
+    let lines = joinLines (map (pairLine (byte "B")) t) in
+    let whole = ap length (block-is-pair-lines order t) ∙ length-append lines (okLine (decimal (length t) ∷ [])) in
     omega (arith, block-lines-fit p w k, block-count-fits p w k)
 
 code-fits : (s : Shape) (code : Word) → T (isCode s code) → length code ≤ maxCode

@@ -201,7 +201,8 @@ job-told c =
     (named-held (named n) (full c))
 
 -- an image
-sent : (c : tie.After-digits) → let p = lender (c .before .before .before .before) in Sent (desk p) (inside p) (answer p) (behind p) (c .digits .given .0 .0)
+sent : (c : tie.After-digits) → let p = lender (c .before .before .before .before) in
+    Sent (desk p) (inside p) (answer p) (behind p) (c .digits .given .0 .0)
 sent c =
     let r = c .before .before .before .before in
     let p = lender r in
