@@ -23,7 +23,7 @@ pub fn of_lines(calls: &dyn Calls) {
     for seed in 0..SESSIONS {
         run(calls, seed, 0, &mut tally);
     }
-    tally.demand(5, &ANSWERS);
+    tally.demand(10, &ANSWERS);
 }
 
 pub fn with_jobs(calls: &dyn Calls) {
@@ -31,7 +31,7 @@ pub fn with_jobs(calls: &dyn Calls) {
     for seed in SESSIONS..2 * SESSIONS {
         run(calls, seed, 25, &mut tally);
     }
-    tally.demand(5, &ANSWERS);
+    tally.demand(10, &ANSWERS);
 }
 
 /// Desks with no room left: the longest replies, and products that mostly are
@@ -70,8 +70,9 @@ pub fn of_full_desks(calls: &dyn Calls) {
     both.tally.demand(5, &["0", "5", "6F", "11", "a block"]);
 }
 
-/// Seventy-two seeds in a row meet every shape.
-const SESSIONS: u64 = 72;
+/// Seventy-two seeds in a row meet every shape; twice as many also give every
+/// answer ten times.
+const SESSIONS: u64 = 144;
 
 /// One session; before each line comes a job in so many of a hundred cases.
 fn run(calls: &dyn Calls, seed: u64, jobs: usize, tally: &mut Tally) {
