@@ -32,7 +32,7 @@ unfoldable pub placeIn : List Word → Word → ℕ
 placeIn c w = Option·getD (firstMatch (λ u. u) (λ place u tail. place) c w) (length c)
 
 -- The words from the place start up to the place end, which is not among them, are those that w begins and does not equal. (Where there is
--- no such word the two places are equal, and any place between the words before w and those behind it will do.)
+-- no such word the two places are equal, and any place is right.)
 pub record Extending (column : List ℕ) (w : Word) (start end : ℕ) : Type 0 where
   pub forward : start ≤ end
   pub within : end ≤ length column
