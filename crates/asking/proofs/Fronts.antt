@@ -33,7 +33,6 @@ use Rattle.desk.specs.Bytes.{okLine}
 use Rattle.replies.specs.Sizes.{maxReply}
 use Rattle.replies.proofs.Lines.{block-is-pair-lines}
 use Rattle.replies.proofs.Sizes.{few-pairs, words-fit, from-fits, block-lines-fit, block-count-fits}
-use Rattle.slots.specs.Works.{deskOrder}
 use Rattle.slots.proofs.Windows.{written-length}
 use Rattle.asking.specs.Asked.{AskedOfFront, blockReply}
 
@@ -117,4 +116,4 @@ module _ {from to code out : List ℕ} (a : AskedOfFront from to code out) where
       block-wrote {out″} {r} w =
           let last = subst (λ n. Wrote (okLine (decimal n ∷ [])) out′ used out″ r) run-count w in
           let first = subst (λ l. Wrote l out 0 out′ used) run-lines v in
-          subst (λ l. Wrote l out 0 out″ r) (sym (block-is-pair-lines deskOrder inside)) (wrote-then (omega arith) first last)
+          subst (λ l. Wrote l out 0 out″ r) (sym (block-is-pair-lines inside)) (wrote-then (omega arith) first last)

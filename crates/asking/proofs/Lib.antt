@@ -2,5 +2,7 @@
 pub mod Answered
 pub mod Lent
 pub mod Jobs
+pub mod Arranged
+pub mod Sorting
 pub mod Surveyed
 pub mod Fronts

@@ -1,26 +1,27 @@
--- U's lines by the head alone: the shape and the number of pairs of each slot that has some. They are the lines of the held slots of the
--- desk, whatever its columns are, and they follow one another slot by slot.
+-- U's lines by the head alone: the shape and the number of pairs of each slot that has some. They are the lines of what U lists of the desk,
+-- whatever its columns are, and they follow one another in the order that the slots were arranged in.
 use Prim.Native.Nat.{ℕ, zero, suc, _+_, _*_, _≤_, _<_}
 use mathlib.Core.Path.{_≡_, refl, sym, _∙_, ap, ap₂, subst}
-use mathlib.Core.Bool.{Bool, true, false}
-use mathlib.Core.List.{List, [], _∷_, _++_, map, map-append, append-nil, append-assoc}
-use mathlib.Core.Option.{Option, none, some}
+use mathlib.Core.Bool.{Bool, true, false, _&&_, _||_}
+use mathlib.Core.List.{List, [], _∷_, _++_, map, append-nil, append-assoc, List·Memᴰ, List·Memᴰ·head, List·Memᴰ·tail}
+use mathlib.Core.Option.{none, some}
 use native.Mathlib.Numerals.{add-one}
-use native.Mathlib.Nat.{add-zero}
 use native.Mathlib.Omega.{arith}
-use borrow.Author.Tests.{eq-eqb, ne-eqb}
-use lib.Dec.{eqb}
-use lib.ListN.{length, take, drop, length-append, length-drop}
-use lib.Seq.{length-take-le}
+use lib.Dec.{eqb, ltb}
+use lib.ListN.{length, getD, take, drop, length-drop, length-map, List·getD-append}
+use lib.Seq.{take-all, take-suc, length-take-le}
 use Rattle.higman.specs.Words.{count}
-use Rattle.higman.specs.Limits.{Plan, maxPairs, slotCount}
+use Rattle.higman.specs.Limits.{maxPairs, slotCount}
 use Rattle.higman.specs.Text.{Bytes, decimal}
 use Rattle.higman.specs.Listing.{joinLines, slotByte}
+use Rattle.higman.proofs.Tests.{count-bounds}
 use Rattle.columns.proofs.Rows.{rows-length}
 use Rattle.words.specs.Writing.{Wrote}
 use Rattle.words.proofs.Runs.{wrote-nothing, wrote-then}
-use Rattle.desk.specs.Replies.{heldFrom}
-use Rattle.desk.specs.Bytes.{lineOf, okLine, counted, heldFields}
+use Rattle.desk.specs.Replies.{Held, heldFrom, comesBefore, arranged, surveyed, surveys}
+use Rattle.desk.specs.Bytes.{lineOf, okLine, heldFields, replyBytes}
+use Rattle.desk.proofs.Grammar.{text-exact}
+use Rattle.desk.proofs.Arranged.{arranged-map}
 use Rattle.operations.specs.Plans.{planOf, rowsOf}
 use Rattle.replies.specs.Lines.{HeldFits}
 use Rattle.replies.specs.Sizes.{maxReply}
@@ -28,74 +29,29 @@ use Rattle.replies.proofs.Sizes.{rooms, held-fits, held-size}
 use Rattle.slots.specs.declared.Size.{Size}
 use Rattle.slots.specs.declared.Head.{Head}
 use Rattle.slots.specs.Blocks.{sizeAt, fromPlace, toPlace, valueAt}
-use Rattle.slots.specs.Desks.{slotAt, slotsOf, HoldsDesk}
+use Rattle.slots.specs.Desks.{slotAt, deskOf, HoldsDesk}
 use Rattle.slots.proofs.Windows.{pair-limit, written-length}
 use Rattle.slots.proofs.Held.{slots-eight, slot-kept}
+use Rattle.asking.specs.Arranged.{lineFirst, heldAmong, heldInOrder}
 use Rattle.asking.proofs.Lent.{few-pairs}
+use Rattle.asking.proofs.Arranged.{at-place, heldIf, held-in, in-order-held, in-order-few}
 
 -- "`slot⇥n⇥r⇥pairs`"
 abbrev pub sizeFields : ℕ → Size → List Bytes
 sizeFields i z = (slotByte i ∷ []) ∷ decimal (z .arity) ∷ decimal (z .roots) ∷ decimal (z .pairs) ∷ []
 
--- "for each held slot"
-abbrev fieldsIf : Head → ℕ → Bool → List (List Bytes)
-fieldsIf h i isEmpty = elim isEmpty [ true ↦ [] | false ↦ sizeFields i (sizeAt h i) ∷ [] ]
+-- the lines of some slots
+abbrev pub lineAt : Head → ℕ → Bytes
+lineAt h i = lineOf (sizeFields i (sizeAt h i))
 
-abbrev fieldsAt : Head → ℕ → List (List Bytes)
-fieldsAt h i = fieldsIf h i (eqb (sizeAt h i .pairs) 0)
+abbrev pub linesAt : Head → List ℕ → Bytes
+linesAt h is = joinLines (map (lineAt h) is)
 
-abbrev fieldsFrom : Head → ℕ → ℕ → List (List Bytes)
-fieldsFrom h a zero = []
-fieldsFrom h a (suc n) = fieldsAt h a ++ fieldsFrom h (suc a) n
-
--- the lines of the slots below one
-abbrev pub fieldsBelow : Head → ℕ → List (List Bytes)
-fieldsBelow h i = fieldsFrom h 0 i
-
-abbrev pub linesBelow : Head → ℕ → Bytes
-linesBelow h i = joinLines (map lineOf (fieldsBelow h i))
-
--- one slot more
-fields-more : (h : Head) (a n : ℕ) → fieldsFrom h a (suc n) ≡ fieldsFrom h a n ++ fieldsAt h (a + n)
-fields-more h a zero = append-nil (fieldsAt h a) ∙ ap (fieldsAt h) (sym (add-zero a))
-fields-more h a (suc n) =
-    let next : suc a + n ≡ a + suc n = omega arith in
-    ap (λ l. fieldsAt h a ++ l) (fields-more h (suc a) n ∙ ap (λ j. fieldsFrom h (suc a) n ++ fieldsAt h j) next)
-    ∙ sym (append-assoc (fieldsAt h a) (fieldsFrom h (suc a) n) (fieldsAt h (a + suc n)))
-
-fields-next : (h : Head) (i : ℕ) → fieldsBelow h (i + 1) ≡ fieldsBelow h i ++ fieldsAt h i
-fields-next h i =
-    let first : 0 + i ≡ i = omega arith in
-    ap (fieldsFrom h 0) (add-one i) ∙ fields-more h 0 i ∙ ap (λ j. fieldsFrom h 0 i ++ fieldsAt h j) first
-
-join-append : (k l : List Bytes) → joinLines (k ++ l) ≡ joinLines k ++ joinLines l
-join-append [] l = refl
-join-append (b ∷ k) l = ap (λ x. b ++ x) (join-append k l) ∙ sym (append-assoc b (joinLines k) (joinLines l))
-
--- a slot that holds no plan has no line
-passed-empty : (h : Head) (i : ℕ) → sizeAt h i .pairs ≡ 0 → fieldsBelow h (i + 1) ≡ fieldsBelow h i
-passed-empty h i e =
-    fields-next h i
-    ∙ ap (λ b. fieldsBelow h i ++ fieldsIf h i b) (eq-eqb (sizeAt h i .pairs) 0 e)
-    ∙ append-nil (fieldsBelow h i)
-
--- and one that does has one
-module _ (h : Head) (i : ℕ) (full : sizeAt h i .pairs ≡ 0 → ⊥) where
-  passed-held : fieldsBelow h (i + 1) ≡ fieldsBelow h i ++ (sizeFields i (sizeAt h i) ∷ [])
-  passed-held =
-      fields-next h i
-      ∙ ap (λ b. fieldsBelow h i ++ fieldsIf h i b) (ne-eqb (sizeAt h i .pairs) 0 full)
-
-  one-line-more : linesBelow h (i + 1) ≡ linesBelow h i ++ lineOf (sizeFields i (sizeAt h i))
-  one-line-more =
-      let line = lineOf (sizeFields i (sizeAt h i)) in
-      ap (λ l. joinLines (map lineOf l)) passed-held
-      ∙ ap joinLines (map-append lineOf (fieldsBelow h i) (sizeFields i (sizeAt h i) ∷ []))
-      ∙ join-append (map lineOf (fieldsBelow h i)) (line ∷ [])
-      ∙ ap (λ x. linesBelow h i ++ x) (append-nil line)
-
-  one-field-more : length (fieldsBelow h (i + 1)) ≡ length (fieldsBelow h i) + 1
-  one-field-more = ap length passed-held ∙ length-append (fieldsBelow h i) (sizeFields i (sizeAt h i) ∷ [])
+-- one line more
+lines-more : (h : Head) (is : List ℕ) (i : ℕ) → linesAt h (is ++ (i ∷ [])) ≡ linesAt h is ++ lineAt h i
+lines-more h [] i = append-nil (lineAt h i)
+lines-more h (j ∷ is) i =
+    ap (λ x. lineAt h j ++ x) (lines-more h is i) ∙ sym (append-assoc (lineAt h j) (linesAt h is) (lineAt h i))
 
 -- the plan of a slot is as its size says
 module _ (h : Head) (columns : List ℕ) (H : HoldsDesk h columns) (i : ℕ) (k : i < slotCount) where
@@ -125,87 +81,114 @@ module _ (h : Head) (columns : List ℕ) (H : HoldsDesk h columns) (i : ℕ) (k 
         subst (λ fs. length (lineOf fs) ≤ 10) held-as-sized
         (held-size (record { slot = i; plan = planOf (valueAt h columns i) }) (slot-kept h columns H i k full))
 
--- so the lines are those of the slots that the desk holds
+-- so the lines are those of what U lists of the desk
 module _ (h : Head) (columns : List ℕ) (H : HoldsDesk h columns) where
-  abbrev heldIf : ℕ → Bool → Option Plan
-  heldIf i isEmpty = elim isEmpty [ true ↦ none | false ↦ some (planOf (valueAt h columns i)) ]
+  abbrev heldAt : ℕ → Held
+  heldAt i = record { slot = i; plan = planOf (valueAt h columns i) }
 
-  abbrev slotsFrom : ℕ → ℕ → List (Option Plan)
-  slotsFrom a n = map (slotAt h columns) (count a n)
-
-  fields-held : (a n : ℕ) → a + n ≤ slotCount → map heldFields (heldFrom a (slotsFrom a n)) ≡ fieldsFrom h a n
+  held-slots : (a n : ℕ) → heldFrom a (map (slotAt h columns) (count a n)) ≡ map heldAt (heldAmong h (count a n))
   unfolding valueAt
-  fields-held a zero k = refl
-  fields-held a (suc n) k = by (eqb (sizeAt h a .pairs) 0) (fields-held (suc a) n (omega arith))
+  held-slots a zero = refl
+  held-slots a (suc n) = by (eqb (sizeAt h a .pairs) 0) (held-slots (suc a) n)
     where
-      by : (b : Bool) → map heldFields (heldFrom (suc a) (slotsFrom (suc a) n)) ≡ fieldsFrom h (suc a) n
-          → map heldFields (heldFrom a (heldIf a b ∷ slotsFrom (suc a) n)) ≡ fieldsIf h a b ++ fieldsFrom h (suc a) n
+      by : (b : Bool) → heldFrom (suc a) (map (slotAt h columns) (count (suc a) n)) ≡ map heldAt (heldAmong h (count (suc a) n))
+          → heldFrom a ((elim b [ true ↦ none | false ↦ some (planOf (valueAt h columns a)) ]) ∷ map (slotAt h columns) (count (suc a) n))
+          ≡ map heldAt (heldIf h a (count (suc a) n) b)
       by true rest = rest
-      by false rest = ap₂ _∷_ (held-as-sized h columns H a (omega arith)) rest
+      by false rest = ap (λ l. heldAt a ∷ l) rest
 
-  survey-lines : map heldFields (heldFrom 0 (slotsOf h columns)) ≡ fieldsBelow h slotCount
-  survey-lines = fields-held 0 slotCount (omega arith)
+  -- the head's test is that of the definitions
+  same-test : (i j : ℕ) → i < slotCount → j < slotCount → comesBefore (heldAt i) (heldAt j) ≡ lineFirst h i j
+  same-test i j k l =
+      ap₂ (λ m n. ltb n m || (eqb m n && ltb i j)) (pairs-held h columns H i k) (pairs-held h columns H j l)
 
--- What is written when the slots below one were passed: their lines, ten bytes each at most.
-pub record Surveyed (h : Head) (out out′ : Bytes) (used held i : ℕ) : Type 0 where
-  pub below : i ≤ 8
-  pub wrote : Wrote (linesBelow h i) out 0 out′ used
+  surveyed-slots : surveyed (deskOf h columns) ≡ map heldAt (heldInOrder h)
+  unfolding surveyed deskOf heldInOrder
+  surveyed-slots =
+      let named : (i : ℕ) → List·Memᴰ i (heldAmong h (count 0 slotCount)) → i < slotCount =
+      λ i m. let b = count-bounds 0 slotCount i (held-in h (count 0 slotCount) i m .0) .1 in omega arith in
+      ap (arranged comesBefore) (held-slots 0 slotCount)
+      ∙ arranged-map heldAt (lineFirst h) comesBefore (heldAmong h (count 0 slotCount)) (λ i j m n. same-test i j (named i m) (named j n))
+
+  lines-held : (is : List ℕ) → ((i : ℕ) → List·Memᴰ i is → i < slotCount)
+      → joinLines (map (λ k. lineOf (heldFields k)) (map heldAt is)) ≡ linesAt h is
+  lines-held [] k = refl
+  lines-held (i ∷ is) k =
+      ap₂ (λ fs x. lineOf fs ++ x) (held-as-sized h columns H i (k i (List·Memᴰ·head refl))) (lines-held is (λ j m. k j (List·Memᴰ·tail m)))
+
+  survey-bytes : replyBytes (surveys (surveyed (deskOf h columns))) ≡ linesAt h (heldInOrder h) ++ okLine (decimal (length (heldInOrder h)) ∷ [])
+  survey-bytes =
+      let is = heldInOrder h in
+      text-exact .replies .survey (surveyed (deskOf h columns))
+      ∙ ap (λ hs. joinLines (map (λ k. lineOf (heldFields k)) hs) ++ okLine (decimal (length hs) ∷ [])) surveyed-slots
+      ∙ ap₂ (λ x n. x ++ okLine (decimal n ∷ [])) (lines-held is (λ i m. in-order-held h i m .0)) (length-map is heldAt)
+
+-- What is written when the lines of so many slots were: ten bytes each at most.
+pub record Surveyed (h : Head) (out out′ : Bytes) (used i : ℕ) : Type 0 where
+  pub below : i ≤ length (heldInOrder h)
+  pub wrote : Wrote (linesAt h (take i (heldInOrder h))) out 0 out′ used
   pub short : used ≤ i * 10
-  pub counts : held ≡ length (fieldsBelow h i)
-  pub few : held ≤ i
 
-pub survey-start : (h : Head) (out : Bytes) → Surveyed h out out 0 0 0
-survey-start h out = record { below = omega arith; wrote = wrote-nothing out 0; short = omega arith; counts = refl; few = omega arith }
+pub survey-start : (h : Head) (out : Bytes) → Surveyed h out out 0 0
+survey-start h out = record { below = omega arith; wrote = wrote-nothing out 0; short = omega arith }
 
 -- the output is as long as before, and there is room for another line, and for the last
-module _ {h : Head} {out out′ : Bytes} {used held i : ℕ} (s : Surveyed h out out′ used held i) (room : maxReply ≤ length out) where
+module _ {h : Head} {out out′ : Bytes} {used i : ℕ} (s : Surveyed h out out′ used i) (room : maxReply ≤ length out) where
   enough : slotCount * 10 + 14 ≤ length out
   enough = omega (arith, rooms .survey)
 
   pub survey-long : length out′ ≡ length out
   survey-long =
       ap length (s .wrote .contents)
-      ∙ written-length out 0 (linesBelow h i) (omega (arith, s .below, s .short, s .wrote .place, enough, slots-eight))
+      ∙ written-length out 0 (linesAt h (take i (heldInOrder h)))
+      (omega (arith, s .below, in-order-few h, s .short, s .wrote .place, enough, slots-eight))
 
   pub survey-room : used + 14 ≤ length out′
-  survey-room = omega (arith, s .below, s .short, survey-long, enough, slots-eight)
+  survey-room = omega (arith, s .below, in-order-few h, s .short, survey-long, enough, slots-eight)
 
-pub survey-passed : {h : Head} {out out′ : Bytes} {used held i : ℕ} → Surveyed h out out′ used held i → i < 8 → sizeAt h i .pairs ≡ 0
-    → Surveyed h out out′ used held (i + 1)
-survey-passed {h} {out} {out′} {used} {held} {i} s b e =
-    let same = passed-empty h i e in
-    record {
-      below = omega arith;
-      wrote = subst (λ fs. Wrote (joinLines (map lineOf fs)) out 0 out′ used) (sym same) (s .wrote);
-      short = omega (arith, s .short);
-      counts = s .counts ∙ sym (ap length same);
-      few = omega (arith, s .few);
-    }
+pub all-few : (h : Head) {order₀ order : List ℕ} {held : ℕ} → Wrote (heldInOrder h) order₀ 0 order held → held ≤ 8
+all-few h w = omega (arith, w .place, in-order-few h, slots-eight)
 
-pub survey-held : {h : Head} {columns out out′ out″ : List ℕ} {used used′ held i : ℕ} → HoldsDesk h columns → Surveyed h out out′ used held i → i < 8
-    → (sizeAt h i .pairs ≡ 0 → ⊥) → Wrote (lineOf (sizeFields i (sizeAt h i))) out′ used out″ used′ → Surveyed h out out″ used′ (held + 1) (i + 1)
-survey-held {h} {columns} {out} {out″ = out″} {used′ = used′} {i = i} H s b full w =
-    let small = line-size h columns H i (omega (arith, slots-eight)) full in
-    record {
-      below = omega arith;
-      wrote = subst (λ l. Wrote l out 0 out″ used′) (sym (one-line-more h i full)) (wrote-then (omega arith) (s .wrote) w);
-      short = omega (arith, s .short, w .place, small);
-      counts = omega (arith, s .counts, one-field-more h i full);
-      few = omega (arith, s .few);
-    }
+-- the slot whose line comes next
+module _ (h : Head) {order₀ order : List ℕ} {held i : ℕ} (w : Wrote (heldInOrder h) order₀ 0 order held) (below : i < held) where
+  next-slot : getD order i 0 ≡ getD (heldInOrder h) i 0
+  next-slot =
+      ap (λ l. getD l i 0) (w .contents)
+      ∙ List·getD-append (heldInOrder h) (drop (0 + length (heldInOrder h)) order₀) 0 i (omega (arith, w .place))
 
--- the same by other names
-pub survey-as : {h : Head} {out out′ out″ : Bytes} {used used′ held held′ i : ℕ} → out″ ≡ out′ → used′ ≡ used → held′ ≡ held
-    → Surveyed h out out′ used held i → Surveyed h out out″ used′ held′ i
-survey-as {h} {out} {out″ = out″} {used = used} {used′ = used′} {held = held} {i = i} o u n s =
-    subst (λ k. Surveyed h out out″ used′ k i) (sym n)
-    (subst (λ k. Surveyed h out out″ k held i) (sym u) (subst (λ l. Surveyed h out l used held i) (sym o) s))
+  next-held : List·Memᴰ (getD order i 0) (heldInOrder h)
+  next-held = subst (λ k. List·Memᴰ k (heldInOrder h)) (sym next-slot) (at-place (heldInOrder h) i (omega (arith, w .place)))
+
+  pub next-named : getD order i 0 < 8
+  next-named = omega (arith, in-order-held h (getD order i 0) next-held .0, slots-eight)
+
+  pub next-full : sizeAt h (getD order i 0) .pairs ≡ 0 → ⊥
+  next-full = in-order-held h (getD order i 0) next-held .1
+
+  pub survey-next : {columns out out′ out″ : List ℕ} {used used′ : ℕ} → HoldsDesk h columns → Surveyed h out out′ used i
+      → Wrote (lineAt h (getD order i 0)) out′ used out″ used′ → Surveyed h out out″ used′ (i + 1)
+  survey-next {columns} {out} {out″ = out″} {used′ = used′} H s v =
+      let slot = getD order i 0 in
+      let is = heldInOrder h in
+      let small = line-size h columns H slot (omega (arith, next-named, slots-eight)) next-full in
+      let more : take (i + 1) is ≡ take i is ++ (slot ∷ []) =
+      ap (λ n. take n is) (add-one i) ∙ take-suc is i 0 (omega (arith, w .place)) ∙ ap (λ k. take i is ++ (k ∷ [])) (sym next-slot) in
+      record {
+        below = omega (arith, w .place);
+        wrote =
+            subst (λ l. Wrote l out 0 out″ used′) (sym (ap (linesAt h) more ∙ lines-more h (take i is) slot))
+            (wrote-then (omega arith) (s .wrote) v);
+        short = omega (arith, s .short, v .place, small);
+      }
 
 -- all lines, and then how many they are
-pub survey-ends : {h : Head} {columns out out′ out″ : List ℕ} {used used′ held i : ℕ} → HoldsDesk h columns → Surveyed h out out′ used held i → 8 ≤ i
-    → Wrote (okLine (decimal held ∷ [])) out′ used out″ used′ → Wrote (counted (map heldFields (heldFrom 0 (slotsOf h columns)))) out 0 out″ used′
-survey-ends {h} {columns} {out} {out′} {out″} {used} {used′} {held} {i} H s e w =
-    let whole : i ≡ slotCount = omega (arith, s .below, slots-eight) in
-    let lines : fieldsBelow h i ≡ map heldFields (heldFrom 0 (slotsOf h columns)) = ap (fieldsBelow h) whole ∙ sym (survey-lines h columns H) in
-    let last = subst (λ n. Wrote (okLine (decimal n ∷ [])) out′ used out″ used′) (s .counts) w in
-    subst (λ fs. Wrote (counted fs) out 0 out″ used′) lines (wrote-then (omega arith) (s .wrote) last)
+pub survey-ends : {h : Head} {columns order₀ order out out′ out″ : List ℕ} {used used′ held i : ℕ} → HoldsDesk h columns
+    → Wrote (heldInOrder h) order₀ 0 order held → Surveyed h out out′ used i → held ≤ i
+    → Wrote (okLine (decimal held ∷ [])) out′ used out″ used′ → Wrote (replyBytes (surveys (surveyed (deskOf h columns)))) out 0 out″ used′
+survey-ends {h} {columns} {out = out} {out′ = out′} {out″ = out″} {used = used} {used′ = used′} {held = held} {i = i} H w s e v =
+    let is = heldInOrder h in
+    let all : held ≡ length is = omega (arith, w .place) in
+    let whole : take i is ≡ is = take-all i is (omega (arith, all)) in
+    let lines = subst (λ l. Wrote (linesAt h l) out 0 out′ used) whole (s .wrote) in
+    let last = subst (λ n. Wrote (okLine (decimal n ∷ [])) out′ used out″ used′) all v in
+    subst (λ l. Wrote l out 0 out″ used′) (sym (survey-bytes h columns H)) (wrote-then (omega arith) lines last)

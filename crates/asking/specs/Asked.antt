@@ -16,7 +16,7 @@ use Rattle.replies.specs.Sizes.{maxReply}
 use Rattle.slots.specs.declared.Head.{Head}
 use Rattle.slots.specs.declared.Work.{Work}
 use Rattle.slots.specs.Desks.{HoldsDesk}
-use Rattle.slots.specs.Works.{deskOrder, Done}
+use Rattle.slots.specs.Works.{Done}
 
 -- a desk in code, and an output that has room for every reply
 pub record Asked (h : Head) (columns out : List ℕ) : Type 0 where
@@ -33,7 +33,7 @@ pub record AskedOfFront (from to code out : List ℕ) : Type 0 where
 
 -- what is then replied: the block of the code (change request E1)
 abbrev pub blockReply : List ℕ → List ℕ → List ℕ → Bytes
-blockReply from to code = replyBytes deskOrder (okBlock (block (table from to) (wordOf code)))
+blockReply from to code = replyBytes (okBlock (block (table from to) (wordOf code)))
 
 -- a head of some desk in code, whatever its columns are
 abbrev pub AskedByHead : Head → List ℕ → Type 0

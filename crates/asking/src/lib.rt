@@ -19,6 +19,8 @@ use slots::Work;
 use slots::blocks;
 use slots::numbers;
 
+mod arranging;
+
 // The bytes in front of W's image, `ok` and a tab: `imageAt` of replies' Lines.antt.
 const IMAGE_AT: usize = 3;
 
@@ -165,7 +167,7 @@ pub fn count(head: Head) -> Work
     }
 }
 
-// U: 2. "`slot⇥n⇥r⇥pairs` for each held slot, in an order left open, then `ok⇥` and how many": in the order of the letters.
+// U: 2. "`slot⇥n⇥r⇥pairs` for each held slot .. then `ok⇥` and how many", in the order of change request E2.
 pub fn survey(head: Head, out: &mut [u8]) -> Work
     requires { ⌜ AskedByHead head (now out) ⌝ }
     ensures { λ r. ⌜ DoneByHeadInto U head (now (out .entry)) r (now (out .exit)) ⌝ }
@@ -173,25 +175,24 @@ pub fn survey(head: Head, out: &mut [u8]) -> Work
     if head.is_open {
         return slots::refused(head, numbers::WRONG_STATE);
     }
+    let mut order = [0usize; SLOTS];
+    let held = arranging::arrange(head, &mut order);
     let mut used = 0;
-    let mut held: u32 = 0;
     let mut i = 0;
-    while i < SLOTS {
-        let size = head.sizes[i];
-        if 0 < size.pairs {
-            used = replies::held(
-                b'A' + i as u8,
-                size.arity,
-                size.roots,
-                size.pairs,
-                out,
-                used,
-            );
-            held += 1;
-        }
+    while i < held {
+        let slot = order[i];
+        let size = head.sizes[slot];
+        used = replies::held(
+            b'A' + slot as u8,
+            size.arity,
+            size.roots,
+            size.pairs,
+            out,
+            used,
+        );
         i += 1;
     }
-    used = replies::ok_number(held, out, used);
+    used = replies::ok_number(held as u32, out, used);
     Work {
         head: head,
         reply: Reply::Written(used),

@@ -14,7 +14,7 @@ use Rattle.higman.proofs.Tests.{so, T-of}
 use Rattle.higman.specs.Text.{Bytes}
 use Rattle.desk.specs.Desk.{Desk, IsDesk, isDesk, dropped}
 use Rattle.desk.specs.Replies.{Reply, Outcome, refuse, pass, _>>=_, Effect, settle}
-use Rattle.desk.specs.Bytes.{Order, replyBytes}
+use Rattle.desk.specs.Bytes.{replyBytes}
 use Rattle.desk.specs.Buffers.{Work, Lent, lent, outputOf, deskLeft, lentCall, replyOf, plainCall}
 use Rattle.desk.specs.Theorems.{CallsExact}
 use Rattle.desk.proofs.Desks.{desk-test}
@@ -31,18 +31,18 @@ desk-false d h = go (isDesk d) refl
     go false e = refl
 
 -- the answer to a piece of work that has been done on a desk
-onDesk : Order → Desk → Outcome Effect → Bytes → Desk × Lent
-onDesk order d o buffer = let l = lent buffer (outputOf order o) in (deskLeft d o (l .answer), l)
+onDesk : Desk → Outcome Effect → Bytes → Desk × Lent
+onDesk d o buffer = let l = lent buffer (outputOf o) in (deskLeft d o (l .answer), l)
 
-call-on-desk : (order : Order) (d : Desk) (work : Work) (buffer : Bytes) → IsDesk d
-    → lentCall order d work buffer ≡ onDesk order d (work d) buffer
+call-on-desk : (d : Desk) (work : Work) (buffer : Bytes) → IsDesk d
+    → lentCall d work buffer ≡ onDesk d (work d) buffer
 unfolding lentCall onDesk
-call-on-desk order d work buffer h = rw (desk-true d h, lentCall)
+call-on-desk d work buffer h = rw (desk-true d h, lentCall)
 
-call-no-desk : (order : Order) (d : Desk) (work : Work) (buffer : Bytes) → isDesk d ≡ false
-    → lentCall order d work buffer ≡ (d, record { buffer = buffer; answer = refuse invalidValue none })
+call-no-desk : (d : Desk) (work : Work) (buffer : Bytes) → isDesk d ≡ false
+    → lentCall d work buffer ≡ (d, record { buffer = buffer; answer = refuse invalidValue none })
 unfolding lentCall lent
-call-no-desk order d work buffer h = rw (h, lentCall)
+call-no-desk d work buffer h = rw (h, lentCall)
 
 lent-short : (buffer output : Bytes) → leb (length output) (length buffer) ≡ false
     → lent buffer (pass output) ≡ record { buffer = buffer; answer = refuse bufferTooShort none }
@@ -54,24 +54,24 @@ lent-long : (buffer output : Bytes) → leb (length output) (length buffer) ≡ 
 unfolding lent
 lent-long buffer output e = rw (e, ifRoom)
 
-no-room : (order : Order) (d : Desk) (e : Effect) (buffer : Bytes) → length buffer < length (replyBytes order (e .1))
-    → onDesk order d (pass e) buffer ≡ (dropped d, record { buffer = buffer; answer = refuse bufferTooShort none })
+no-room : (d : Desk) (e : Effect) (buffer : Bytes) → length buffer < length (replyBytes (e .1))
+    → onDesk d (pass e) buffer ≡ (dropped d, record { buffer = buffer; answer = refuse bufferTooShort none })
 unfolding onDesk _>>=_
-no-room order d e buffer h =
-    ap (λ l. (deskLeft d (pass e) (l .answer), l)) (lent-short buffer (replyBytes order (e .1)) (lt-leb (length (replyBytes order (e .1))) (length buffer) h))
+no-room d e buffer h =
+    ap (λ l. (deskLeft d (pass e) (l .answer), l)) (lent-short buffer (replyBytes (e .1)) (lt-leb (length (replyBytes (e .1))) (length buffer) h))
 
-done : (order : Order) (d : Desk) (e : Effect) (buffer : Bytes) → length (replyBytes order (e .1)) ≤ length buffer
-    → onDesk order d (pass e) buffer
-    ≡ (e .0, record { buffer = written buffer 0 (replyBytes order (e .1)); answer = pass (length (replyBytes order (e .1))) })
+done : (d : Desk) (e : Effect) (buffer : Bytes) → length (replyBytes (e .1)) ≤ length buffer
+    → onDesk d (pass e) buffer
+    ≡ (e .0, record { buffer = written buffer 0 (replyBytes (e .1)); answer = pass (length (replyBytes (e .1))) })
 unfolding onDesk _>>=_
-done order d e buffer h =
-    let output = replyBytes order (e .1) in
+done d e buffer h =
+    let output = replyBytes (e .1) in
     ap (λ l. (deskLeft d (pass e) (l .answer), l)) (lent-long buffer output (so (leb (length output) (length buffer)) (le→leb (length output) (length buffer) h)))
 
-stopped : (order : Order) (d : Desk) (n : ℕ) (c : Option Letter) (buffer : Bytes)
-    → onDesk order d (refuse n c) buffer ≡ (dropped d, record { buffer = buffer; answer = refuse n c })
+stopped : (d : Desk) (n : ℕ) (c : Option Letter) (buffer : Bytes)
+    → onDesk d (refuse n c) buffer ≡ (dropped d, record { buffer = buffer; answer = refuse n c })
 unfolding onDesk lent _>>=_
-stopped order d n c buffer = refl
+stopped d n c buffer = refl
 
 -- the length of a buffer after output was written to it
 written-length : (buffer output : Bytes) → length output ≤ length buffer → length (written buffer 0 output) ≡ length buffer
@@ -100,13 +100,17 @@ lent-sound buffer (pass output) = by-room (leb (length output) (length buffer)) 
         subst (Sound buffer) (sym (lent-long buffer output e)) (record { held = λ r. absurd r; same-length = long })
     by-room false e = subst (Sound buffer) (sym (lent-short buffer output e)) (record { held = λ _. refl; same-length = refl })
 
-call-sound : (order : Order) (d : Desk) (work : Work) (buffer : Bytes) → Sound buffer (lentCall order d work buffer .1)
+call-sound : (d : Desk) (work : Work) (buffer : Bytes) → Sound buffer (lentCall d work buffer .1)
 unfolding lentCall
-call-sound order d work buffer = go (isDesk d)
+call-sound d work buffer = go (isDesk d)
   where
     go : (b : Bool)
-        → Sound buffer ((elim b as (λ _. Desk × Lent) [ true ↦ (let l = lent buffer (outputOf order (work d)) in (deskLeft d (work d) (l .answer), l)) | false ↦ (d, lent buffer (refuse invalidValue none)) ]) .1)
-    go true = lent-sound buffer (outputOf order (work d))
+        → Sound buffer
+        ((elim b as (λ _. Desk × Lent) [
+          | true ↦ (let l = lent buffer (outputOf (work d)) in (deskLeft d (work d) (l .answer), l))
+          | false ↦ (d, lent buffer (refuse invalidValue none))
+        ]) .1)
+    go true = lent-sound buffer (outputOf (work d))
     go false = lent-sound buffer (refuse invalidValue none)
 
 plain-on-desk : (d : Desk) (work : Work) → IsDesk d → plainCall d work ≡ (settle d (work d) .0, replyOf (work d))
@@ -124,12 +128,12 @@ pub calls-exact : CallsExact
 unfolding _>>=_
 calls-exact =
     record {
-      no-desk = λ order d work buffer h. call-no-desk order d work buffer (desk-false d h);
-      refused = λ order d work buffer n c h e. call-on-desk order d work buffer h ∙ ap (λ o. onDesk order d o buffer) e ∙ stopped order d n c buffer;
-      no-room = λ order d work buffer e h p k. call-on-desk order d work buffer h ∙ ap (λ o. onDesk order d o buffer) p ∙ no-room order d e buffer k;
-      done = λ order d work buffer e h p k. call-on-desk order d work buffer h ∙ ap (λ o. onDesk order d o buffer) p ∙ done order d e buffer k;
-      buffer-held = λ order d work buffer n c e. call-sound order d work buffer .held (subst IsRefusal (sym e) tt);
-      buffer-length = λ order d work buffer. call-sound order d work buffer .same-length;
+      no-desk = λ d work buffer h. call-no-desk d work buffer (desk-false d h);
+      refused = λ d work buffer n c h e. call-on-desk d work buffer h ∙ ap (λ o. onDesk d o buffer) e ∙ stopped d n c buffer;
+      no-room = λ d work buffer e h p k. call-on-desk d work buffer h ∙ ap (λ o. onDesk d o buffer) p ∙ no-room d e buffer k;
+      done = λ d work buffer e h p k. call-on-desk d work buffer h ∙ ap (λ o. onDesk d o buffer) p ∙ done d e buffer k;
+      buffer-held = λ d work buffer n c e. call-sound d work buffer .held (subst IsRefusal (sym e) tt);
+      buffer-length = λ d work buffer. call-sound d work buffer .same-length;
       plain-no-desk = λ d work h. plain-no-desk d work (desk-false d h);
       plain-refused = λ d work n c h e. plain-on-desk d work h ∙ ap (settled d) e;
       plain-done = λ d work e h p. plain-on-desk d work h ∙ ap (settled d) p;

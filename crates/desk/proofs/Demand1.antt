@@ -30,7 +30,7 @@ use Rattle.desk.specs.Records.{Record, P, M, E, F, I, K, S, W, L, C, T a
 use Rattle.desk.specs.Replies.{Outcome, refuse, pass, _>>=_, Effect, openAmiss, outside, atLimit, openPlan, planIn, ofVerdict}
 use Rattle.desk.specs.Replies.{ofAnswer, ofComparison, ofRoute, settle, job, operation, recordOf, lineOperation, respondLine}
 use Rattle.desk.specs.Replies.{_when_}
-use Rattle.desk.specs.Bytes.{Order, columnField, replyBytes}
+use Rattle.desk.specs.Bytes.{columnField, replyBytes}
 use Rattle.desk.specs.Conditions.{refusalOf}
 use Rattle.desk.specs.Demands.{operationNumbers, refusalNumbers, Done, Refused, Demand1}
 use Rattle.desk.proofs.Outcomes.{refusal-drops}
@@ -260,11 +260,11 @@ responded : (d : Desk) (line : Bytes) (o : Outcome Effect) → lineOperation d l
 unfolding respondLine
 responded d line o e = ap (settle d) e
 
-answered : (order : Order) (d : Desk) (line : Bytes) → Done d line ⊎ Refused order d line
+answered : (d : Desk) (line : Bytes) → Done d line ⊎ Refused d line
 unfolding replyBytes
-answered order d line = go (lineOperation d line) refl
+answered d line = go (lineOperation d line) refl
   where
-    go : (o : Outcome Effect) → lineOperation d line ≡ o → Done d line ⊎ Refused order d line
+    go : (o : Outcome Effect) → lineOperation d line ≡ o → Done d line ⊎ Refused d line
     go (pass x) e = inl (x, e, responded d line (pass x) e)
     go (refuse n c) e =
         let r = responded d line (refuse n c) e in
@@ -278,7 +278,7 @@ answered order d line = go (lineOperation d line) refl
           replied = ap (λ x. x .1) r;
           text = parted fs;
           no-line-end = clean-parted fs (clean-refusal n c);
-          one-line = ap (λ x. replyBytes order (x .1)) r;
+          one-line = ap (λ x. replyBytes (x .1)) r;
         })
 
 numbers : refusalNumbers ≡ 1 ∷ 2 ∷ 3 ∷ 4 ∷ 5 ∷ 6 ∷ 7 ∷ 8 ∷ 9 ∷ 10 ∷ 11 ∷ 12 ∷ 16 ∷ []

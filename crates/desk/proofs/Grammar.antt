@@ -23,8 +23,8 @@ use Rattle.desk.specs.Records.{noMore, Rule}
 use Rattle.desk.specs.Records.{grammar, readBy, readFields, parse, fields, parted, recordFields, recordText, noTab, hasDigits}
 use Rattle.desk.specs.Records.{numbersFit, wellFormed}
 use Rattle.desk.specs.Grammar.{GrammarExact, NumbersFit, WellFormedExact, LineOf, RepliesWritten, TextExact}
-use Rattle.desk.specs.Replies.{Held, okBlock}
-use Rattle.desk.specs.Bytes.{lineOf, okLine, partFields, heldFields, Order, replyBytes}
+use Rattle.desk.specs.Replies.{Held, okBlock, surveys}
+use Rattle.desk.specs.Bytes.{lineOf, okLine, counted, partFields, heldFields, replyBytes}
 use Rattle.desk.proofs.Fields.{no-tab-cons, word-no-tab, fields-of-parted, parted-of-fields, fields-no-tab}
 use Rattle.higman.proofs.Decimals.{decimals-exact}
 use Rattle.higman.proofs.Listing.{slots-exact}
@@ -187,52 +187,62 @@ decimal-no-tab k = word-no-tab (spelled (suc k) k)
 line-of : (f : Bytes) (fs : List Bytes) → T (all noTab (f ∷ fs)) → LineOf (lineOf (f ∷ fs)) (f ∷ fs)
 line-of f fs h = record { text = parted (f ∷ fs); ended = refl; parts = fields-of-parted f fs h }
 
-module _ (order : Order) where
-  numbered-line : (f : Bytes) (n : ℕ) (fs : List Bytes) → T (noTab f) → T (all noTab fs)
-      → LineOf (lineOf (f ∷ decimal n ∷ fs)) (f ∷ decimal n ∷ fs)
-  numbered-line f n fs h k =
-      line-of f (decimal n ∷ fs) (all-cons noTab f (decimal n ∷ fs) h (all-cons noTab (decimal n) fs (decimal-no-tab n) k))
+numbered-line : (f : Bytes) (n : ℕ) (fs : List Bytes) → T (noTab f) → T (all noTab fs)
+    → LineOf (lineOf (f ∷ decimal n ∷ fs)) (f ∷ decimal n ∷ fs)
+numbered-line f n fs h k =
+    line-of f (decimal n ∷ fs) (all-cons noTab f (decimal n ∷ fs) h (all-cons noTab (decimal n) fs (decimal-no-tab n) k))
 
-  held-line : (h : Held) → LineOf (lineOf (heldFields h)) (heldFields h)
-  held-line h =
-      let slot = slotByte (h .slot) ∷ [] in
-      let n = decimal (h .plan .shape .arity) in
-      let r = decimal (h .plan .shape .roots) in
-      let m = decimal (length (h .plan .rows)) in
-      let plain = no-tab-cons (slotByte (h .slot)) [] (ne-eqb (slotByte (h .slot)) tab (λ e. omega arith)) tt in
-      let pairs = all-cons noTab m [] (decimal-no-tab (length (h .plan .rows))) tt in
-      let roots = all-cons noTab r (m ∷ []) (decimal-no-tab (h .plan .shape .roots)) pairs in
-      let numbers = all-cons noTab n (r ∷ m ∷ []) (decimal-no-tab (h .plan .shape .arity)) roots in
-      line-of slot (n ∷ r ∷ m ∷ []) (all-cons noTab slot (n ∷ r ∷ m ∷ []) plain numbers)
+held-line : (h : Held) → LineOf (lineOf (heldFields h)) (heldFields h)
+held-line h =
+    let slot = slotByte (h .slot) ∷ [] in
+    let n = decimal (h .plan .shape .arity) in
+    let r = decimal (h .plan .shape .roots) in
+    let m = decimal (length (h .plan .rows)) in
+    let plain = no-tab-cons (slotByte (h .slot)) [] (ne-eqb (slotByte (h .slot)) tab (λ e. omega arith)) tt in
+    let pairs = all-cons noTab m [] (decimal-no-tab (length (h .plan .rows))) tt in
+    let roots = all-cons noTab r (m ∷ []) (decimal-no-tab (h .plan .shape .roots)) pairs in
+    let numbers = all-cons noTab n (r ∷ m ∷ []) (decimal-no-tab (h .plan .shape .arity)) roots in
+    line-of slot (n ∷ r ∷ m ∷ []) (all-cons noTab slot (n ∷ r ∷ m ∷ []) plain numbers)
 
-  part-line : (p : Pair) → LineOf (lineOf (partFields p)) (partFields p)
-  part-line p =
-      let from = wordBytes (p .from) in
-      let to = wordBytes (p .to) in
-      line-of (bytes "B") (from ∷ to ∷ [])
-      (all-cons noTab from (to ∷ []) (word-no-tab (p .from)) (all-cons noTab to [] (word-no-tab (p .to)) tt))
+part-line : (p : Pair) → LineOf (lineOf (partFields p)) (partFields p)
+part-line p =
+    let from = wordBytes (p .from) in
+    let to = wordBytes (p .to) in
+    line-of (bytes "B") (from ∷ to ∷ [])
+    (all-cons noTab from (to ∷ []) (word-no-tab (p .from)) (all-cons noTab to [] (word-no-tab (p .to)) tt))
 
-  block-lines : (t : Table)
-      → replyBytes order (okBlock t) ≡ joinLines (map (λ p. lineOf (partFields p)) t) ++ okLine (decimal (length t) ∷ [])
-  unfolding replyBytes
-  block-lines t = ap₂ (λ ls n. joinLines ls ++ okLine (decimal n ∷ [])) (map-map lineOf partFields t) (length-map t partFields)
+-- lines of fields, each made of something, and how many
+counted-lines : {A : Type 0} (f : A → List Bytes) (l : List A)
+    → counted (map f l) ≡ joinLines (map (λ x. lineOf (f x)) l) ++ okLine (decimal (length l) ∷ [])
+counted-lines f l = ap₂ (λ ls n. joinLines ls ++ okLine (decimal n ∷ [])) (map-map lineOf f l) (length-map l f)
 
-  replies-written : RepliesWritten order
-  unfolding replyBytes
-  replies-written =
-      record {
-        nothing = refl;
-        done = line-of (bytes "ok") [] tt;
-        number = λ n. numbered-line (bytes "ok") n [] tt tt;
-        word = λ w. line-of (bytes "ok") (wordBytes w ∷ []) (all-cons noTab (wordBytes w) [] (word-no-tab w) tt);
-        part = part-line;
-        block = block-lines;
-        plan = λ b p. refl;
-        refusal = λ n. numbered-line (bytes "no") n [] tt tt;
-        from-refusal = λ n. numbered-line (bytes "no") n (bytes "F" ∷ []) tt tt;
-        to-refusal = λ n. numbered-line (bytes "no") n (bytes "T" ∷ []) tt tt;
-        held = held-line;
-      }
+block-lines : (t : Table)
+    → replyBytes (okBlock t) ≡ joinLines (map (λ p. lineOf (partFields p)) t) ++ okLine (decimal (length t) ∷ [])
+unfolding replyBytes
+block-lines t = counted-lines partFields t
+
+survey-lines : (hs : List Held)
+    → replyBytes (surveys hs) ≡ joinLines (map (λ h. lineOf (heldFields h)) hs) ++ okLine (decimal (length hs) ∷ [])
+unfolding replyBytes
+survey-lines hs = counted-lines heldFields hs
+
+replies-written : RepliesWritten
+unfolding replyBytes
+replies-written =
+    record {
+      nothing = refl;
+      done = line-of (bytes "ok") [] tt;
+      number = λ n. numbered-line (bytes "ok") n [] tt tt;
+      word = λ w. line-of (bytes "ok") (wordBytes w ∷ []) (all-cons noTab (wordBytes w) [] (word-no-tab w) tt);
+      part = part-line;
+      block = block-lines;
+      plan = λ b p. refl;
+      refusal = λ n. numbered-line (bytes "no") n [] tt tt;
+      from-refusal = λ n. numbered-line (bytes "no") n (bytes "F" ∷ []) tt tt;
+      to-refusal = λ n. numbered-line (bytes "no") n (bytes "T" ∷ []) tt tt;
+      held = held-line;
+      survey = survey-lines;
+    }
 
 -- the numbers of well-formed records
 numbers-fit : (r : Record) → T (numbersFit r) ↔ NumbersFit r

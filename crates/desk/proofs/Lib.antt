@@ -11,12 +11,13 @@ pub mod Grammar
 pub mod Lines
 pub mod TypedLines
 pub mod Desks
-pub mod Surveys
 pub mod Calls
 pub mod Session
 pub mod ReadBack
 pub mod Conditions
 pub mod Replies
+pub mod Arranged
+pub mod Surveys
 pub mod Demand1
 pub mod Demand2
 pub mod Demands

@@ -27,7 +27,7 @@ use Rattle.desk.specs.Limits.{maxChanges, maxLine}
 use Rattle.desk.specs.Desk.{Draft, Desk, countOf, withDraft, withPair, changed}
 use Rattle.desk.specs.Records.{Record, P, M, E, parse, recordFields, recordText, noTab, hasDigits, wellFormed}
 use Rattle.desk.specs.Replies.{pass, Effect, silent, okNumber, newDraft, operation, settle, respondLine}
-use Rattle.desk.specs.Bytes.{Order, replyBytes}
+use Rattle.desk.specs.Bytes.{replyBytes}
 use Rattle.desk.specs.Session.{State, idle, grown, feedByte, feed}
 use Rattle.desk.specs.Theorems.{TypedIn, ListingReadBack}
 use Rattle.desk.proofs.OpenPlans.{typedPair, open-pass, pair-pass, close-pass}
@@ -139,53 +139,56 @@ pair-record p y = simp append-assoc
 abbrev draftOf : ℕ → Shape → Table → Draft
 draftOf i s t = record { slot = i; shape = s; rows = t }
 
-module _ (order : Order) where
-  -- the rest of the input, after a line
-  abbrev after : Effect → Bytes → State × Bytes
-  after e rest = let q = feed order (idle (e .0)) rest in (q .0, replyBytes order (e .1) ++ q .1)
+-- the rest of the input, after a line
+abbrev after : Effect → Bytes → State × Bytes
+after e rest = let q = feed (idle (e .0)) rest in (q .0, replyBytes (e .1) ++ q .1)
 
-  line-ends : (d : Desk) (l rest : Bytes)
-      → feed order (record { desk = d; line = l; overlong = false }) (lineEnd ∷ rest) ≡ after (respondLine d l) rest
-  unfolding feed feedByte
-  line-ends d l rest = refl
+line-ends : (d : Desk) (l rest : Bytes)
+    → feed (record { desk = d; line = l; overlong = false }) (lineEnd ∷ rest) ≡ after (respondLine d l) rest
+unfolding feed feedByte
+line-ends d l rest = refl
 
-  byte-kept : (d : Desk) (l : Bytes) (b : ℕ) → eqb b lineEnd ≡ false → length l < maxLine
-      → feedByte order (record { desk = d; line = l; overlong = false }) b
-      ≡ (record { desk = d; line = l ++ (b ∷ []); overlong = false }, [])
-  unfolding feedByte
-  byte-kept d l b e h = rw (e, feedByte, so (ltb (length l) maxLine) (lt→ltb (length l) maxLine h), grown)
+byte-kept : (d : Desk) (l : Bytes) (b : ℕ) → eqb b lineEnd ≡ false → length l < maxLine
+    → feedByte (record { desk = d; line = l; overlong = false }) b
+    ≡ (record { desk = d; line = l ++ (b ∷ []); overlong = false }, [])
+unfolding feedByte
+byte-kept d l b e h = rw (e, feedByte, so (ltb (length l) maxLine) (lt→ltb (length l) maxLine h), grown)
 
-  feed-line : (d : Desk) (l x rest : Bytes) → Without lineEnd x → length (l ++ x) ≤ maxLine
-      → feed order (record { desk = d; line = l; overlong = false }) (x ++ lineEnd ∷ rest) ≡ after (respondLine d (l ++ x)) rest
-  unfolding feed
-  feed-line d l [] rest w h = line-ends d l rest ∙ rw append-nil
-  feed-line d l (b ∷ x) rest w h =
-      let k : length l < maxLine = omega (arith, simp length-append at h) in
-      rw (byte-kept d l b (w .0)) (feed-line d (l ++ (b ∷ [])) x rest (w .1) (rw append-assoc h) ∙ rw append-assoc)
+feed-line : (d : Desk) (l x rest : Bytes) → Without lineEnd x → length (l ++ x) ≤ maxLine
+    → feed (record { desk = d; line = l; overlong = false }) (x ++ lineEnd ∷ rest) ≡ after (respondLine d (l ++ x)) rest
+unfolding feed
+feed-line d l [] rest w h = line-ends d l rest ∙ rw append-nil
+feed-line d l (b ∷ x) rest w h =
+    let k : length l < maxLine = omega (arith, simp length-append at h) in
+    rw (byte-kept d l b (w .0)) (feed-line d (l ++ (b ∷ [])) x rest (w .1) (rw append-assoc h) ∙ rw append-assoc)
 
-  -- a line of a record that passes
-  feed-record : (d : Desk) (line : Bytes) (r : Record) (e : Effect) (rest : Bytes) → Without lineEnd line → length line ≤ maxLine
-      → parse line ≡ some r → operation d r ≡ pass e → feed order (idle d) (line ++ lineEnd ∷ rest) ≡ after e rest
-  feed-record d line r e rest w h q o = feed-line d [] line rest w h ∙ ap (λ x. after x rest) (respond-record d line r h q ∙ ap (settle d) o)
+-- a line of a record that passes
+feed-record : (d : Desk) (line : Bytes) (r : Record) (e : Effect) (rest : Bytes) → Without lineEnd line → length line ≤ maxLine
+    → parse line ≡ some r → operation d r ≡ pass e → feed (idle d) (line ++ lineEnd ∷ rest) ≡ after e rest
+feed-record d line r e rest w h q o = feed-line d [] line rest w h ∙ ap (λ x. after x rest) (respond-record d line r h q ∙ ap (settle d) o)
 
-  feed-pairs : (d : Desk) (i : ℕ) (s : Shape) (todo past : Table) (rest : Bytes) → T (shapeInRange s) → Spelt s todo
-      → length (past ++ todo) ≤ maxPairs
-      → feed order (idle (withDraft d (draftOf i s past))) (joinLines (pairRecords todo) ++ rest)
-      ≡ feed order (idle (withDraft d (draftOf i s (past ++ todo)))) rest
-  unfolding replyBytes
-  feed-pairs d i s [] past rest r w h = rw append-nil
-  feed-pairs d i s (p ∷ todo) past rest r w h =
-      let room : length past < maxPairs = omega (arith, simp length-append at h) in
-      let more : Bytes = joinLines (pairRecords todo) ++ rest in
-      ap (feed order (idle (withDraft d (draftOf i s past)))) (append-assoc (pairRecord p) (joinLines (pairRecords todo)) rest ∙ pair-record p more)
-      ∙ feed-record (withDraft d (draftOf i s past)) (pairLine p) (M (wordBytes (p .from)) (wordBytes (p .to))) (withDraft d (draftOf i s (past ++ (p ∷ []))), silent) more (pair-line-inside p) (pair-line-fits p (plan-word-length s (p .from) (and-left (isPlanWord s (p .from)) (isPlanWord s (p .to)) (w .0))) (plan-word-length s (p .to) (and-right (isPlanWord s (p .from)) (isPlanWord s (p .to)) (w .0)))) (parse-pair p) (operation-pair d (draftOf i s past) p r (w .0) room)
-      ∙ feed-pairs d i s todo (past ++ (p ∷ [])) rest r (w .1) (rw append-assoc h)
-      ∙ ap (λ t. feed order (idle (withDraft d (draftOf i s t))) rest) (append-assoc past (p ∷ []) todo)
+feed-pairs : (d : Desk) (i : ℕ) (s : Shape) (todo past : Table) (rest : Bytes) → T (shapeInRange s) → Spelt s todo
+    → length (past ++ todo) ≤ maxPairs
+    → feed (idle (withDraft d (draftOf i s past))) (joinLines (pairRecords todo) ++ rest)
+    ≡ feed (idle (withDraft d (draftOf i s (past ++ todo)))) rest
+unfolding replyBytes
+feed-pairs d i s [] past rest r w h = rw append-nil
+feed-pairs d i s (p ∷ todo) past rest r w h =
+    let room : length past < maxPairs = omega (arith, simp length-append at h) in
+    let more : Bytes = joinLines (pairRecords todo) ++ rest in
+    let from-short = plan-word-length s (p .from) (and-left (isPlanWord s (p .from)) (isPlanWord s (p .to)) (w .0)) in
+    let to-short = plan-word-length s (p .to) (and-right (isPlanWord s (p .from)) (isPlanWord s (p .to)) (w .0)) in
+    ap (feed (idle (withDraft d (draftOf i s past)))) (append-assoc (pairRecord p) (joinLines (pairRecords todo)) rest ∙ pair-record p more)
+    ∙ feed-record (withDraft d (draftOf i s past)) (pairLine p) (M (wordBytes (p .from)) (wordBytes (p .to)))
+    (withDraft d (draftOf i s (past ++ (p ∷ []))), silent) more (pair-line-inside p) (pair-line-fits p from-short to-short) (parse-pair p)
+    (operation-pair d (draftOf i s past) p r (w .0) room)
+    ∙ feed-pairs d i s todo (past ++ (p ∷ [])) rest r (w .1) (rw append-assoc h)
+    ∙ ap (λ t. feed (idle (withDraft d (draftOf i s t))) rest) (append-assoc past (p ∷ []) todo)
 
-  -- nothing is left of the input
-  after-all : (e : Effect) → after e [] ≡ (idle (e .0), replyBytes order (e .1))
-  unfolding feed
-  after-all e = λ i. (idle (e .0), append-nil (replyBytes order (e .1)) i)
+-- nothing is left of the input
+after-all : (e : Effect) → after e [] ≡ (idle (e .0), replyBytes (e .1))
+unfolding feed
+after-all e = λ i. (idle (e .0), append-nil (replyBytes (e .1)) i)
 
 parse-close : parse (69 ∷ []) ≡ some E
 unfolding recordText wellFormed
@@ -210,15 +213,20 @@ slot-plain b c h k = ne-eqb b c (λ e. let low : 65 ≤ b = leb→le 65 b (and-l
 
 pub typed-in : TypedIn
 unfolding replyBytes granted
-typed-in order d e b h s t k rest =
+typed-in d e b h s t k rest =
     let table = table-of s t k in
     let range = in-range s (table .in-range) in
-    feed-record order d (openLine b s) (P b (s .arity) (s .roots)) (withDraft d (newDraft b s), silent) (joinLines (pairRecords t) ++ rest) (open-line-inside b s (slot-plain b lineEnd h (lit< tt))) (open-line-fits b s) (parse-open b s (slot-plain b tab h (lit< tt)) (range .arity-high) (range .roots-high)) (open-pass d e b s h (table .in-range))
-    ∙ feed-pairs order d (slotNumber b) s t [] rest (table .in-range) (spelt s t (table .from-words) (table .to-words) (and-right (leb (length t) maxPairs) (all pairFits t) (table .within))) (leb→le (length t) maxPairs (and-left (leb (length t) maxPairs) (all pairFits t) (table .within)))
+    let few = and-left (leb (length t) maxPairs) (all pairFits t) (table .within) in
+    let short = and-right (leb (length t) maxPairs) (all pairFits t) (table .within) in
+    feed-record d (openLine b s) (P b (s .arity) (s .roots)) (withDraft d (newDraft b s), silent) (joinLines (pairRecords t) ++ rest)
+    (open-line-inside b s (slot-plain b lineEnd h (lit< tt))) (open-line-fits b s)
+    (parse-open b s (slot-plain b tab h (lit< tt)) (range .arity-high) (range .roots-high)) (open-pass d e b s h (table .in-range))
+    ∙ feed-pairs d (slotNumber b) s t [] rest (table .in-range) (spelt s t (table .from-words) (table .to-words) short)
+    (leb→le (length t) maxPairs few)
 
 pub listing-read-back : ListingReadBack
 unfolding replyBytes
-listing-read-back order d e room b h p k =
+listing-read-back d e room b h p k =
     let s : Shape = p .shape in
     let t : Table = p .rows in
     let n = arity-of-range s (k .in-range) in
@@ -227,6 +235,8 @@ listing-read-back order d e room b h p k =
     let accepted = answers-exact .accepted s n t from-words to-words .1 (k .bases) in
     let own = normal-form .own s n t (k .bases) .0 (k .reduced, k .in-order) in
     let i : ℕ = slotNumber b in
-    typed-in order d e b h s t (test-table s t (record { in-range = k .in-range; within = k .within; from-words = from-words; to-words = to-words })) closeRecord
-    ∙ feed-record order (withDraft d (draftOf i s t)) (69 ∷ []) E (changed d i (some p), okNumber (length t)) [] (refl, tt) close-line-fits parse-close (operation-close d (draftOf i s t) accepted own room)
-    ∙ after-all order (changed d i (some p), okNumber (length t))
+    typed-in d e b h s t
+    (test-table s t (record { in-range = k .in-range; within = k .within; from-words = from-words; to-words = to-words })) closeRecord
+    ∙ feed-record (withDraft d (draftOf i s t)) (69 ∷ []) E (changed d i (some p), okNumber (length t)) [] (refl, tt) close-line-fits
+    parse-close (operation-close d (draftOf i s t) accepted own room)
+    ∙ after-all (changed d i (some p), okNumber (length t))

@@ -15,7 +15,7 @@ use Rattle.desk.specs.Desk.{Draft, Desk, freshDesk, countOf, held, chang
 use Rattle.desk.specs.Records.{Record, P, M, E, F, I, K, S, W, L, C, T, U, Use, reads, target, SlotUse, reading, writing, needsOpen}
 use Rattle.desk.specs.Records.{slotsNamed, isChange}
 use Rattle.higman.specs.Listing.{slotNumber}
-use Rattle.desk.specs.Replies.{Effect, silent, ok, okNumber, lists, surveys, isOpen, heldFrom, newDraft, job, operation}
+use Rattle.desk.specs.Replies.{Effect, silent, ok, okNumber, lists, surveys, isOpen, surveyed, newDraft, job, operation}
 use Rattle.desk.specs.Demands.{RepliesExact, SlotsUsed, DeskParts}
 use Rattle.desk.proofs.Outcomes.{Passes, passes, passes-then, any-then, passed, plan-held, plan-open, passes-operation}
 
@@ -60,7 +60,7 @@ count-steps : (d : Desk) → Passes (λ e. e ≡ (d, okNumber (countOf d))) (ope
 unfolding job
 count-steps d = passes-operation d T (λ _. passes refl)
 
-find-steps : (d : Desk) → Passes (λ e. e ≡ (d, surveys (heldFrom 0 (d .slots)))) (operation d U)
+find-steps : (d : Desk) → Passes (λ e. e ≡ (d, surveys (surveyed d))) (operation d U)
 unfolding job
 find-steps d = passes-operation d U (λ _. passes refl)
 

@@ -16,21 +16,20 @@ use Rattle.higman.specs.Listing.{joinLines}
 use Rattle.desk.specs.Limits.{maxLine}
 use Rattle.desk.specs.Desk.{Desk, dropped}
 use Rattle.desk.specs.Replies.{_>>=_, refuse, settle, recordOf, lineOperation, respondLine, run}
-use Rattle.desk.specs.Bytes.{Order, replyBytes}
+use Rattle.desk.specs.Bytes.{replyBytes}
 use Rattle.desk.specs.Session.{unended, State, idle, grown, effectOf, lineEnded, feedByte, feed, finish, linesFrom, repliesTo}
 use Rattle.desk.specs.Session.{fedWhole}
 use Rattle.desk.specs.Session.{session}
 use Rattle.desk.specs.Theorems.{LinesExact, thenFed, LinesFed, feedBoth, feedPieces, FedInPieces, SessionFed}
 
-module _ (order : Order) where
-  pub feed-append : (s : State) (x y : Bytes) → feed order s (x ++ y) ≡ feedBoth order s x y
-  unfolding feed
-  feed-append s [] y = refl
-  feed-append s (b ∷ x) y = rw (feed-append (feedByte order s b .0) x y, append-assoc)
+pub feed-append : (s : State) (x y : Bytes) → feed s (x ++ y) ≡ feedBoth s x y
+unfolding feed
+feed-append s [] y = refl
+feed-append s (b ∷ x) y = rw (feed-append (feedByte s b .0) x y, append-assoc)
 
-  feed-pieces : (s : State) (pieces : List Bytes) → feed order s (joinLines pieces) ≡ feedPieces order s pieces
-  feed-pieces s [] = unfold feed in refl
-  feed-pieces s (x ∷ pieces) = rw (feed-append s x (joinLines pieces), feed-pieces (feed order s x .0) pieces)
+feed-pieces : (s : State) (pieces : List Bytes) → feed s (joinLines pieces) ≡ feedPieces s pieces
+feed-pieces s [] = unfold feed in refl
+feed-pieces s (x ∷ pieces) = rw (feed-append s x (joinLines pieces), feed-pieces (feed s x .0) pieces)
 
 pub fed-in-pieces : FedInPieces
 fed-in-pieces = record { two = feed-append; any = feed-pieces }
@@ -57,43 +56,44 @@ begun-grown {d} b (kept l h) = by-room (ltb (length l) maxLine) refl
     by-room false e = rw (e, grown) (lost (l ++ (b ∷ [])) (let h′ : maxLine ≤ length l = nltb→le (length l) maxLine (not-T (ltb (length l) maxLine) (λ t. clash (so (ltb (length l) maxLine) t) e)) in simp length-append (omega arith)))
 begun-grown b (lost l h) = lost (l ++ (b ∷ [])) (simp length-append (omega arith))
 
-module _ (order : Order) where
-  fed-cons : (s : State) (b : ℕ) (input : Bytes)
-      → fedWhole order s (b ∷ input) ≡ feedByte order s b .1 ++ fedWhole order (feedByte order s b .0) input
-  unfolding feed
-  fed-cons s b input = append-assoc (feedByte order s b .1) _ _
+fed-cons : (s : State) (b : ℕ) (input : Bytes)
+    → fedWhole s (b ∷ input) ≡ feedByte s b .1 ++ fedWhole (feedByte s b .0) input
+unfolding feed
+fed-cons s b input = append-assoc (feedByte s b .1) _ _
 
-  byte-ends : (s : State) (b : ℕ) → eqb b lineEnd ≡ true → feedByte order s b ≡ lineEnded order s
-  unfolding feedByte
-  byte-ends s b e = rw (e, feedByte)
+byte-ends : (s : State) (b : ℕ) → eqb b lineEnd ≡ true → feedByte s b ≡ lineEnded s
+unfolding feedByte
+byte-ends s b e = rw (e, feedByte)
 
-  pub byte-inside : (s : State) (b : ℕ) → eqb b lineEnd ≡ false → feedByte order s b ≡ (grown s b, [])
-  unfolding feedByte
-  byte-inside s b e = rw (e, feedByte)
+pub byte-inside : (s : State) (b : ℕ) → eqb b lineEnd ≡ false → feedByte s b ≡ (grown s b, [])
+unfolding feedByte
+byte-inside s b e = rw (e, feedByte)
 
-  -- at the end of the input
-  last-lines : {d : Desk} {s : State} {l : Bytes} → Begun d s l → fedWhole order s [] ≡ repliesTo order d (linesFrom l [])
-  unfolding feed finish run
-  last-lines (kept [] h) = refl
-  last-lines (kept (b ∷ l) h) = sym (append-nil _)
-  last-lines (lost [] h) = absurd (omega arith)
-  last-lines {d} (lost (b ∷ l) h) = ap (λ e. replyBytes order (e .1)) (begun-effect {d = d} (lost (b ∷ l) h)) ∙ sym (append-nil _)
+-- at the end of the input
+last-lines : {d : Desk} {s : State} {l : Bytes} → Begun d s l → fedWhole s [] ≡ repliesTo d (linesFrom l [])
+unfolding feed finish run
+last-lines (kept [] h) = refl
+last-lines (kept (b ∷ l) h) = sym (append-nil _)
+last-lines (lost [] h) = absurd (omega arith)
+last-lines {d} (lost (b ∷ l) h) = ap (λ e. replyBytes (e .1)) (begun-effect {d = d} (lost (b ∷ l) h)) ∙ sym (append-nil _)
 
-  fed-lines : (input : Bytes) {d : Desk} {s : State} {l : Bytes} → Begun d s l
-      → fedWhole order s input ≡ repliesTo order d (linesFrom l input)
-  unfolding run
-  fed-lines [] g = last-lines g
-  fed-lines (b ∷ input) {d} {s} {l} g = fed-cons s b input ∙ by-byte (eqb b lineEnd) refl (λ e. fed-lines input (kept [] zero-le)) (fed-lines input (begun-grown b g))
-    where
-      by-byte : (t : Bool) → eqb b lineEnd ≡ t → ((e : Desk) → fedWhole order (idle e) input ≡ repliesTo order e (linesFrom [] input))
-          → fedWhole order (grown s b) input ≡ repliesTo order d (linesFrom (l ++ (b ∷ [])) input)
-          → feedByte order s b .1 ++ fedWhole order (feedByte order s b .0) input ≡ repliesTo order d (linesFrom l (b ∷ input))
-      by-byte true e next more = rw (byte-ends s b e, e, linesFrom, begun-effect g, next (respondLine d l .0))
-      by-byte false e next more = rw (byte-inside s b e, e, linesFrom) more
+fed-lines : (input : Bytes) {d : Desk} {s : State} {l : Bytes} → Begun d s l
+    → fedWhole s input ≡ repliesTo d (linesFrom l input)
+unfolding run
+fed-lines [] g = last-lines g
+fed-lines (b ∷ input) {d} {s} {l} g =
+    fed-cons s b input
+    ∙ by-byte (eqb b lineEnd) refl (λ e. fed-lines input (kept [] zero-le)) (fed-lines input (begun-grown b g))
+  where
+    by-byte : (t : Bool) → eqb b lineEnd ≡ t → ((e : Desk) → fedWhole (idle e) input ≡ repliesTo e (linesFrom [] input))
+        → fedWhole (grown s b) input ≡ repliesTo d (linesFrom (l ++ (b ∷ [])) input)
+        → feedByte s b .1 ++ fedWhole (feedByte s b .0) input ≡ repliesTo d (linesFrom l (b ∷ input))
+    by-byte true e next more = rw (byte-ends s b e, e, linesFrom, begun-effect g, next (respondLine d l .0))
+    by-byte false e next more = rw (byte-inside s b e, e, linesFrom) more
 
 pub session-fed : SessionFed
 unfolding session
-session-fed order input = fed-lines order input (kept [] zero-le)
+session-fed input = fed-lines input (kept [] zero-le)
 
 -- bytes without byte 10, by the first of them
 pub inside-first : (b : ℕ) (l : Bytes) → T (unended (b ∷ l)) → eqb b lineEnd ≡ false
@@ -123,37 +123,36 @@ lines-exact =
       last = λ b line h. rw (inside-first b line h, linesFrom) (lines-last b [] line (inside-rest b line h));
     }
 
-module _ (order : Order) where
-  -- a line that has begun, fed to its end
-  pub fed-line : (line rest : Bytes) {d : Desk} {s : State} {l : Bytes} → Begun d s l → T (unended line)
-      → feed order s (line ++ lineEnd ∷ rest) ≡ thenFed order (respondLine d (l ++ line)) rest
-  unfolding feed feedByte
-  fed-line [] rest {d} {s} {l} g h = ap (λ e. thenFed order e rest) (begun-effect g ∙ ap (respondLine d) (sym (append-nil l)))
-  fed-line (b ∷ line) rest {d} {s} {l} g h =
-      rw (byte-inside order s b (inside-first b line h))
-      (fed-line line rest (begun-grown b g) (inside-rest b line h) ∙ ap (λ x. thenFed order (respondLine d x) rest) (append-assoc l (b ∷ []) line))
+-- a line that has begun, fed to its end
+pub fed-line : (line rest : Bytes) {d : Desk} {s : State} {l : Bytes} → Begun d s l → T (unended line)
+    → feed s (line ++ lineEnd ∷ rest) ≡ thenFed (respondLine d (l ++ line)) rest
+unfolding feed feedByte
+fed-line [] rest {d} {s} {l} g h = ap (λ e. thenFed e rest) (begun-effect g ∙ ap (respondLine d) (sym (append-nil l)))
+fed-line (b ∷ line) rest {d} {s} {l} g h =
+    rw (byte-inside s b (inside-first b line h))
+    (fed-line line rest (begun-grown b g) (inside-rest b line h) ∙ ap (λ x. thenFed (respondLine d x) rest) (append-assoc l (b ∷ []) line))
 
-  -- and one that the input ends
-  pub fed-last : (line : Bytes) {d : Desk} {s : State} {l : Bytes} → Begun d s l → T (unended line)
-      → Begun d (feed order s line .0) (l ++ line)
-  unfolding feed
-  fed-last [] {d} {s} {l} g h = subst (Begun d s) (sym (append-nil l)) g
-  fed-last (b ∷ line) {d} {s} {l} g h =
-      let more = fed-last line (begun-grown b g) (inside-rest b line h) in
-      subst (λ x. Begun d (feed order (x .0) line .0) (l ++ b ∷ line)) (sym (byte-inside order s b (inside-first b line h)))
-      (subst (Begun d (feed order (grown s b) line .0)) (append-assoc l (b ∷ []) line) more)
+-- and one that the input ends
+pub fed-last : (line : Bytes) {d : Desk} {s : State} {l : Bytes} → Begun d s l → T (unended line)
+    → Begun d (feed s line .0) (l ++ line)
+unfolding feed
+fed-last [] {d} {s} {l} g h = subst (Begun d s) (sym (append-nil l)) g
+fed-last (b ∷ line) {d} {s} {l} g h =
+    let more = fed-last line (begun-grown b g) (inside-rest b line h) in
+    subst (λ x. Begun d (feed (x .0) line .0) (l ++ b ∷ line)) (sym (byte-inside s b (inside-first b line h)))
+    (subst (Begun d (feed (grown s b) line .0)) (append-assoc l (b ∷ []) line) more)
 
-  pub finished : {d : Desk} {s : State} {b : ℕ} {l : Bytes} → Begun d s (b ∷ l)
-      → finish order s ≡ (dropped (respondLine d (b ∷ l) .0), replyBytes order (respondLine d (b ∷ l) .1))
-  unfolding finish
-  finished (kept (b ∷ l) h) = refl
-  finished {d} (lost (b ∷ l) h) = ap (λ e. (dropped (e .0), replyBytes order (e .1))) (begun-effect {d = d} (lost (b ∷ l) h))
+pub finished : {d : Desk} {s : State} {b : ℕ} {l : Bytes} → Begun d s (b ∷ l)
+    → finish s ≡ (dropped (respondLine d (b ∷ l) .0), replyBytes (respondLine d (b ∷ l) .1))
+unfolding finish
+finished (kept (b ∷ l) h) = refl
+finished {d} (lost (b ∷ l) h) = ap (λ e. (dropped (e .0), replyBytes (e .1))) (begun-effect {d = d} (lost (b ∷ l) h))
 
 pub lines-fed : LinesFed
 unfolding finish
 lines-fed =
     record {
-      ended = λ order d line rest h. fed-line order line rest (kept [] zero-le) h;
-      last = λ order d b line h. finished order (fed-last order (b ∷ line) (kept [] zero-le) h);
-      none-left = λ order d. refl;
+      ended = λ d line rest h. fed-line line rest (kept [] zero-le) h;
+      last = λ d b line h. finished (fed-last (b ∷ line) (kept [] zero-le) h);
+      none-left = λ d. refl;
     }

@@ -1,18 +1,21 @@
--- U speaks of every held slot, and of each once: the slots are gone through by ascending number, and an order only permutes them.
+-- What U lists: the slots are gone through by ascending number, so each held slot is met once, and arranging them neither drops nor repeats
+-- one. Two lists of the same slots in that order are equal: of the first lines of both, each would come before the other.
 use Prim.Native.Nat.{ℕ, zero, suc, _+_, _-_, _≤_}
 use native.Mathlib.Nat.{le-refl}
 use native.Mathlib.Omega.{arith}
-use mathlib.Core.Path.{_≡_, refl, sym, _∙_, ap, subst}
-use mathlib.Core.List.{List, [], _∷_, _++_, map, Permᴰ·map, List·Memᴰ, List·Memᴰ·head, List·Memᴰ·tail, List·Permᴰ, List·Permᴰ·nil}
-use mathlib.Core.List.{List·Permᴰ·cons, List·Permᴰ·swap, List·Permᴰ·trans}
+use mathlib.Core.Path.{_≡_, refl, sym, _∙_, ap, ap₂, subst}
+use mathlib.Core.Logic.{inl, inr}
+use mathlib.Core.Bool.{true}
+use mathlib.Core.List.{List, [], _∷_, List·Memᴰ, List·Memᴰ·head, List·Memᴰ·tail, List·Memᴰ·not-nil, Permᴰ·symm}
 use mathlib.Core.Option.{Option, none, some, Option·none-ne-some, Option·some-injective}
-use lib.ListN.{length, getD, length-map}
-use Rattle.higman.specs.Text.{decimal}
-use Rattle.higman.specs.Listing.{joinLines}
+use lib.ListN.{length, getD}
 use Rattle.higman.specs.Limits.{Plan}
-use Rattle.desk.specs.Replies.{Held, heldFrom}
-use Rattle.desk.specs.Bytes.{lineOf, okLine, heldFields, Order, replyBytes}
-use Rattle.desk.specs.Theorems.{Ascending, SurveyReply, SurveyExact}
+use Rattle.higman.proofs.Expansions.{mem-of-perm}
+use Rattle.desk.specs.Desk.{Desk, held}
+use Rattle.desk.specs.Replies.{Held, heldFrom, pairsIn, comesBefore, surveyed}
+use Rattle.desk.specs.Theorems.{Before, InOrder, NoneTwice, SurveyOf, SurveyExact}
+use Rattle.desk.proofs.Replies.{replies-exact}
+use Rattle.desk.proofs.Arranged.{arranged-perm, arranged-sorted, Sorted, Told, line-first, first-transitive, first-other}
 
 abbrev at : ℕ → Plan → Held
 at i p = record { slot = i; plan = p }
@@ -43,41 +46,96 @@ stands (none ∷ l) k h m = later none l k h (stands l (suc k) h m)
 stands (some q ∷ l) k h (List·Memᴰ·head e) = subst (Stands (some q ∷ l) k) (sym e) (here l k q)
 stands (some q ∷ l) k h (List·Memᴰ·tail m) = later (some q) l k h (stands l (suc k) h m)
 
-ascending-below : (i : ℕ) (hs : List Held) → Ascending (suc i) hs → Ascending i hs
-ascending-below i [] a = tt
-ascending-below i (h ∷ hs) a = let b : suc i ≤ h .slot = a .0 in (omega arith, a .1)
-
-ascending : (l : List (Option Plan)) (k : ℕ) → Ascending k (heldFrom k l)
-ascending [] k = tt
-ascending (none ∷ l) k = ascending-below k (heldFrom (suc k) l) (ascending l (suc k))
-ascending (some q ∷ l) k = (le-refl k, ascending l (suc k))
-
-perm-length : {A : Type 0} {l m : List A} → List·Permᴰ l m → length l ≡ length m
-perm-length List·Permᴰ·nil = refl
-perm-length (List·Permᴰ·cons e p) = ap suc (perm-length p)
-perm-length (List·Permᴰ·swap d e) = refl
-perm-length (List·Permᴰ·trans p q) = perm-length p ∙ perm-length q
-
-replied : (order : Order) (hs : List Held) → SurveyReply order hs
-unfolding replyBytes
-replied order hs =
-    let lines = map heldFields (order .arranged hs) in
-    record {
-      lines = lines;
-      each-once = Permᴰ·map heldFields (order .each-once hs);
-      reply = ap (λ n. joinLines (map lineOf lines) ++ okLine (decimal n ∷ [])) (length-map (order .arranged hs) heldFields ∙ perm-length (order .each-once hs));
-    }
-
 listed-of-held : (l : List (Option Plan)) (i : ℕ) (p : Plan) → getD l i none ≡ some p → List·Memᴰ (at i p) (heldFrom 0 l)
 listed-of-held l i p e = let z : 0 + i ≡ i = omega arith in subst (λ n. List·Memᴰ (at n p) (heldFrom 0 l)) z (listed l 0 i p e)
 
 held-of-listed : (l : List (Option Plan)) (i : ℕ) (p : Plan) → List·Memᴰ (at i p) (heldFrom 0 l) → getD l i none ≡ some p
 held-of-listed l i p m = let z : i - 0 ≡ i = omega arith in subst (λ n. getD l n none ≡ some p) z (stands l 0 (at i p) m .holds)
 
+-- no slot is met twice, so any two are told apart
+met-once : (l : List (Option Plan)) (i : ℕ) → NoneTwice (heldFrom i l)
+met-once [] i = tt
+met-once (none ∷ l) i = met-once l (suc i)
+met-once (some q ∷ l) i = (λ k m e. let b : suc i ≤ k .slot = stands l (suc i) k m .from-here in omega (arith, e), met-once l (suc i))
+
+told : (hs : List Held) → NoneTwice hs → Told comesBefore hs
+told [] o = tt
+told (h ∷ hs) o = (λ k m e. first-other (pairsIn h) (h .slot) (pairsIn k) (k .slot) (o .0 k m) e, told hs (o .1))
+
+before-transitive : (h k l : Held) → comesBefore h k ≡ true → comesBefore k l ≡ true → comesBefore h l ≡ true
+before-transitive h k l = first-transitive (pairsIn h) (h .slot) (pairsIn k) (k .slot) (pairsIn l) (l .slot)
+
+in-order : (hs : List Held) → Sorted comesBefore hs → InOrder hs
+in-order [] s = tt
+in-order (h ∷ hs) s = (λ k m. line-first (pairsIn h) (h .slot) (pairsIn k) (k .slot) (s .0 k m), in-order hs (s .1))
+
+-- of two, not each comes before the other; so none comes before itself
+never-both : (h k : Held) → Before h k → Before k h → ⊥
+never-both h k (inl a) (inl b) = omega arith
+never-both h k (inl a) (inr b) = omega (arith, b .0)
+never-both h k (inr a) (inl b) = omega (arith, a .0)
+never-both h k (inr a) (inr b) = omega (arith, a .1, b .1)
+
+-- two lists in order with the same lines begin with the same line, and go on with the same lines
+abbrev Has : List Held → List Held → Type 0
+Has hs ks = (h : Held) → List·Memᴰ h hs → List·Memᴰ h ks
+
+same-first : (h k : Held) (hs ks : List Held) → InOrder (h ∷ hs) → InOrder (k ∷ ks) → List·Memᴰ h (k ∷ ks) → List·Memᴰ k (h ∷ hs) → h ≡ k
+same-first h k hs ks a b (List·Memᴰ·head e) n = e
+same-first h k hs ks a b (List·Memᴰ·tail m) (List·Memᴰ·head e) = sym e
+same-first h k hs ks a b (List·Memᴰ·tail m) (List·Memᴰ·tail n) = absurd (never-both h k (a .0 k n) (b .0 h m))
+
+same-rest : (h k : Held) (hs ks : List Held) → InOrder (h ∷ hs) → h ≡ k → Has (h ∷ hs) (k ∷ ks) → Has hs ks
+same-rest h k hs ks a e s x m = by (s x (List·Memᴰ·tail m))
+  where
+    by : List·Memᴰ x (k ∷ ks) → List·Memᴰ x ks
+    by (List·Memᴰ·head p) = let itself = subst (Before h) (p ∙ sym e) (a .0 x m) in absurd (never-both h h itself itself)
+    by (List·Memᴰ·tail n) = n
+
+same-list : (hs ks : List Held) → InOrder hs → InOrder ks → Has hs ks → Has ks hs → hs ≡ ks
+same-list [] [] a b s t = refl
+same-list [] (k ∷ ks) a b s t = absurd (List·Memᴰ·not-nil (t k (List·Memᴰ·head refl)))
+same-list (h ∷ hs) [] a b s t = absurd (List·Memᴰ·not-nil (s h (List·Memᴰ·head refl)))
+same-list (h ∷ hs) (k ∷ ks) a b s t =
+    let e = same-first h k hs ks a b (s h (List·Memᴰ·head refl)) (t k (List·Memᴰ·head refl)) in
+    ap₂ _∷_ e (same-list hs ks (a .1) (b .1) (same-rest h k hs ks a e s) (same-rest k h ks hs b (sym e) t))
+
+listed-in : (d : Desk) (hs ks : List Held) → SurveyOf d hs → SurveyOf d ks → Has hs ks
+listed-in d hs ks a b h m = b .each (h .slot) (h .plan) .0 (a .each (h .slot) (h .plan) .1 m)
+
+-- a slot holds one plan, so of two lines of one slot neither comes before the other
+one-line : (d : Desk) (h k : Held) → held d (h .slot) ≡ some (h .plan) → held d (k .slot) ≡ some (k .plan) → Before h k → h .slot ≡ k .slot → ⊥
+one-line d h k x y b e = by b
+  where
+    same : pairsIn h ≡ pairsIn k
+    same = ap (λ p. length (p .rows)) (Option·some-injective (h .plan) (k .plan) (sym x ∙ ap (held d) e ∙ y))
+
+    by : Before h k → ⊥
+    by (inl c) = omega (arith, same)
+    by (inr c) = omega (arith, e, c .1)
+
+once-each : (d : Desk) (hs : List Held) → ((h : Held) → List·Memᴰ h hs → held d (h .slot) ≡ some (h .plan)) → InOrder hs → NoneTwice hs
+once-each d [] x a = tt
+once-each d (h ∷ hs) x a =
+    (λ k m. one-line d h k (x h (List·Memᴰ·head refl)) (x k (List·Memᴰ·tail m)) (a .0 k m), once-each d hs (λ k m. x k (List·Memᴰ·tail m)) (a .1))
+
+pub survey-of : (d : Desk) → SurveyOf d (surveyed d)
+unfolding surveyed
+survey-of d =
+    let hs = heldFrom 0 (d .slots) in
+    let perm = arranged-perm comesBefore hs in
+    let holds : (i : ℕ) (p : Plan) → List·Memᴰ (at i p) (surveyed d) → held d i ≡ some p =
+    λ i p m. held-of-listed (d .slots) i p (mem-of-perm perm m) in
+    let ordered = in-order (surveyed d) (arranged-sorted comesBefore before-transitive hs (told hs (met-once (d .slots) 0))) in
+    record {
+      each = λ i p. (λ e. mem-of-perm (Permᴰ·symm perm) (listed-of-held (d .slots) i p e), holds i p);
+      once = once-each d (surveyed d) (λ h. holds (h .slot) (h .plan)) ordered;
+      in-order = ordered;
+    }
+
 pub survey-exact : SurveyExact
 survey-exact =
     record {
-      held-listed = λ d i p. (listed-of-held (d .slots) i p, held-of-listed (d .slots) i p);
-      once = λ d. ascending (d .slots) 0;
-      replied = replied;
+      replied = λ d e o. (surveyed d, replies-exact .surveys d e o, survey-of d);
+      determined = λ d hs ks a b. same-list hs ks (a .in-order) (b .in-order) (listed-in d hs ks a b) (listed-in d ks hs b a);
     }

@@ -13,7 +13,7 @@ use Rattle.desk.specs.Limits.{maxChanges}
 use Rattle.desk.specs.Desk.{Desk, freshDesk, dropped, atCount, isDesk}
 use Rattle.desk.specs.Records.{T, needsOpen, slotsNamed, isChange}
 use Rattle.desk.specs.Replies.{Reply, okNumber, Outcome, refuse, pass, _>>=_, Effect, settle, job, operation}
-use Rattle.desk.specs.Bytes.{Order, replyBytes}
+use Rattle.desk.specs.Bytes.{replyBytes}
 
 -- a lent buffer after a call, and the call's answer: how many bytes it wrote, or a refusal
 pub record Lent : Type 0 where
@@ -30,8 +30,8 @@ lent buffer (pass output) =
     }
 
 -- the bytes of a reply
-abbrev pub outputOf : Order → Outcome Effect → Outcome Bytes
-outputOf order o = o >>= λ e. pass (replyBytes order (e .1))
+abbrev pub outputOf : Outcome Effect → Outcome Bytes
+outputOf o = o >>= λ e. pass (replyBytes (e .1))
 
 -- What a call does on the desk that it is given: `λ d. operation d r` for a record, `λ d. lineOperation d l` for a line.
 abbrev pub Work : Type 0
@@ -44,11 +44,11 @@ deskLeft d o (pass n) = settle d o .0
 
 -- A call that works on a desk and writes the reply into a lent buffer. "15 before all these: a plan or desk handed in isn't one as
 -- described above; such a desk has no open plan to drop and is left as it came."
-unfoldable pub lentCall : Order → Desk → Work → Bytes → Desk × Lent
-lentCall order d work buffer =
+unfoldable pub lentCall : Desk → Work → Bytes → Desk × Lent
+lentCall d work buffer =
     elim
     (isDesk d) [
-      | true ↦ let l = lent buffer (outputOf order (work d)) in (deskLeft d (work d) (l .answer), l)
+      | true ↦ let l = lent buffer (outputOf (work d)) in (deskLeft d (work d) (l .answer), l)
       | false ↦ (d, lent buffer (refuse invalidValue none))
     ]
 
@@ -63,15 +63,13 @@ plainCall d work = elim (isDesk d) [ true ↦ (settle d (work d) .0, replyOf (wo
 abbrev counting : Work
 counting d = operation d T
 
-lentCall-example : (order : Order)
-    → lentCall order freshDesk counting (bytes ".......") ≡ (freshDesk, record { buffer = bytes "ok\t0\n.."; answer = pass 5 })
+lentCall-example : lentCall freshDesk counting (bytes ".......") ≡ (freshDesk, record { buffer = bytes "ok\t0\n.."; answer = pass 5 })
 unfolding _>>=_ lentCall lent isDesk operation job needsOpen slotsNamed isChange replyBytes freshDesk slotCount maxChanges
-lentCall-example order = refl
+lentCall-example = refl
 
-too-short-example : (order : Order)
-    → lentCall order freshDesk counting (bytes "....") ≡ (freshDesk, record { buffer = bytes "...."; answer = refuse 14 none })
+too-short-example : lentCall freshDesk counting (bytes "....") ≡ (freshDesk, record { buffer = bytes "...."; answer = refuse 14 none })
 unfolding _>>=_ lentCall lent isDesk operation job needsOpen slotsNamed isChange replyBytes freshDesk dropped slotCount maxChanges
-too-short-example order = refl
+too-short-example = refl
 
 -- the same call lent nothing: the desk stays, and the reply is the count
 plainCall-example : plainCall freshDesk counting ≡ (freshDesk, pass (okNumber 0))
@@ -82,7 +80,6 @@ plainCall-example = refl
 abbrev noDesk : Desk
 noDesk = atCount freshDesk (maxChanges + 1)
 
-no-desk-example : (order : Order)
-    → lentCall order noDesk counting (bytes ".") ≡ (noDesk, record { buffer = bytes "."; answer = refuse 15 none })
+no-desk-example : lentCall noDesk counting (bytes ".") ≡ (noDesk, record { buffer = bytes "."; answer = refuse 15 none })
 unfolding lentCall lent isDesk freshDesk slotCount maxChanges
-no-desk-example order = refl
+no-desk-example = refl

@@ -4,19 +4,18 @@ use mathlib.Core.Path.{_≡_}
 use Prim.Native.String.{String}
 use mathlib.Core.List.{List, [], _∷_, _++_}
 use Rattle.higman.specs.Text.{lines}
-use Rattle.desk.specs.Bytes.{Order, byLetter}
 use Rattle.desk.specs.Session.{session}
 
 infix 4 _gives_
 pub data Case : Type 0 where
   _gives_ : List String → List String → Case
 
-abbrev pub Holds : Order → Case → Type 0
-Holds order (input gives output) = session order (lines input) ≡ lines output
+abbrev pub Holds : Case → Type 0
+Holds (input gives output) = session (lines input) ≡ lines output
 
-abbrev pub AllHold : Order → List Case → Type 0
-AllHold order [] = Unit {0}
-AllHold order (c ∷ cs) = Holds order c × AllHold order cs
+abbrev pub AllHold : List Case → Type 0
+AllHold [] = Unit {0}
+AllHold (c ∷ cs) = Holds c × AllHold cs
 
 -- "Shape (2,1)": ψ and φ typed into slot A, and φ into slot B
 abbrev pub typeψ : List String
@@ -68,15 +67,16 @@ otherSessions =
     (typeφ ++ ("K\tA\t1000\tB" ∷ "L\tB" ∷ "K\tA\t1001\tB" ∷ "K\tA\t-1001\tB" ∷ "K\tH\t1001\tB" ∷ []) gives ("ok\t3" ∷ "ok\t1" ∷ "P\tB\t2\t1" ∷ "M\t1\t1" ∷ "E" ∷ "no\t12" ∷ "no\t12" ∷ "no\t12" ∷ [])) ∷
     []
 
--- U, in the order of the slots
+-- U: "the most pairs first, and equal ones by slot letter" (change request E2)
 unfoldable pub surveySessions : List Case
 surveySessions =
     (("U" ∷ []) gives ("ok\t0" ∷ [])) ∷
-    (typeψ ++ ("I\tA\tC" ∷ "K\tA\t0\tB" ∷ "U" ∷ "C\tA" ∷ "U" ∷ []) gives ("ok\t3" ∷ "ok\t3" ∷ "ok\t1" ∷ "A\t2\t1\t3" ∷ "B\t2\t1\t1" ∷ "C\t2\t1\t3" ∷ "ok\t3" ∷ "ok" ∷ "B\t2\t1\t1" ∷ "C\t2\t1\t3" ∷ "ok\t2" ∷ [])) ∷
+    (typeψ ++ ("I\tA\tC" ∷ "K\tA\t0\tB" ∷ "U" ∷ "C\tA" ∷ "U" ∷ [])
+    gives ("ok\t3" ∷ "ok\t3" ∷ "ok\t1" ∷ "A\t2\t1\t3" ∷ "C\t2\t1\t3" ∷ "B\t2\t1\t1" ∷ "ok\t3" ∷ "ok" ∷ "C\t2\t1\t3" ∷ "B\t2\t1\t1" ∷ "ok\t2" ∷ [])) ∷
     []
 
 -- "The ★ cases stand in one table, proved through one statement about the definitions."
 pub record DeskCases : Type 0 where
-  pub star : (order : Order) → AllHold order starSessions
-  pub others : (order : Order) → AllHold order otherSessions
-  pub survey : AllHold byLetter surveySessions
+  pub star : AllHold starSessions
+  pub others : AllHold otherSessions
+  pub survey : AllHold surveySessions

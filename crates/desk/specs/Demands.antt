@@ -25,9 +25,9 @@ use Rattle.desk.specs.Desk.{Draft, Desk, freshDesk, countOf, held, IsDes
 use Rattle.desk.specs.Records.{Record, P, M, E, F, I, K, S, W, L, C, T as Tᴿ, U, SlotUse, reads, target, needsOpen, slotsNamed}
 use Rattle.desk.specs.Records.{isChange, recordText, wellFormed}
 use Rattle.higman.specs.Listing.{slotNumber}
-use Rattle.desk.specs.Replies.{refuse, pass, Effect, silent, ok, okNumber, okWord, okBlock, lists, surveys, refuses, heldFrom}
+use Rattle.desk.specs.Replies.{refuse, pass, Effect, silent, ok, okNumber, okWord, okBlock, lists, surveys, refuses, surveyed}
 use Rattle.desk.specs.Replies.{operation, lineOperation, respondLine, newDraft, closed}
-use Rattle.desk.specs.Bytes.{Order, replyBytes}
+use Rattle.desk.specs.Bytes.{replyBytes}
 use Rattle.desk.specs.Conditions.{conditions, firstOf, refusalOf}
 use Rattle.desk.specs.Theorems.{RefusalDrops, DeskStays, DeskTest, SurveyExact, LinesExact, LinesFed, FedInPieces, SessionFed}
 use Rattle.desk.specs.Theorems.{TypedIn, AcceptedFromLines, BlockReplied}
@@ -60,7 +60,7 @@ abbrev pub Done : Desk → Bytes → Type 0
 Done d line = (e : Effect) × (lineOperation d line ≡ pass e) × (respondLine d line ≡ e)
 
 -- a line is refused with a number, and its whole output is a line of its own
-pub record Refused (order : Order) (d : Desk) (line : Bytes) : Type 0 where
+pub record Refused (d : Desk) (line : Bytes) : Type 0 where
   pub number : ℕ
   pub column : Option Letter
   pub numbered : List·Memᴰ number refusalNumbers
@@ -68,11 +68,11 @@ pub record Refused (order : Order) (d : Desk) (line : Bytes) : Type 0 where
   pub replied : respondLine d line .1 ≡ refuses number column
   pub text : Bytes
   pub no-line-end : List·Memᴰ lineEnd text → ⊥
-  pub one-line : replyBytes order (respondLine d line .1) ≡ text ++ lineEnd ∷ []
+  pub one-line : replyBytes (respondLine d line .1) ≡ text ++ lineEnd ∷ []
 
 -- Demand 1: any bytes, a job done or a numbered refusal that changes nothing.
 pub record Demand1 : Type 0 where
-  pub answered : (order : Order) (d : Desk) (line : Bytes) → Done d line ⊎ Refused order d line
+  pub answered : (d : Desk) (line : Bytes) → Done d line ⊎ Refused d line
   -- "Any refusal drops an open plan and changes nothing else."
   pub refusal-drops : RefusalDrops
   pub desk-stays : DeskStays
@@ -118,7 +118,7 @@ pub record RepliesExact : Type 0 where
   pub lists : (d : Desk) (a : ℕ) (e : Effect) → operation d (L a) ≡ pass e
       → (p : Plan) × (held d (slotNumber a) ≡ some p) × (e ≡ (d, lists a p))
   pub counts : (d : Desk) (e : Effect) → operation d Tᴿ ≡ pass e → e ≡ (d, okNumber (countOf d))
-  pub surveys : (d : Desk) (e : Effect) → operation d U ≡ pass e → e ≡ (d, surveys (heldFrom 0 (d .slots)))
+  pub surveys : (d : Desk) (e : Effect) → operation d U ≡ pass e → e ≡ (d, surveys (surveyed d))
   pub only-changes : (d : Desk) (r : Record) (e : Effect) → isChange r ≡ false → operation d r ≡ pass e
       → (e .0 .slots ≡ d .slots) × (countOf (e .0) ≡ countOf d)
   pub raises : (d : Desk) (r : Record) (e : Effect) → isChange r ≡ true → operation d r ≡ pass e → countOf (e .0) ≡ countOf d + 1

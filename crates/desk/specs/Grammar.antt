@@ -18,8 +18,8 @@ use Rattle.higman.specs.Listing.{slotByte, joinLines, listing}
 use Rattle.higman.specs.Theorems.{SlotsExact, DecimalsExact}
 use Rattle.desk.specs.Limits.{maxLine, maxNumeral}
 use Rattle.desk.specs.Records.{Record, P, M, E, F, I, K, S, W, L, C, T, U, fields, parse, recordFields, recordText, noTab, wellFormed}
-use Rattle.desk.specs.Replies.{Held, silent, ok, okNumber, okWord, okBlock, lists, refuses}
-use Rattle.desk.specs.Bytes.{lineOf, okLine, partFields, heldFields, Order, replyBytes}
+use Rattle.desk.specs.Replies.{Held, silent, ok, okNumber, okWord, okBlock, lists, surveys, refuses}
+use Rattle.desk.specs.Bytes.{lineOf, okLine, partFields, heldFields, replyBytes}
 
 -- "1, unknown letter, wrong number of fields, a field form": every other line is the text of the record that it is read as.
 abbrev pub GrammarExact : Type 0
@@ -55,26 +55,28 @@ pub record LineOf (output : Bytes) (fs : List Bytes) : Type 0 where
   pub parts : fields text ≡ fs
 
 -- the replies as they are written
-pub record RepliesWritten (order : Order) : Type 0 where
+pub record RepliesWritten : Type 0 where
   -- "Neither replies when accepted."
-  pub nothing : replyBytes order silent ≡ []
+  pub nothing : replyBytes silent ≡ []
   -- `ok`; `ok⇥` and a number; `ok⇥` and an image
-  pub done : LineOf (replyBytes order ok) (bytes "ok" ∷ [])
-  pub number : (n : ℕ) → LineOf (replyBytes order (okNumber n)) (bytes "ok" ∷ decimal n ∷ [])
-  pub word : (w : Word) → LineOf (replyBytes order (okWord w)) (bytes "ok" ∷ wordBytes w ∷ [])
+  pub done : LineOf (replyBytes ok) (bytes "ok" ∷ [])
+  pub number : (n : ℕ) → LineOf (replyBytes (okNumber n)) (bytes "ok" ∷ decimal n ∷ [])
+  pub word : (w : Word) → LineOf (replyBytes (okWord w)) (bytes "ok" ∷ wordBytes w ∷ [])
   -- W: "one line `B⇥from⇥to` for every pair .. and closes with `ok⇥` and how many" (change request E1)
   pub part : (p : Pair) → LineOf (lineOf (partFields p)) (bytes "B" ∷ wordBytes (p .from) ∷ wordBytes (p .to) ∷ [])
   pub block : (t : Table)
-      → replyBytes order (okBlock t) ≡ joinLines (map (λ p. lineOf (partFields p)) t) ++ okLine (decimal (length t) ∷ [])
-  pub plan : (b : ℕ) (p : Plan) → replyBytes order (lists b p) ≡ listing b p
+      → replyBytes (okBlock t) ≡ joinLines (map (λ p. lineOf (partFields p)) t) ++ okLine (decimal (length t) ∷ [])
+  pub plan : (b : ℕ) (p : Plan) → replyBytes (lists b p) ≡ listing b p
   -- "A refusal is `no⇥` and its number; those of E for a column add ⇥F or ⇥T (from, to)."
-  pub refusal : (n : ℕ) → LineOf (replyBytes order (refuses n none)) (bytes "no" ∷ decimal n ∷ [])
-  pub from-refusal : (n : ℕ) → LineOf (replyBytes order (refuses n (some Letter.F))) (bytes "no" ∷ decimal n ∷ bytes "F" ∷ [])
-  pub to-refusal : (n : ℕ) → LineOf (replyBytes order (refuses n (some Letter.T))) (bytes "no" ∷ decimal n ∷ bytes "T" ∷ [])
-  -- U: "`slot⇥n⇥r⇥pairs` for each held slot"
+  pub refusal : (n : ℕ) → LineOf (replyBytes (refuses n none)) (bytes "no" ∷ decimal n ∷ [])
+  pub from-refusal : (n : ℕ) → LineOf (replyBytes (refuses n (some Letter.F))) (bytes "no" ∷ decimal n ∷ bytes "F" ∷ [])
+  pub to-refusal : (n : ℕ) → LineOf (replyBytes (refuses n (some Letter.T))) (bytes "no" ∷ decimal n ∷ bytes "T" ∷ [])
+  -- U: "`slot⇥n⇥r⇥pairs` for each held slot .. then `ok⇥` and how many"
   pub held : (h : Held)
       → LineOf (lineOf (heldFields h))
       ((slotByte (h .slot) ∷ []) ∷ decimal (h .plan .shape .arity) ∷ decimal (h .plan .shape .roots) ∷ decimal (length (h .plan .rows)) ∷ [])
+  pub survey : (hs : List Held)
+      → replyBytes (surveys hs) ≡ joinLines (map (λ h. lineOf (heldFields h)) hs) ++ okLine (decimal (length hs) ∷ [])
 
 -- all of it, with what higman says of letters and numbers
 pub record TextExact : Type 0 where
@@ -82,4 +84,4 @@ pub record TextExact : Type 0 where
   pub well-formed : WellFormedExact
   pub slots : SlotsExact
   pub decimals : DecimalsExact
-  pub replies : (order : Order) → RepliesWritten order
+  pub replies : RepliesWritten

@@ -3,10 +3,10 @@
 -- stands around the job of each. The answers about plans are those of higman, with their numbers. Read Bytes.antt next.
 use Prim.Native.Nat.{ℕ, suc, _+_}
 use mathlib.Core.Path.{_≡_, refl}
-use mathlib.Core.Bool.{Bool, true, false, _&&_, not}
+use mathlib.Core.Bool.{Bool, true, false, _&&_, _||_, not}
 use mathlib.Core.List.{List, [], _∷_, _++_, map}
 use mathlib.Core.Option.{Option, none, some}
-use lib.Dec.{leb}
+use lib.Dec.{eqb, leb, ltb}
 use lib.IntN.{pos, natAbs}
 use lib.ListN.{length, replicate}
 use Rattle.higman.specs.Words.{Shape, Word, given, spell}
@@ -43,7 +43,7 @@ pub data Reply : Type 0 where
   okBlock : Table → Reply
   -- the plan as P, M and E records that name the slot
   lists : ℕ → Plan → Reply
-  -- a line for each of these, "in an order left open", and `ok⇥` and how many: U, the only reply that this file does not decide
+  -- a line for each of these, as they stand, and `ok⇥` and how many
   surveys : List Held → Reply
   -- `no⇥` and a number; "those of E for a column add ⇥F or ⇥T (from, to)"
   refuses : ℕ → Option Letter → Reply
@@ -117,6 +117,26 @@ abbrev pub heldFrom : ℕ → List (Option Plan) → List Held
 heldFrom i [] = []
 heldFrom i (none ∷ l) = heldFrom (suc i) l
 heldFrom i (some p ∷ l) = record { slot = i; plan = p } ∷ heldFrom (suc i) l
+
+-- a list arranged by a test that says whether one comes before another: each put in front of the first of the rest that it comes before
+module _ {A : Type 0} (before : A → A → Bool) where
+  abbrev pub insert : A → List A → List A
+  insert x [] = x ∷ []
+  insert x (y ∷ l) = elim (before x y) [ true ↦ x ∷ y ∷ l | false ↦ y ∷ insert x l ]
+
+  abbrev pub arranged : List A → List A
+  arranged [] = []
+  arranged (x ∷ l) = insert x (arranged l)
+
+-- U: "the most pairs first, and equal ones by slot letter" (change request E2)
+abbrev pub pairsIn : Held → ℕ
+pairsIn h = length (h .plan .rows)
+
+abbrev pub comesBefore : Held → Held → Bool
+comesBefore h k = ltb (pairsIn k) (pairsIn h) || (eqb (pairsIn h) (pairsIn k) && ltb (h .slot) (k .slot))
+
+unfoldable pub surveyed : Desk → List Held
+surveyed d = arranged comesBefore (heldFrom 0 (d .slots))
 
 -- the desk after an operation, and its reply
 abbrev pub Effect : Type 0
@@ -192,7 +212,7 @@ job d (C a) = do
   p ← planIn d a
   pass (changed d (slotNumber a) none, ok)
 job d T = pass (d, okNumber (countOf d))
-job d U = pass (d, surveys (heldFrom 0 (d .slots)))
+job d U = pass (d, surveys (surveyed d))
 
 -- "When each operation says no": 2, then 8, then the record's own numbers, and 16 last where the record is a change
 unfoldable pub operation : Desk → Record → Outcome Effect
@@ -238,7 +258,7 @@ deskAfter d (e ∷ es) = deskAfter (e .0) es
 -- and so does a power outside.
 respond-example : map (λ r. respond freshDesk r .1) (T ∷ U ∷ M [] [] ∷ P (byte "I") 2 1 ∷ P (byte "H") 1 1 ∷ L (byte "A") ∷ F (byte "A") (byte "A") (byte "a") ∷ K (byte "A") (pos 1001) (byte "A") ∷ [])
     ≡ okNumber 0 ∷ surveys [] ∷ refuses 2 none ∷ refuses 8 none ∷ refuses 3 none ∷ refuses 9 none ∷ refuses 8 none ∷ refuses 12 none ∷ []
-unfolding _>>=_ respond operation job needsOpen slotsNamed isChange freshDesk slotCount shapeInRange maxPower
+unfolding _>>=_ respond operation job surveyed needsOpen slotsNamed isChange freshDesk slotCount shapeInRange maxPower
 respond-example = refl
 
 -- "Lines hold at most 1,100 bytes": W with a code so long that the line has 1,100, and one byte more
@@ -280,8 +300,13 @@ twoPlans = changed (changed freshDesk 0 (some (plan21 ψ))) 1 (some (plan21 φ))
 
 done-example : map (λ r. respond twoPlans r .1) (S (byte "A") (byte "A") ∷ S (byte "A") (byte "B") ∷ L (byte "B") ∷ C (byte "B") ∷ U ∷ [])
     ≡ okNumber 1 ∷ okNumber 0 ∷ lists (byte "B") (plan21 φ) ∷ ok ∷ surveys (record { slot = 0; plan = plan21 ψ } ∷ record { slot = 1; plan = plan21 φ } ∷ []) ∷ []
-unfolding _>>=_ respond operation job needsOpen slotsNamed isChange freshDesk changed slotCount same maxChanges
+unfolding _>>=_ respond operation job surveyed needsOpen slotsNamed isChange freshDesk changed slotCount same maxChanges
 done-example = refl
+
+-- one pair in A, three in B and in H: the most pairs first, and of equal ones the lower letter
+surveyed-example : map (λ h. h .slot) (surveyed (changed (changed twoPlans 7 (some (plan21 ψ))) 0 (some (plan21 (row 1 1 ∷ []))))) ≡ 1 ∷ 7 ∷ 0 ∷ []
+unfolding surveyed freshDesk changed slotCount
+surveyed-example = refl
 
 -- W by ψ: an image, the blocks of 11 and of the belt, and a wrong digit
 front-example : map (λ code. respond twoPlans (W (byte "A") (bytes code)) .1) ("1122" ∷ "11" ∷ "1" ∷ "13" ∷ [])

@@ -20,7 +20,7 @@ use Rattle.desk.specs.Limits.{maxChanges, maxLine, maxNumeral}
 use Rattle.desk.specs.Desk.{Desk, freshDesk, changed, withDraft, dropped}
 use Rattle.desk.specs.Records.{grammar, parse, needsOpen, slotsNamed, isChange}
 use Rattle.desk.specs.Replies.{_>>=_, Effect, refuse, settle, job, operation, lineOperation, respondLine, run}
-use Rattle.desk.specs.Bytes.{Order, replyBytes}
+use Rattle.desk.specs.Bytes.{replyBytes}
 
 -- "lines ended by byte 10. A last line without that byte counts if it isn't empty": the lines of some bytes behind the beginning of one
 abbrev pub linesFrom : Bytes → Bytes → List Bytes
@@ -33,12 +33,12 @@ abbrev pub unended : Bytes → Bool
 unended line = all (λ b. not (eqb b lineEnd)) line
 
 -- the bytes of the replies to lines, one after the other
-abbrev pub repliesTo : Order → Desk → List Bytes → Bytes
-repliesTo order d ls = joinLines (map (λ e. replyBytes order (e .1)) (run d ls))
+abbrev pub repliesTo : Desk → List Bytes → Bytes
+repliesTo d ls = joinLines (map (λ e. replyBytes (e .1)) (run d ls))
 
 -- "The desk program reads standard input, one record a line": what it writes
-unfoldable pub session : Order → Bytes → Bytes
-session order input = repliesTo order freshDesk (linesFrom [] input)
+unfoldable pub session : Bytes → Bytes
+session input = repliesTo freshDesk (linesFrom [] input)
 
 -- The desk, the line that has begun, and whether that line is too long already; what it holds then is let go.
 pub record State : Type 0 where
@@ -67,25 +67,24 @@ effectOf s = elim (s .overlong) [ true ↦ settle (s .desk) (refuse noRecord non
 abbrev pub isIdle : State → Bool
 isIdle s = elim (s .overlong) [ true ↦ false | false ↦ elim (s .line) [ [] ↦ true | b ∷ l ↦ false ] ]
 
-module _ (order : Order) where
-  abbrev pub lineEnded : State → State × Bytes
-  lineEnded s = let e = effectOf s in (idle (e .0), replyBytes order (e .1))
+abbrev pub lineEnded : State → State × Bytes
+lineEnded s = let e = effectOf s in (idle (e .0), replyBytes (e .1))
 
-  -- "lines ended by byte 10"
-  unfoldable pub feedByte : State → ℕ → State × Bytes
-  feedByte s b = elim (eqb b lineEnd) [ true ↦ lineEnded s | false ↦ (grown s b, []) ]
+-- "lines ended by byte 10"
+unfoldable pub feedByte : State → ℕ → State × Bytes
+feedByte s b = elim (eqb b lineEnd) [ true ↦ lineEnded s | false ↦ (grown s b, []) ]
 
-  unfoldable pub feed : State → Bytes → State × Bytes
-  feed s [] = (s, [])
-  feed s (b ∷ input) = let r = feedByte s b in let q = feed (r .0) input in (q .0, r .1 ++ q .1)
+unfoldable pub feed : State → Bytes → State × Bytes
+feed s [] = (s, [])
+feed s (b ∷ input) = let r = feedByte s b in let q = feed (r .0) input in (q .0, r .1 ++ q .1)
 
-  -- "A last line without that byte counts if it isn't empty." "An open plan is dropped at the end of input."
-  unfoldable pub finish : State → Desk × Bytes
-  finish s = elim (isIdle s) [ true ↦ (dropped (s .desk), []) | false ↦ let r = lineEnded s in (dropped (r .0 .desk), r .1) ]
+-- "A last line without that byte counts if it isn't empty." "An open plan is dropped at the end of input."
+unfoldable pub finish : State → Desk × Bytes
+finish s = elim (isIdle s) [ true ↦ (dropped (s .desk), []) | false ↦ let r = lineEnded s in (dropped (r .0 .desk), r .1) ]
 
-  -- what is written when the input from a state on is fed whole and ends
-  abbrev pub fedWhole : State → Bytes → Bytes
-  fedWhole s input = let r = feed s input in r .1 ++ finish (r .0) .1
+-- what is written when the input from a state on is fed whole and ends
+abbrev pub fedWhole : State → Bytes → Bytes
+fedWhole s input = let r = feed s input in r .1 ++ finish (r .0) .1
 
 -- document 01, "A session in full", with the block that change request E1 gives for its `no⇥13`
 abbrev pub inputInFull : Bytes
@@ -125,23 +124,22 @@ linesFrom-example : linesFrom [] (bytes "T\n\nU") ≡ bytes "T" ∷ [] ∷ bytes
 linesFrom-example = refl
 
 -- a last line without byte 10, and none behind the last byte 10
-last-line-example : (order : Order)
-    → map (session order) (bytes "T" ∷ bytes "T\n" ∷ bytes "\nT\r" ∷ []) ≡ bytes "ok\t0\n" ∷ bytes "ok\t0\n" ∷ bytes "no\t1\nno\t1\n" ∷ []
+last-line-example : map session (bytes "T" ∷ bytes "T\n" ∷ bytes "\nT\r" ∷ []) ≡ bytes "ok\t0\n" ∷ bytes "ok\t0\n" ∷ bytes "no\t1\nno\t1\n" ∷ []
 unfolding session run replyBytes _>>=_ respondLine lineOperation operation job needsOpen slotsNamed isChange parse grammar freshDesk
     dropped slotCount maxLine
-last-line-example order = refl
+last-line-example = refl
 
 -- behind 1,100 bytes of a line one more makes it too long: what it held is let go, and at its end it is refused
 abbrev fullLine : State
 fullLine = record { desk = freshDesk; line = replicate maxLine (byte "T"); overlong = false }
 
-overlong-example : (order : Order) → feed order fullLine (bytes "TT\nT\n") ≡ (idle freshDesk, bytes "no\t1\nok\t0\n")
+overlong-example : feed fullLine (bytes "TT\nT\n") ≡ (idle freshDesk, bytes "no\t1\nok\t0\n")
 unfolding feed feedByte replyBytes _>>=_ respondLine lineOperation operation job needsOpen slotsNamed isChange parse grammar freshDesk
     dropped slotCount maxLine
-overlong-example order = refl
+overlong-example = refl
 
-session-in-full : (order : Order) → session order inputInFull ≡ outputInFull
+session-in-full : session inputInFull ≡ outputInFull
 unfolding session run replyBytes _>>=_ respondLine lineOperation operation job needsOpen slotsNamed isChange parse grammar freshDesk
     changed withDraft dropped slotCount maxChanges maxLine maxNumeral isPlanWord digitOf maxPairs maxDigits maxCode maxPower shapeInRange
     granted isCode verdict followed inverted raised powered routed block keep compose inverse identity normalForm normal joined
-session-in-full order = refl
+session-in-full = refl

@@ -1,16 +1,16 @@
--- The statements, for every order of U's lines. Of one line: RefusalDrops, DeskStays, DeskTest, SurveyExact and BlockReplied. Of a session:
--- LinesExact, LinesFed, FedInPieces (wherever its input is cut), SessionFed (what the state holds of a line is enough), TypedIn,
+-- The statements. Of one line: RefusalDrops, DeskStays, DeskTest, SurveyExact and BlockReplied. Of a session: LinesExact, LinesFed,
+-- FedInPieces (wherever its input is cut), SessionFed (what the state holds of a line is enough), TypedIn,
 -- AcceptedFromLines and ListingReadBack. Of a library call: CallsExact. proofs/ has one term of each. Read Conditions.antt next.
-use Prim.Native.Nat.{ℕ, suc, _≤_, _<_}
+use Prim.Native.Nat.{ℕ, _≤_, _<_}
 use mathlib.Core.Path.{_≡_}
-use mathlib.Core.Logic.{_↔_}
+use mathlib.Core.Logic.{_↔_, _⊎_}
 use mathlib.Core.Bool.{_&&_}
-use mathlib.Core.List.{List, [], _∷_, _++_, map, List·Memᴰ, List·Permᴰ}
+use mathlib.Core.List.{List, [], _∷_, _++_, map, List·Memᴰ}
 use mathlib.Core.Option.{Option, none, some}
 use lib.Dec.{T}
 use lib.ListN.{length}
 use Rattle.higman.specs.Words.{Shape}
-use Rattle.higman.specs.Text.{Bytes, lineEnd, decimal, wordOf}
+use Rattle.higman.specs.Text.{Bytes, lineEnd, wordOf}
 use Rattle.higman.specs.Bases.{all}
 use Rattle.higman.specs.Tables.{Table}
 use Rattle.higman.specs.Normal.{keep}
@@ -22,10 +22,10 @@ use Rattle.higman.specs.Listing.{slotNumber, isSlot, openRecord, pairRecords, j
 use Rattle.higman.specs.Buffers.{written}
 use Rattle.desk.specs.Limits.{maxChanges}
 use Rattle.desk.specs.Desk.{Desk, countOf, held, IsDesk, isDesk, freshDesk, changed, withDraft, dropped}
-use Rattle.desk.specs.Records.{Record, P, M, E, W, recordText, wellFormed}
-use Rattle.desk.specs.Replies.{refuse, pass, Effect, lists, surveys, Held, heldFrom, okNumber, okBlock, refuses, operation}
+use Rattle.desk.specs.Records.{Record, P, M, E, W, U, recordText, wellFormed}
+use Rattle.desk.specs.Replies.{refuse, pass, Effect, lists, surveys, Held, pairsIn, okNumber, okBlock, refuses, operation}
 use Rattle.desk.specs.Replies.{respondLine, run, deskAfter}
-use Rattle.desk.specs.Bytes.{lineOf, okLine, heldFields, Order, replyBytes}
+use Rattle.desk.specs.Bytes.{replyBytes}
 use Rattle.desk.specs.Session.{linesFrom, unended, State, idle, feed, finish, fedWhole, session}
 use Rattle.desk.specs.Buffers.{Work, lentCall, plainCall}
 
@@ -42,23 +42,30 @@ pub record DeskStays : Type 0 where
 abbrev pub DeskTest : Type 0
 DeskTest = (d : Desk) → T (isDesk d) ↔ IsDesk d
 
--- slot numbers from i on, each above the one before it
-abbrev pub Ascending : ℕ → List Held → Type 0
-Ascending i [] = Unit {0}
-Ascending i (h ∷ hs) = (i ≤ h .slot) × Ascending (suc (h .slot)) hs
+-- U (change request E2): "with the most pairs first, and equal ones by slot letter"
+abbrev pub Before : Held → Held → Type 0
+Before h k = (pairsIn k < pairsIn h) ⊎ ((pairsIn h ≡ pairsIn k) × (h .slot < k .slot))
 
--- the reply of U: some lines, which are those of the held slots in some order, and then `ok⇥` and how many
-pub record SurveyReply (order : Order) (hs : List Held) : Type 0 where
-  pub lines : List (List Bytes)
-  pub each-once : List·Permᴰ lines (map heldFields hs)
-  pub reply : replyBytes order (surveys hs) ≡ joinLines (map lineOf lines) ++ okLine (decimal (length hs) ∷ [])
+-- each before all that follow it
+abbrev pub InOrder : List Held → Type 0
+InOrder [] = Unit {0}
+InOrder (h ∷ hs) = ((k : Held) → List·Memᴰ k hs → Before h k) × InOrder hs
 
--- U: "in it each held slot has its line exactly once", whatever the order
+-- no slot twice
+abbrev pub NoneTwice : List Held → Type 0
+NoneTwice [] = Unit {0}
+NoneTwice (h ∷ hs) = ((k : Held) → List·Memᴰ k hs → h .slot ≡ k .slot → ⊥) × NoneTwice hs
+
+-- what U lists of a desk: "each held slot has its line exactly once", in that order
+pub record SurveyOf (d : Desk) (hs : List Held) : Type 0 where
+  pub each : (i : ℕ) (p : Plan) → (held d i ≡ some p) ↔ List·Memᴰ (record { slot = i; plan = p }) hs
+  pub once : NoneTwice hs
+  pub in-order : InOrder hs
+
+-- That is what it replies, and there is no second such list.
 pub record SurveyExact : Type 0 where
-  pub held-listed : (d : Desk) (i : ℕ) (p : Plan)
-      → (held d i ≡ some p) ↔ List·Memᴰ (record { slot = i; plan = p }) (heldFrom 0 (d .slots))
-  pub once : (d : Desk) → Ascending 0 (heldFrom 0 (d .slots))
-  pub replied : (order : Order) (hs : List Held) → SurveyReply order hs
+  pub replied : (d : Desk) (e : Effect) → operation d U ≡ pass e → (hs : List Held) × (e ≡ (d, surveys hs)) × SurveyOf d hs
+  pub determined : (d : Desk) (hs ks : List Held) → SurveyOf d hs → SurveyOf d ks → hs ≡ ks
 
 -- Change request E1: where W gives a block, its lines are those of the plan in the slot, and where the plan is a kept *a then b*, they say
 -- of every longer code what a and then b do to it.
@@ -69,21 +76,21 @@ BlockReplied =
     × ((a b : Plan) → Kept a → Kept b → followed a b ≡ Granted r → SendsInTurn a b (wordOf code) lines)
 
 -- two pieces, one after the other
-abbrev pub feedBoth : Order → State → Bytes → Bytes → State × Bytes
-feedBoth order s x y = let r = feed order s x in let q = feed order (r .0) y in (q .0, r .1 ++ q .1)
+abbrev pub feedBoth : State → Bytes → Bytes → State × Bytes
+feedBoth s x y = let r = feed s x in let q = feed (r .0) y in (q .0, r .1 ++ q .1)
 
-abbrev pub feedPieces : Order → State → List Bytes → State × Bytes
-feedPieces order s [] = (s, [])
-feedPieces order s (x ∷ pieces) = let r = feed order s x in let q = feedPieces order (r .0) pieces in (q .0, r .1 ++ q .1)
+abbrev pub feedPieces : State → List Bytes → State × Bytes
+feedPieces s [] = (s, [])
+feedPieces s (x ∷ pieces) = let r = feed s x in let q = feedPieces (r .0) pieces in (q .0, r .1 ++ q .1)
 
 -- Fed in pieces, wherever they are cut, a session comes to the same state and writes the same bytes as fed whole.
 pub record FedInPieces : Type 0 where
-  pub two : (order : Order) (s : State) (x y : Bytes) → feed order s (x ++ y) ≡ feedBoth order s x y
-  pub any : (order : Order) (s : State) (pieces : List Bytes) → feed order s (joinLines pieces) ≡ feedPieces order s pieces
+  pub two : (s : State) (x y : Bytes) → feed s (x ++ y) ≡ feedBoth s x y
+  pub any : (s : State) (pieces : List Bytes) → feed s (joinLines pieces) ≡ feedPieces s pieces
 
 -- Fed whole from a fresh desk on, the input gets the replies to its lines, each line as a whole and however long it is.
 abbrev pub SessionFed : Type 0
-SessionFed = (order : Order) (input : Bytes) → fedWhole order (idle freshDesk) input ≡ session order input
+SessionFed = (input : Bytes) → fedWhole (idle freshDesk) input ≡ session input
 
 -- "lines ended by byte 10. A last line without that byte counts if it isn't empty."
 pub record LinesExact : Type 0 where
@@ -92,25 +99,25 @@ pub record LinesExact : Type 0 where
   pub last : (b : ℕ) (line : Bytes) → T (unended (b ∷ line)) → linesFrom [] (b ∷ line) ≡ (b ∷ line) ∷ []
 
 -- what a line's effect leaves to be fed
-abbrev pub thenFed : Order → Effect → Bytes → State × Bytes
-thenFed order e rest = let q = feed order (idle (e .0)) rest in (q .0, replyBytes order (e .1) ++ q .1)
+abbrev pub thenFed : Effect → Bytes → State × Bytes
+thenFed e rest = let q = feed (idle (e .0)) rest in (q .0, replyBytes (e .1) ++ q .1)
 
 -- A line that is fed, however long, is answered as a whole; at the end of input a line that has begun is answered if it isn't empty, and
 -- "An open plan is dropped".
 pub record LinesFed : Type 0 where
-  pub ended : (order : Order) (d : Desk) (line rest : Bytes) → T (unended line)
-      → feed order (idle d) (line ++ lineEnd ∷ rest) ≡ thenFed order (respondLine d line) rest
-  pub last : (order : Order) (d : Desk) (b : ℕ) (line : Bytes) → T (unended (b ∷ line))
-      → let e = respondLine d (b ∷ line) in finish order (feed order (idle d) (b ∷ line) .0) ≡ (dropped (e .0), replyBytes order (e .1))
-  pub none-left : (order : Order) (d : Desk) → finish order (idle d) ≡ (dropped d, [])
+  pub ended : (d : Desk) (line rest : Bytes) → T (unended line)
+      → feed (idle d) (line ++ lineEnd ∷ rest) ≡ thenFed (respondLine d line) rest
+  pub last : (d : Desk) (b : ℕ) (line : Bytes) → T (unended (b ∷ line))
+      → let e = respondLine d (b ∷ line) in finish (feed (idle d) (b ∷ line) .0) ≡ (dropped (e .0), replyBytes (e .1))
+  pub none-left : (d : Desk) → finish (idle d) ≡ (dropped d, [])
 
 -- What is typed is what the lines say: P and M records of words within the limits, typed into a desk with no open plan, get no reply
 -- and open just the plan that they spell, in their order. Whatever follows, E first of all, meets that plan.
 abbrev pub TypedIn : Type 0
 TypedIn =
-    (order : Order) (d : Desk) → d .draft ≡ none → (b : ℕ) → T (isSlot b) → (s : Shape) (t : Table) → T (isTableOf s t) → (rest : Bytes)
-    → feed order (idle d) (openRecord b s ++ (joinLines (pairRecords t) ++ rest))
-    ≡ feed order (idle (withDraft d (record { slot = slotNumber b; shape = s; rows = t }))) rest
+    (d : Desk) → d .draft ≡ none → (b : ℕ) → T (isSlot b) → (s : Shape) (t : Table) → T (isTableOf s t) → (rest : Bytes)
+    → feed (idle d) (openRecord b s ++ (joinLines (pairRecords t) ++ rest))
+    ≡ feed (idle (withDraft d (record { slot = slotNumber b; shape = s; rows = t }))) rest
 
 -- two words as they are typed
 pub record TypedPair : Type 0 where
@@ -147,32 +154,32 @@ pub record AcceptedFromLines : Type 0 where
 -- What L replies, read back on a desk with no open plan and room for a change, keeps the plan in the slot that the listing names.
 abbrev pub ListingReadBack : Type 0
 ListingReadBack =
-    (order : Order) (d : Desk) → d .draft ≡ none → countOf d < maxChanges → (b : ℕ) → T (isSlot b) → (p : Plan) → Kept p
-    → feed order (idle d) (replyBytes order (lists b p))
-    ≡ (idle (changed d (slotNumber b) (some p)), replyBytes order (okNumber (length (p .rows))))
+    (d : Desk) → d .draft ≡ none → countOf d < maxChanges → (b : ℕ) → T (isSlot b) → (p : Plan) → Kept p
+    → feed (idle d) (replyBytes (lists b p))
+    ≡ (idle (changed d (slotNumber b) (some p)), replyBytes (okNumber (length (p .rows))))
 
 -- Library calls: 15 first, then the refusals of the work itself, 14 last; what is lent and the desk after each of them.
 pub record CallsExact : Type 0 where
   -- no desk: 15, and everything is left as it came
-  pub no-desk : (order : Order) (d : Desk) (work : Work) (buffer : Bytes) → (IsDesk d → ⊥)
-      → lentCall order d work buffer ≡ (d, record { buffer = buffer; answer = refuse invalidValue none })
+  pub no-desk : (d : Desk) (work : Work) (buffer : Bytes) → (IsDesk d → ⊥)
+      → lentCall d work buffer ≡ (d, record { buffer = buffer; answer = refuse invalidValue none })
   -- a desk: a refusal of the work comes before 14
-  pub refused : (order : Order) (d : Desk) (work : Work) (buffer : Bytes) (n : ℕ) (c : Option Letter) → IsDesk d → work d ≡ refuse n c
-      → lentCall order d work buffer ≡ (dropped d, record { buffer = buffer; answer = refuse n c })
+  pub refused : (d : Desk) (work : Work) (buffer : Bytes) (n : ℕ) (c : Option Letter) → IsDesk d → work d ≡ refuse n c
+      → lentCall d work buffer ≡ (dropped d, record { buffer = buffer; answer = refuse n c })
   -- 14: "the lent buffer is shorter than the output"
-  pub no-room : (order : Order) (d : Desk) (work : Work) (buffer : Bytes) (e : Effect) → IsDesk d → work d ≡ pass e
-      → length buffer < length (replyBytes order (e .1))
-      → lentCall order d work buffer ≡ (dropped d, record { buffer = buffer; answer = refuse bufferTooShort none })
+  pub no-room : (d : Desk) (work : Work) (buffer : Bytes) (e : Effect) → IsDesk d → work d ≡ pass e
+      → length buffer < length (replyBytes (e .1))
+      → lentCall d work buffer ≡ (dropped d, record { buffer = buffer; answer = refuse bufferTooShort none })
   -- otherwise the work is done, and "only the bytes of the output change"
-  pub done : (order : Order) (d : Desk) (work : Work) (buffer : Bytes) (e : Effect) → IsDesk d → work d ≡ pass e
-      → length (replyBytes order (e .1)) ≤ length buffer
-      → let output = replyBytes order (e .1) in lentCall order d work buffer
+  pub done : (d : Desk) (work : Work) (buffer : Bytes) (e : Effect) → IsDesk d → work d ≡ pass e
+      → length (replyBytes (e .1)) ≤ length buffer
+      → let output = replyBytes (e .1) in lentCall d work buffer
       ≡ (e .0, record { buffer = written buffer 0 output; answer = pass (length output) })
   -- "a lent buffer then holds what it held before", at any refusal; and a buffer keeps its length at any answer
-  pub buffer-held : (order : Order) (d : Desk) (work : Work) (buffer : Bytes) (n : ℕ) (c : Option Letter)
-      → lentCall order d work buffer .1 .answer ≡ refuse n c → lentCall order d work buffer .1 .buffer ≡ buffer
-  pub buffer-length : (order : Order) (d : Desk) (work : Work) (buffer : Bytes)
-      → length (lentCall order d work buffer .1 .buffer) ≡ length buffer
+  pub buffer-held : (d : Desk) (work : Work) (buffer : Bytes) (n : ℕ) (c : Option Letter)
+      → lentCall d work buffer .1 .answer ≡ refuse n c → lentCall d work buffer .1 .buffer ≡ buffer
+  pub buffer-length : (d : Desk) (work : Work) (buffer : Bytes)
+      → length (lentCall d work buffer .1 .buffer) ≡ length buffer
   -- a call that is lent nothing
   pub plain-no-desk : (d : Desk) (work : Work) → (IsDesk d → ⊥) → plainCall d work ≡ (d, refuse invalidValue none)
   pub plain-refused : (d : Desk) (work : Work) (n : ℕ) (c : Option Letter) → IsDesk d → work d ≡ refuse n c

@@ -17,7 +17,6 @@ use Rattle.replies.specs.Sizes.{maxReply}
 use Rattle.replies.proofs.EveryReply.{replies-fit}
 use Rattle.slots.specs.declared.Head.{Head}
 use Rattle.slots.specs.Desks.{deskOf, HoldsDesk}
-use Rattle.slots.specs.Works.{deskOrder}
 use Rattle.slots.proofs.Windows.{shown-same}
 use Rattle.lines.specs.Lines.{droppedHead}
 use Rattle.lines.proofs.Settled.{dropped-is}
@@ -31,14 +30,14 @@ use Rattle.desk_c.specs.Calls.{columnByte, lineCall, lentOf, LentBy, ref
 use Rattle.desk_c.specs.Settling.{outcomeOf, RepliedTo}
 
 -- an operation by its outcome
-refused-by : (o : OutcomeOf Effect) (n l : ℕ) → outcomeOf (outputOf deskOrder o) ≡ Refused n l
+refused-by : (o : OutcomeOf Effect) (n l : ℕ) → outcomeOf (outputOf o) ≡ Refused n l
     → (c : Option Letter) × (o ≡ refuse n c) × (l ≡ columnByte c)
 unfolding _>>=_
 refused-by (refuse m c) n l e = (c, cc, cc)
 refused-by (pass x) n l e = let z : _≡_ {A = ℕ} 0 1 = cc in absurd (omega arith)
 
-wrote-by : (o : OutcomeOf Effect) (n : ℕ) → outcomeOf (outputOf deskOrder o) ≡ Wrote n
-    → (e : Effect) × (o ≡ pass e) × (n ≡ length (replyBytes deskOrder (e .1)))
+wrote-by : (o : OutcomeOf Effect) (n : ℕ) → outcomeOf (outputOf o) ≡ Wrote n
+    → (e : Effect) × (o ≡ pass e) × (n ≡ length (replyBytes (e .1)))
 unfolding _>>=_
 wrote-by (refuse m c) n e = let z : _≡_ {A = ℕ} 0 1 = cc in absurd (omega arith)
 wrote-by (pass x) n e = (x, refl, cc)
@@ -65,11 +64,11 @@ module _ (h : Head) (columns : List ℕ) (H : HoldsDesk h columns) (line out out
       let (c, f, g) = refused-by o n l (sym (R .outcome) ∙ e) in
       let desk = p ∙ ap packedDesk (R .desk ∙ ap (λ x. settle d x .0) f) in
       lent-by call (dropped d) (record { buffer = out; answer = refuse n c })
-      (calls-exact .refused deskOrder d (λ x. lineOperation x line) out n c (H .is-desk) f) s
+      (calls-exact .refused d (λ x. lineOperation x line) out n c (H .is-desk) f) s
       (q ∙ (λ i. refusedWith (desk i) n (g i))) out refl
 
   module _ (n : ℕ) (w : r .outcome ≡ Wrote n) where
-    abbrev done : (e : Effect) × (o ≡ pass e) × (n ≡ length (replyBytes deskOrder (e .1)))
+    abbrev done : (e : Effect) × (o ≡ pass e) × (n ≡ length (replyBytes (e .1)))
     done = wrote-by o n (sym (R .outcome) ∙ w)
 
     -- any reply fits into as many bytes
@@ -77,8 +76,8 @@ module _ (h : Head) (columns : List ℕ) (H : HoldsDesk h columns) (line out out
     unfolding respondLine
     reply-fits =
         let (e, f, g) = done in
-        let fits = replies-fit .every-reply deskOrder d (H .is-desk) line in
-        let same = ap (λ x. length (replyBytes deskOrder (settle d x .1))) f in
+        let fits = replies-fit .every-reply d (H .is-desk) line in
+        let same = ap (λ x. length (replyBytes (settle d x .1))) f in
         omega arith
 
     pub call-short : length out < n → (v : Desk) → v ≡ packedDesk (deskOf (droppedHead h) columns) → (s : Served)
@@ -88,7 +87,7 @@ module _ (h : Head) (columns : List ℕ) (H : HoldsDesk h columns) (line out out
         let (e, f, g) = done in
         let desk = p ∙ ap packedDesk (dropped-is h columns) in
         lent-by call (dropped d) (record { buffer = out; answer = refuse bufferTooShort none })
-        (calls-exact .no-room deskOrder d (λ x. lineOperation x line) out e (H .is-desk) f (omega arith)) s
+        (calls-exact .no-room d (λ x. lineOperation x line) out e (H .is-desk) f (omega arith)) s
         (q ∙ ap (λ x. refusedWith x bufferTooShort 0) desk) out refl
 
     pub call-done : n ≤ length out → n ≤ length out₀ → (v : Desk) → v ≡ packedDesk (deskOf (r .head) columns′) → (out″ : List ℕ)
@@ -96,11 +95,11 @@ module _ (h : Head) (columns : List ℕ) (H : HoldsDesk h columns) (line out out
         → LentBy call (record { desk = v; answer = record { number = 0; column = 0; length = n } }) out″
     call-done k k₀ v p out″ q =
         let (e, f, g) = done in
-        let bytes = replyBytes deskOrder (e .1) in
+        let bytes = replyBytes (e .1) in
         let desk = p ∙ ap packedDesk (R .desk ∙ ap (λ x. settle d x .0) f) in
         let shown : take n out′ ≡ bytes = ap (take n) (R .output e f) ∙ ap (λ m. take m (written out₀ 0 bytes)) g
         ∙ shown-same out₀ 0 bytes (omega arith) in
         lent-by call (e .0) (record { buffer = written out 0 bytes; answer = pass (length bytes) })
-        (calls-exact .done deskOrder d (λ x. lineOperation x line) out e (H .is-desk) f (omega arith))
+        (calls-exact .done d (λ x. lineOperation x line) out e (H .is-desk) f (omega arith))
         (record { desk = v; answer = record { number = 0; column = 0; length = n } })
         (λ i. record { desk = desk i; answer = record { number = 0; column = 0; length = g i } }) out″ (q ∙ ap (written out 0) shown)

@@ -18,7 +18,7 @@ use Rattle.slots.specs.declared.Reply.{Reply}
 use Rattle.slots.specs.declared.Reply.the-variants.{Silent, Ok, Number, Written, Refused, RefusedIn}
 use Rattle.slots.specs.declared.Work.{Work}
 use Rattle.slots.specs.Desks.{deskOf, HoldsDesk}
-use Rattle.slots.specs.Works.{deskOrder, told, deskAfter, replyTo, DoneBy}
+use Rattle.slots.specs.Works.{told, deskAfter, replyTo, DoneBy}
 use Rattle.lines.specs.Lines.{droppedHead}
 use Rattle.lines.proofs.Settled.{dropped-is, holds-dropped, told-refused, told-column}
 use Rattle.desk_c.specs.declared.serving.Outcome.the-variants as Told
@@ -73,7 +73,7 @@ module _ (d : DeskOf) (o : OutcomeOf Effect) (out₀ columns′ out : List ℕ) 
       record {
         holds = subst (λ x. HoldsDesk x columns′) (sym q) holds;
         desk = ap (λ x. deskOf x columns′) q ∙ desk;
-        outcome = ap (Told.Refused n) p ∙ ap (λ x. outcomeOf (outputOf deskOrder x)) (sym e);
+        outcome = ap (Told.Refused n) p ∙ ap (λ x. outcomeOf (outputOf x)) (sym e);
         output = λ x r. absurd (subst IsRefusal (sym e ∙ r) tt);
       }
 
@@ -81,11 +81,11 @@ module _ (d : DeskOf) (line : Bytes) (out₀ columns′ out′ : List ℕ) (r : 
   pub replied-wrote : (e : Effect) → lineOperation d line ≡ pass e → RepliedTo d (lineOperation d line) out₀ r columns′ out′
   unfolding respondLine _>>=_
   replied-wrote e q =
-      let size : s .used ≡ length (replyBytes deskOrder (settle d (lineOperation d line) .1)) = s .answered .wrote .place ∙ omega arith in
+      let size : s .used ≡ length (replyBytes (settle d (lineOperation d line) .1)) = s .answered .wrote .place ∙ omega arith in
       record {
         holds = s .answered .holds;
         desk = s .answered .desk;
-        outcome = s .outcome ∙ ap Told.Wrote size ∙ ap (λ x. Told.Wrote (length (replyBytes deskOrder (settle d x .1)))) q
-            ∙ ap (λ x. outcomeOf (outputOf deskOrder x)) (sym q);
-        output = λ x p. s .answered .wrote .contents ∙ ap (λ y. written out₀ 0 (replyBytes deskOrder (settle d y .1))) p;
+        outcome = s .outcome ∙ ap Told.Wrote size ∙ ap (λ x. Told.Wrote (length (replyBytes (settle d x .1)))) q
+            ∙ ap (λ x. outcomeOf (outputOf x)) (sym q);
+        output = λ x p. s .answered .wrote .contents ∙ ap (λ y. written out₀ 0 (replyBytes (settle d y .1))) p;
       }

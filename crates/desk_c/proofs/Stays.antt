@@ -16,7 +16,6 @@ use Rattle.desk.specs.Buffers.{Work, lentCall, plainCall}
 use Rattle.desk.proofs.Outcomes.{Passes, stops, passes, passed, any-then}
 use Rattle.desk.proofs.Stays.{operation-stays, dropped-desk}
 use Rattle.desk.proofs.Calls.{calls-exact}
-use Rattle.slots.specs.Works.{deskOrder}
 use Rattle.desk_values.specs.declared.Desk.{Desk}
 use Rattle.desk_values.specs.Values.{deskIn, isDeskValue, packedDesk, Whole}
 use Rattle.desk_values.proofs.Taken.{desk-values}
@@ -31,21 +30,21 @@ abbrev Keeps : Work → DeskOf → Type 0
 Keeps work d = Passes (λ (e : Effect). IsDesk (e .0)) (work d)
 
 module _ (d : DeskOf) (D : IsDesk d) (work : Work) (k : Keeps work d) where
-  lent-left : (out : Bytes) → IsDesk (lentCall deskOrder d work out .0)
+  lent-left : (out : Bytes) → IsDesk (lentCall d work out .0)
   lent-left out = by (work d) refl
     where
-      left : (x : DeskOf) → lentCall deskOrder d work out .0 ≡ x → IsDesk x → IsDesk (lentCall deskOrder d work out .0)
+      left : (x : DeskOf) → lentCall d work out .0 ≡ x → IsDesk x → IsDesk (lentCall d work out .0)
       left x e h = subst IsDesk (sym e) h
 
-      by-room : (e : Effect) → work d ≡ pass e → (b : Bool) → leb (length (replyBytes deskOrder (e .1))) (length out) ≡ b
-          → IsDesk (lentCall deskOrder d work out .0)
-      by-room e p true r = left (e .0) (ap (λ c. c .0) (calls-exact .done deskOrder d work out e D p (leb-true _ _ r))) (passed k e p)
-      by-room e p false r = left (dropped d) (ap (λ c. c .0) (calls-exact .no-room deskOrder d work out e D p (leb-false _ _ r)))
+      by-room : (e : Effect) → work d ≡ pass e → (b : Bool) → leb (length (replyBytes (e .1))) (length out) ≡ b
+          → IsDesk (lentCall d work out .0)
+      by-room e p true r = left (e .0) (ap (λ c. c .0) (calls-exact .done d work out e D p (leb-true _ _ r))) (passed k e p)
+      by-room e p false r = left (dropped d) (ap (λ c. c .0) (calls-exact .no-room d work out e D p (leb-false _ _ r)))
           (dropped-desk d D)
 
-      by : (o : Outcome Effect) → work d ≡ o → IsDesk (lentCall deskOrder d work out .0)
-      by (refuse n c) p = left (dropped d) (ap (λ c. c .0) (calls-exact .refused deskOrder d work out n c D p)) (dropped-desk d D)
-      by (pass e) p = by-room e p (leb (length (replyBytes deskOrder (e .1))) (length out)) refl
+      by : (o : Outcome Effect) → work d ≡ o → IsDesk (lentCall d work out .0)
+      by (refuse n c) p = left (dropped d) (ap (λ c. c .0) (calls-exact .refused d work out n c D p)) (dropped-desk d D)
+      by (pass e) p = by-room e p (leb (length (replyBytes (e .1))) (length out)) refl
 
   plain-left-desk : IsDesk (plainCall d work .0)
   plain-left-desk = by (work d) refl

@@ -22,7 +22,6 @@ use Rattle.operations.specs.Plans.{inTable, packed, blank}
 use Rattle.slots.specs.Blocks.{blockCount, columnsSize, valueAt}
 use Rattle.slots.specs.Desks.{deskOf}
 use Rattle.desks.specs.Tested.{holdsTest}
-use Rattle.slots.specs.Works.{deskOrder}
 use Rattle.desk_values.specs.declared.Desk.{Desk}
 use Rattle.desk_values.specs.Values.{deskIn, isDeskValue, packedDesk}
 use Rattle.desk_c.specs.declared.Job.{Job}
@@ -100,7 +99,7 @@ jobWork j d = jobRecord j >>= operation d
 
 -- a line's call on a desk: what it leaves of the desk and of the buffer, and its answer
 abbrev pub lineCall : DeskOf → Bytes → Bytes → DeskOf × Lent
-lineCall d line out = lentCall deskOrder d (λ x. lineOperation x line) out
+lineCall d line out = lentCall d (λ x. lineOperation x line) out
 
 -- the same with the desk as a value
 abbrev pub lentOf : DeskOf × Lent → Served
@@ -162,14 +161,14 @@ served-example : map (served (bytes "T") (packedDesk freshDesk)) (bytes ".......
     ∷ []
 unfolding served isDeskValue deskIn packedDesk deskOf valueAt holdsTest inTable packed blank maxPairs slotCount maxChanges
     freshDesk dropped lentCall lent isDesk
-    lineOperation operation jobOf needsOpen slotsNamed isChange parse grammar maxLine replyBytes deskOrder _>>=_
+    lineOperation operation jobOf needsOpen slotsNamed isChange parse grammar maxLine replyBytes _>>=_
 served-example = refl
 
 buffer-example : map (bufferAfter (bytes "T") (packedDesk freshDesk)) (bytes "......." ∷ bytes "...." ∷ [])
     ≡ bytes "ok\t0\n.." ∷ bytes "...." ∷ []
 unfolding bufferAfter isDeskValue deskIn packedDesk deskOf valueAt holdsTest inTable packed blank maxPairs slotCount maxChanges
     freshDesk dropped lentCall lent
-    isDesk lineOperation operation jobOf needsOpen slotsNamed isChange parse grammar maxLine replyBytes deskOrder _>>=_
+    isDesk lineOperation operation jobOf needsOpen slotsNamed isChange parse grammar maxLine replyBytes _>>=_
 buffer-example = refl
 
 -- S of two empty slots: 9

@@ -15,7 +15,7 @@ use Rattle.slots.specs.declared.Reply.{Reply}
 use Rattle.slots.specs.declared.Reply.the-variants.{Silent, Ok, Number, Written as WrittenReply, Refused as RefusedReply, RefusedIn}
 use Rattle.slots.specs.declared.Work.{Work}
 use Rattle.slots.specs.Desks.{deskOf, HoldsDesk}
-use Rattle.slots.specs.Works.{deskOrder, DoneBy}
+use Rattle.slots.specs.Works.{DoneBy}
 use Rattle.lines.specs.declared.Stepped.{Stepped}
 use Rattle.lines.specs.Lines.{droppedHead, Answered}
 use Rattle.desk_c.specs.declared.Job.{Job}
@@ -34,8 +34,8 @@ outcomeOf (pass b) = Wrote (length b)
 pub record RepliedTo (d : DeskOf) (o : OutcomeOf Effect) (out : List ℕ) (r : Replied) (columns′ out′ : List ℕ) : Type 0 where
   pub holds : HoldsDesk (r .head) columns′
   pub desk : deskOf (r .head) columns′ ≡ settle d o .0
-  pub outcome : r .outcome ≡ outcomeOf (outputOf deskOrder o)
-  pub output : (e : Effect) → o ≡ pass e → out′ ≡ written out 0 (replyBytes deskOrder (e .1))
+  pub outcome : r .outcome ≡ outcomeOf (outputOf o)
+  pub output : (e : Effect) → o ≡ pass e → out′ ≡ written out 0 (replyBytes (e .1))
 
 -- a line's work that is well done is replied to
 abbrev pub RepliedBy : Work → List ℕ → Replied → List ℕ → Type 0

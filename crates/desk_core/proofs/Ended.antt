@@ -13,7 +13,6 @@ use Rattle.desk.specs.Bytes.{replyBytes}
 use Rattle.desk.specs.Session.{isIdle, effectOf, finish}
 use Rattle.slots.specs.declared.Head.{Head}
 use Rattle.slots.specs.Desks.{deskOf, HoldsDesk}
-use Rattle.slots.specs.Works.{deskOrder}
 use Rattle.desk_core.specs.declared.feeding.State.{State}
 use Rattle.desk_core.specs.declared.feeding.Finished.{Finished}
 use Rattle.lines.specs.Lines.{droppedHead}
@@ -45,9 +44,9 @@ idle-state s e n =
 module _ (s : State) (out : List ℕ) where
   abbrev ending : Bool → Desk × Bytes
   ending b =
-      elim b [ true ↦ (dropped (stateOf s .desk), []) | false ↦ (dropped (effectOf (stateOf s) .0), replyBytes deskOrder (effectOf (stateOf s) .1)) ]
+      elim b [ true ↦ (dropped (stateOf s .desk), []) | false ↦ (dropped (effectOf (stateOf s) .0), replyBytes (effectOf (stateOf s) .1)) ]
 
-  ends : (b : Bool) → isIdle (stateOf s) ≡ b → finish deskOrder (stateOf s) ≡ ending b
+  ends : (b : Bool) → isIdle (stateOf s) ≡ b → finish (stateOf s) ≡ ending b
   unfolding finish
   ends b e = ap ending e
 

@@ -14,14 +14,13 @@ use Rattle.words.proofs.Runs.{wrote-then}
 use Rattle.desk.specs.Limits.{maxLine}
 use Rattle.desk.specs.Desk.{Desk}
 use Rattle.desk.specs.Replies.{Effect, respondLine}
-use Rattle.desk.specs.Bytes.{Order, replyBytes}
+use Rattle.desk.specs.Bytes.{replyBytes}
 use Rattle.desk.specs.Session.{unended, State as StateOf, idle, grown, effectOf, feed}
 use Rattle.desk.proofs.Session.{feed-append, Begun, kept, lost, begun-effect, byte-inside, inside-first, inside-rest, fed-line, fed-last}
 use Rattle.replies.specs.Sizes.{maxReply}
 use Rattle.replies.proofs.Images.{written-lent}
 use Rattle.replies.proofs.EveryReply.{replies-fit}
 use Rattle.slots.specs.Desks.{deskOf, HoldsDesk}
-use Rattle.slots.specs.Works.{deskOrder}
 use Rattle.slots.proofs.Windows.{written-length}
 use Rattle.lines.specs.declared.Stepped.{Stepped}
 use Rattle.desk_core.specs.declared.feeding.Begun.{Begun as Grown}
@@ -32,12 +31,12 @@ use Rattle.desk_core.proofs.Runs.{run-next}
 use Rattle.desk_core.proofs.Grown.{begun-grows, some-line}
 
 -- a run of bytes that ends no line is answered by nothing
-quiet : (order : Order) (s : StateOf) (part : Bytes) → T (unended part) → feed order s part .1 ≡ []
+quiet : (s : StateOf) (part : Bytes) → T (unended part) → feed s part .1 ≡ []
 unfolding feed
-quiet order s [] u = refl
-quiet order s (b ∷ part) u =
-    ap (λ x. x .1 ++ feed order (x .0) part .1) (byte-inside order s b (inside-first b part u))
-    ∙ quiet order (grown s b) part (inside-rest b part u)
+quiet s [] u = refl
+quiet s (b ∷ part) u =
+    ap (λ x. x .1 ++ feed (x .0) part .1) (byte-inside s b (inside-first b part u))
+    ∙ quiet (grown s b) part (inside-rest b part u)
 
 -- a line that has begun is held in one way
 begun-one : {d : Desk} {s t : StateOf} {l : Bytes} → Begun d s l → Begun d t l → s ≡ t
@@ -60,7 +59,7 @@ module _ (s₀ : State) (input out₀ : List ℕ) where
     d = deskOf (s .head) (s .columns)
 
     abbrev before : StateOf × Bytes
-    before = feed deskOrder (stateOf s₀) (take at input)
+    before = feed (stateOf s₀) (take at input)
 
     -- the line that has begun
     line-of : (x : Bytes) × Begun d (stateOf s) x
@@ -71,11 +70,11 @@ module _ (s₀ : State) (input out₀ : List ℕ) where
         (λ q. ap (λ n. take n (s .line)) (k .holds .let-go q))
 
     -- what was fed and some bytes more
-    more : (y : Bytes) → feed deskOrder (stateOf s₀) (take at input ++ y)
-        ≡ (feed deskOrder (stateOf s) y .0, before .1 ++ feed deskOrder (stateOf s) y .1)
+    more : (y : Bytes) → feed (stateOf s₀) (take at input ++ y)
+        ≡ (feed (stateOf s) y .0, before .1 ++ feed (stateOf s) y .1)
     more y =
-        feed-append deskOrder (stateOf s₀) (take at input) y
-        ∙ ap (λ z. (feed deskOrder z y .0, before .1 ++ feed deskOrder z y .1)) (sym (k .state))
+        feed-append (stateOf s₀) (take at input) y
+        ∙ ap (λ z. (feed z y .0, before .1 ++ feed z y .1)) (sym (k .state))
 
     taken-part : take end input ≡ take at input ++ part
     taken-part =
@@ -88,7 +87,7 @@ module _ (s₀ : State) (input out₀ : List ℕ) where
     unfolding stateOf
     fed-rest r line′ g =
         let (x, b) = line-of in
-        let fed = ap (feed deskOrder (stateOf s₀)) taken-part ∙ more part in
+        let fed = ap (feed (stateOf s₀)) taken-part ∙ more part in
         let grows : Begun d (grownAt (s .head) (s .columns) (take (r .begun) line′, r .overlong)) (x ++ part) =
         subst (λ z. Begun d (grownAt (s .head) (s .columns) z) (x ++ part)) (sym (g .grown)) (begun-grows b part) in
         record {
@@ -96,8 +95,11 @@ module _ (s₀ : State) (input out₀ : List ℕ) where
           taken = e .inside;
           room = k .room;
           long = k .long;
-          state = begun-one grows (fed-last deskOrder part b (e .line)) ∙ sym (ap (λ (z : StateOf × Bytes). z .0) fed);
-          wrote = subst (λ z. Wrote z out₀ 0 out used) (sym (ap (λ (z : StateOf × Bytes). z .1) fed ∙ ap (λ z. before .1 ++ z) (quiet deskOrder (stateOf s) part (e .line)) ∙ append-nil (before .1))) (k .wrote);
+          state = begun-one grows (fed-last part b (e .line)) ∙ sym (ap (λ (z : StateOf × Bytes). z .0) fed);
+          wrote =
+              subst (λ z. Wrote z out₀ 0 out used)
+              (sym (ap (λ (z : StateOf × Bytes). z .1) fed ∙ ap (λ z. before .1 ++ z) (quiet (stateOf s) part (e .line)) ∙ append-nil (before .1)))
+              (k .wrote);
         }
 
     -- a line with its byte 10
@@ -111,7 +113,7 @@ module _ (s₀ : State) (input out₀ : List ℕ) where
       is-effect = begun-effect (begun-grows (line-of .1) part)
 
       abbrev reply : Bytes
-      reply = replyBytes deskOrder (effect .1)
+      reply = replyBytes (effect .1)
 
       answered : Answered effect (take (length out - used) (drop used out)) r columns′ back
       answered = subst (λ z. Answered z (take (length out - used) (drop used out)) r columns′ back) is-effect a
@@ -123,12 +125,12 @@ module _ (s₀ : State) (input out₀ : List ℕ) where
           ∙ take-add at (end + 1 - at) input
           ∙ ap (λ z. take at input ++ z) (run-next input at end (e .from) inside ∙ ap (λ z. part ++ (z ∷ [])) (e .ended inside))
 
-      fed : feed deskOrder (stateOf s₀) (take (end + 1) input) ≡ (idle (effect .0), before .1 ++ reply)
+      fed : feed (stateOf s₀) (take (end + 1) input) ≡ (idle (effect .0), before .1 ++ reply)
       unfolding feed
       fed =
-          ap (feed deskOrder (stateOf s₀)) taken-line
+          ap (feed (stateOf s₀)) taken-line
           ∙ more (part ++ lineEnd ∷ [])
-          ∙ ap (λ (z : StateOf × Bytes). (z .0, before .1 ++ z .1)) (fed-line deskOrder part [] (line-of .1) (e .line))
+          ∙ ap (λ (z : StateOf × Bytes). (z .0, before .1 ++ z .1)) (fed-line part [] (line-of .1) (e .line))
           ∙ ap (λ z. (idle (effect .0), before .1 ++ z)) (append-nil reply)
 
       -- the whole output
@@ -137,7 +139,7 @@ module _ (s₀ : State) (input out₀ : List ℕ) where
 
       small : length reply ≤ length out - used
       small =
-          let fits = replies-fit .every-reply deskOrder d (k .holds .holds .is-desk) (line-of .0 ++ part) in
+          let fits = replies-fit .every-reply d (k .holds .holds .is-desk) (line-of .0 ++ part) in
           omega (arith, fits)
 
       whole : out′ ≡ written out used reply

@@ -14,7 +14,6 @@ use Rattle.desk.specs.Bytes.{replyBytes}
 use Rattle.desk.specs.Session.{unended, State as StateOf, effectOf, feed as fedBy, finish as finishedBy}
 use Rattle.replies.specs.Sizes.{maxReply}
 use Rattle.slots.specs.Desks.{deskOf, HoldsDesk}
-use Rattle.slots.specs.Works.{deskOrder}
 use Rattle.slots.specs.declared.Head.{Head}
 use Rattle.lines.specs.declared.Stepped.{Stepped}
 use Rattle.desk_core.specs.declared.feeding.Begun.{Begun}
@@ -50,8 +49,8 @@ pub record FedTo (s₀ : State) (input out₀ : List ℕ) (s : State) (at : ℕ)
   pub taken : at ≤ length input
   pub room : used ≤ length out
   pub long : length out ≡ length out₀
-  pub state : stateOf s ≡ fedBy deskOrder (stateOf s₀) (take at input) .0
-  pub wrote : Wrote (fedBy deskOrder (stateOf s₀) (take at input) .1) out₀ 0 out used
+  pub state : stateOf s ≡ fedBy (stateOf s₀) (take at input) .0
+  pub wrote : Wrote (fedBy (stateOf s₀) (take at input) .1) out₀ 0 out used
 
 -- A piece of input was fed: all of it, or as much as there was room for the longest reply.
 pub record FedBy (s : State) (input out : List ℕ) (r : Fed) (out′ : List ℕ) : Type 0 where
@@ -61,14 +60,14 @@ pub record FedBy (s : State) (input out : List ℕ) (r : Fed) (out′ : List ℕ
 -- The input has ended.
 pub record FinishedBy (s : State) (out : List ℕ) (r : Finished) (out′ : List ℕ) : Type 0 where
   pub holds : HoldsDesk (r .desk .head) (r .desk .columns)
-  pub desk : deskOf (r .desk .head) (r .desk .columns) ≡ finishedBy deskOrder (stateOf s) .0
-  pub wrote : Wrote (finishedBy deskOrder (stateOf s) .1) out 0 out′ (r .used)
+  pub desk : deskOf (r .desk .head) (r .desk .columns) ≡ finishedBy (stateOf s) .0
+  pub wrote : Wrote (finishedBy (stateOf s) .1) out 0 out′ (r .used)
 
 -- the last line was answered, and an open plan dropped
 pub record LastAnswered (e : Effect) (out : List ℕ) (r : Finished) (out′ : List ℕ) : Type 0 where
   pub holds : HoldsDesk (r .desk .head) (r .desk .columns)
   pub desk : deskOf (r .desk .head) (r .desk .columns) ≡ dropped (e .0)
-  pub wrote : Wrote (replyBytes deskOrder (e .1)) out 0 out′ (r .used)
+  pub wrote : Wrote (replyBytes (e .1)) out 0 out′ (r .used)
 
 -- where a line ends, from a place on
 pub record LineEnd (input : List ℕ) (at end : ℕ) : Type 0 where

@@ -22,7 +22,7 @@ use Rattle.slots.specs.declared.Reply.the-variants.{Silent, Ok, Number, Written
 use Rattle.slots.specs.declared.Work.{Work}
 use Rattle.slots.specs.Blocks.{valueAt}
 use Rattle.slots.specs.Desks.{deskOf, HoldsDesk}
-use Rattle.slots.specs.Works.{deskOrder, direct, told, deskAfter, replyTo, DoneBy}
+use Rattle.slots.specs.Works.{direct, told, deskAfter, replyTo, DoneBy}
 use Rattle.lines.specs.declared.Stepped.{Stepped}
 use Rattle.lines.specs.Lines.{droppedHead, Answered}
 
@@ -111,7 +111,7 @@ told-column (refuses k (some c)) n l e = (c, cc, cc)
 -- a reply that stands in the output already
 pub record Standing (p : Reply) (n : ℕ) : Type 0 where
   pub size : n ≡ length (direct p)
-  pub whole : direct p ≡ replyBytes deskOrder p
+  pub whole : direct p ≡ replyBytes p
   pub no-refusal : NoRefusal p
 
 told-written : (p : Reply) (n : ℕ) → told p ≡ Written n → Standing p n
@@ -136,7 +136,7 @@ module _ (d : Desk) (line : Bytes) (out₀ columns′ out : List ℕ) (w : Work)
   untouched : direct p ≡ [] → out ≡ out₀
   untouched e = k .output ∙ ap (written out₀ 0) e
 
-  answered : (q : Reply) → p ≡ q → NoRefusal q → (out′ : List ℕ) (n : ℕ) → Wrote (replyBytes deskOrder q) out₀ 0 out′ n
+  answered : (q : Reply) → p ≡ q → NoRefusal q → (out′ : List ℕ) (n : ℕ) → Wrote (replyBytes q) out₀ 0 out′ n
       → Answered (respondLine d line) out₀ (record { head = w .head; used = n }) columns′ out′
   unfolding respondLine
   answered q e r out′ n wrote =
@@ -144,18 +144,18 @@ module _ (d : Desk) (line : Bytes) (out₀ columns′ out : List ℕ) (w : Work)
       record {
         holds = k .holds;
         desk = k .desk ∙ sym desk;
-        wrote = subst (λ x. Wrote (replyBytes deskOrder x) out₀ 0 out′ n) (sym reply) wrote;
+        wrote = subst (λ x. Wrote (replyBytes x) out₀ 0 out′ n) (sym reply) wrote;
       }
 
   refused : (m : ℕ) (c : Option Letter) → p ≡ refuses m c → (h : Head) → h ≡ droppedHead (w .head) → (out′ : List ℕ) (n : ℕ)
-      → Wrote (replyBytes deskOrder (refuses m c)) out₀ 0 out′ n → Answered (respondLine d line) out₀ (record { head = h; used = n }) columns′ out′
+      → Wrote (replyBytes (refuses m c)) out₀ 0 out′ n → Answered (respondLine d line) out₀ (record { head = h; used = n }) columns′ out′
   unfolding respondLine
   refused m c e h q out′ n wrote =
       let (desk, reply) = settled-refuse d o (line-answers d line) m c e in
       record {
         holds = subst (λ x. HoldsDesk x columns′) (sym q) (holds-dropped (w .head) columns′ (k .holds));
         desk = ap (λ x. deskOf x columns′) q ∙ dropped-is (w .head) columns′ ∙ ap dropped (k .desk) ∙ sym desk;
-        wrote = subst (λ x. Wrote (replyBytes deskOrder x) out₀ 0 out′ n) (sym reply) wrote;
+        wrote = subst (λ x. Wrote (replyBytes x) out₀ 0 out′ n) (sym reply) wrote;
       }
 
   pub settled-silent : w .reply ≡ Silent → Answered (respondLine d line) out₀ (record { head = w .head; used = 0 }) columns′ out

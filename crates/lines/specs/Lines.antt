@@ -14,7 +14,7 @@ use Rattle.asking.specs.Asked.{Asked}
 use Rattle.slots.specs.declared.Head.{Head}
 use Rattle.slots.specs.declared.Work.{Work}
 use Rattle.slots.specs.Desks.{deskOf, HoldsDesk}
-use Rattle.slots.specs.Works.{deskOrder, DoneBy}
+use Rattle.slots.specs.Works.{DoneBy}
 use Rattle.lines.specs.declared.Stepped.{Stepped}
 
 -- a desk, room for any reply, and a record that was read of a line
@@ -35,7 +35,7 @@ droppedHead h = record { sizes = h .sizes; is_open = false; slot = h .slot; chan
 pub record Answered (e : Effect) (out : List ℕ) (s : Stepped) (columns′ out′ : List ℕ) : Type 0 where
   pub holds : HoldsDesk (s .head) columns′
   pub desk : deskOf (s .head) columns′ ≡ e .0
-  pub wrote : Wrote (replyBytes deskOrder (e .1)) out 0 out′ (s .used)
+  pub wrote : Wrote (replyBytes (e .1)) out 0 out′ (s .used)
 
 -- a work that is well done for a line is settled, as the definitions settle it
 abbrev pub SettledBy : Work → List ℕ → Stepped → List ℕ → Type 0

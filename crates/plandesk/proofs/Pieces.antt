@@ -10,16 +10,15 @@ use Rattle.desk.specs.Desk.{freshDesk}
 use Rattle.desk.specs.Session.{State as StateOf, idle, feed}
 use Rattle.desk.proofs.Session.{feed-append}
 use Rattle.replies.specs.Sizes.{maxReply}
-use Rattle.slots.specs.Works.{deskOrder}
 use Rattle.desk_core.specs.declared.feeding.State.{State}
 use Rattle.desk_core.specs.declared.feeding.Fed.{Fed}
 use Rattle.desk_core.specs.Feeding.{stateOf, HoldsState, FedBy}
 use Rattle.plandesk.specs.Session.{FedAll, Reached}
 
 -- some bytes and then some more
-fed-then : (s t : StateOf) (x y : List ℕ) → t ≡ feed deskOrder s x .0 → feed deskOrder t y .0 ≡ feed deskOrder s (x ++ y) .0
+fed-then : (s t : StateOf) (x y : List ℕ) → t ≡ feed s x .0 → feed t y .0 ≡ feed s (x ++ y) .0
 fed-then s t x y e =
-    ap (λ z. feed deskOrder z y .0) e ∙ sym (ap (λ (z : StateOf × List ℕ). z .0) (feed-append deskOrder s x y))
+    ap (λ z. feed z y .0) e ∙ sym (ap (λ (z : StateOf × List ℕ). z .0) (feed-append s x y))
 
 pub fed-none : (s : State) → HoldsState s → FedAll s [] s
 unfolding feed
@@ -57,9 +56,9 @@ module _ (s₀ : State) (piece : List ℕ) where
           fed = record {
             holds = f .fed .holds;
             state = f .fed .state
-                ∙ ap (λ x. feed deskOrder (stateOf s) (take (r .taken) x) .0) whole-rest
+                ∙ ap (λ x. feed (stateOf s) (take (r .taken) x) .0) whole-rest
                 ∙ fed-then (stateOf s₀) (stateOf s) (take at piece) (take (r .taken) (drop at piece)) (u .fed .state)
-                ∙ ap (λ x. feed deskOrder (stateOf s₀) x .0) (sym (take-add at (r .taken) piece));
+                ∙ ap (λ x. feed (stateOf s₀) x .0) (sym (take-add at (r .taken) piece));
           };
         }
 
@@ -67,8 +66,8 @@ module _ (s₀ : State) (piece : List ℕ) where
     none-written : r .taken ≡ 0 → r .used ≡ 0
     unfolding feed
     none-written e =
-        let none : length (feed deskOrder (stateOf s) (take (r .taken) rest) .1) ≡ 0 =
-        ap (λ n. length (feed deskOrder (stateOf s) (take n rest) .1)) e in
+        let none : length (feed (stateOf s) (take (r .taken) rest) .1) ≡ 0 =
+        ap (λ n. length (feed (stateOf s) (take n rest) .1)) e in
         omega (arith, f .fed .wrote .place, none)
 
     pub takes-some : maxReply ≤ length out → at < length piece → 0 < r .taken

@@ -6,17 +6,16 @@ use mathlib.Core.List.{List}
 use Rattle.higman.specs.Text.{Bytes}
 use Rattle.desk.specs.Desk.{freshDesk}
 use Rattle.desk.specs.Session.{idle, feed as fedBy}
-use Rattle.slots.specs.Works.{deskOrder}
 use Rattle.desk_core.specs.declared.feeding.State.{State}
 use Rattle.desk_core.specs.Feeding.{stateOf, HoldsState}
 
 -- all of a piece was fed
 pub record FedAll (s : State) (piece : List ℕ) (s′ : State) : Type 0 where
   pub holds : HoldsState s′
-  pub state : stateOf s′ ≡ fedBy deskOrder (stateOf s) piece .0
+  pub state : stateOf s′ ≡ fedBy (stateOf s) piece .0
 
 -- the state that some input leads to
 pub record Reached (s : State) : Type 0 where
   pub holds : HoldsState s
   pub input : Bytes
-  pub state : stateOf s ≡ fedBy deskOrder (idle freshDesk) input .0
+  pub state : stateOf s ≡ fedBy (idle freshDesk) input .0

@@ -21,7 +21,7 @@ use Rattle.desk.specs.Desk.{Desk, IsDesk, countOf}
 use Rattle.desk.specs.Records.{Record, P, M, E, F, I, K, S, W, L, C, T, U}
 use Rattle.desk.specs.Replies.{okNumber, okWord, refuses, Effect, Outcome, refuse, pass, ofRoute, closed, job, operation, recordOf}
 use Rattle.desk.specs.Replies.{lineOperation, respondLine}
-use Rattle.desk.specs.Bytes.{Order, replyBytes}
+use Rattle.desk.specs.Bytes.{replyBytes}
 use Rattle.desk.specs.Demands.{refusalNumbers, Done, Refused}
 use Rattle.desk.proofs.Outcomes.{Passes, stops, passes, passes-then, any-then, passed, plan-held, passes-operation}
 use Rattle.desk.proofs.OpenPlans.{close-steps}
@@ -42,81 +42,80 @@ passes-of : {A : Type 0} {Q : A → Type 0} (o : Outcome A) → ((a : A) → o �
 passes-of (refuse n c) h = stops
 passes-of (pass a) h = passes (h a refl)
 
-module _ (order : Order) where
-  abbrev Fits : Effect → Type 0
-  Fits e = length (replyBytes order (e .1)) ≤ maxReply
+abbrev Fits : Effect → Type 0
+Fits e = length (replyBytes (e .1)) ≤ maxReply
 
-  as-known : {e f : Effect} → e ≡ f → Fits f → Fits e
-  as-known q h = subst Fits (sym q) h
+as-known : {e f : Effect} → e ≡ f → Fits f → Fits e
+as-known q h = subst Fits (sym q) h
 
-  number-fits : (n : ℕ) → n < 10 ^ 10 → length (replyBytes order (okNumber n)) ≤ maxReply
-  unfolding replyBytes
-  number-fits n h = omega (arith, rooms .ok-number, ok-number-size n h)
+number-fits : (n : ℕ) → n < 10 ^ 10 → length (replyBytes (okNumber n)) ≤ maxReply
+unfolding replyBytes
+number-fits n h = omega (arith, rooms .ok-number, ok-number-size n h)
 
-  pairs-fit : (p : Plan) → Kept p → length (replyBytes order (okNumber (length (p .rows)))) ≤ maxReply
-  unfolding maxPairs
-  pairs-fit p k = number-fits (length (p .rows)) (omega (arith, few-pairs p k))
+pairs-fit : (p : Plan) → Kept p → length (replyBytes (okNumber (length (p .rows)))) ≤ maxReply
+unfolding maxPairs
+pairs-fit p k = number-fits (length (p .rows)) (omega (arith, few-pairs p k))
 
-  refusal-fits : (n : ℕ) (c : Option Letter) → List·Memᴰ n refusalNumbers → length (replyBytes order (refuses n c)) ≤ maxReply
-  unfolding replyBytes
-  refusal-fits n c m = omega (arith, rooms .no-column, no-size n c (number-small n m))
+refusal-fits : (n : ℕ) (c : Option Letter) → List·Memᴰ n refusalNumbers → length (replyBytes (refuses n c)) ≤ maxReply
+unfolding replyBytes
+refusal-fits n c m = omega (arith, rooms .no-column, no-size n c (number-small n m))
 
-  word-fits : (p : Plan) (code v : Word) → Kept p → routed p code ≡ Image v → length (replyBytes order (okWord v)) ≤ maxReply
-  unfolding replyBytes
-  word-fits p code v k e = omega (arith, image-fits p code v k e, length-append (wordBytes v) (lineEnd ∷ []))
+word-fits : (p : Plan) (code v : Word) → Kept p → routed p code ≡ Image v → length (replyBytes (okWord v)) ≤ maxReply
+unfolding replyBytes
+word-fits p code v k e = omega (arith, image-fits p code v k e, length-append (wordBytes v) (lineEnd ∷ []))
 
-  routed-fits : (p : Plan) (code : Word) → Kept p → (r : Route) → routed p code ≡ r
-      → Passes (λ reply. length (replyBytes order reply) ≤ maxReply) (ofRoute (block (p .rows) code) r)
-  routed-fits p code k (Image v) e = passes (word-fits p code v k e)
-  routed-fits p code k TooShort e = passes (block-fits order p code k)
-  routed-fits p code k (NotRouted r) e = stops
+routed-fits : (p : Plan) (code : Word) → Kept p → (r : Route) → routed p code ≡ r
+    → Passes (λ reply. length (replyBytes reply) ≤ maxReply) (ofRoute (block (p .rows) code) r)
+routed-fits p code k (Image v) e = passes (word-fits p code v k e)
+routed-fits p code k TooShort e = passes (block-fits p code k)
+routed-fits p code k (NotRouted r) e = stops
 
-  module _ (d : Desk) (D : IsDesk d) where
-    route-fits : (a : ℕ) (code : Bytes) → Passes Fits (operation d (W a code))
-    unfolding job
-    route-fits a code =
-        passes-operation d (W a code) (λ _. passes-then (plan-held d a) (λ p x. passes-then
-        (routed-fits p (wordOf code) (D .kept (slotNumber a) p x) (routed p (wordOf code)) refl) (λ reply h. passes {a = (d, reply)} h)))
+module _ (d : Desk) (D : IsDesk d) where
+  route-fits : (a : ℕ) (code : Bytes) → Passes Fits (operation d (W a code))
+  unfolding job
+  route-fits a code =
+      passes-operation d (W a code) (λ _. passes-then (plan-held d a) (λ p x. passes-then
+      (routed-fits p (wordOf code) (D .kept (slotNumber a) p x) (routed p (wordOf code)) refl) (λ reply h. passes {a = (d, reply)} h)))
 
-    record-fits : (r : Record) (e : Effect) → operation d r ≡ pass e → Fits e
-    unfolding replyBytes maxChanges
-    record-fits (P a n r) e o = as-known (demand2 .replies .opens d a n r e o .1) (omega arith)
-    record-fits (M from to) e o = let (draft, x, q) = demand2 .replies .adds d from to e o in as-known q (omega arith)
-    record-fits E e o =
-        let c = passed (close-steps d) e o in
-        let k = demand2 .typed d (c .plan) e D (c .was-open) o in
-        as-known (k .effect) (pairs-fit (closed (c .plan)) (k .kept))
-    record-fits (F a b c) e o =
-        let (p, q, r, x, y, k, same-shape, kept-shape, acts) = demand2 .follows d a b c e D o in
-        as-known (k .effect) (pairs-fit r (k .kept))
-    record-fits (I a c) e o =
-        let (p, r, x, k, kept-shape, acts) = demand2 .inverts d a c e D o in
-        as-known (k .effect) (pairs-fit r (k .kept))
-    record-fits (K a k c) e o =
-        let (p, x, in-c) = demand2 .repeats d a c k e D o in
-        as-known (in-c .effect) (pairs-fit _ (in-c .kept))
-    record-fits (S a b) e o =
-        let (p, q, x, y, one-or-zero, alike) = demand2 .compares d a b e D o in
-        ⊎-elim (λ q. as-known q (number-fits 1 (omega arith))) (λ q. as-known q (number-fits 0 (omega arith))) one-or-zero
-    record-fits (W a code) e o = passed (route-fits a code) e o
-    record-fits (L a) e o =
-        let (p, x, q) = demand2 .replies .lists d a e o in
-        as-known q (listing-fits a p (D .kept (slotNumber a) p x))
-    record-fits (C a) e o = let (p, x, q) = demand2 .replies .empties d a e o in as-known q (rooms .ok)
-    record-fits T e o = as-known (demand2 .replies .counts d e o) (number-fits (countOf d) (omega (arith, D .counted)))
-    record-fits U e o = as-known (demand2 .replies .surveys d e o) (omega (arith, rooms .survey, survey-size order d D))
+  record-fits : (r : Record) (e : Effect) → operation d r ≡ pass e → Fits e
+  unfolding replyBytes maxChanges
+  record-fits (P a n r) e o = as-known (demand2 .replies .opens d a n r e o .1) (omega arith)
+  record-fits (M from to) e o = let (draft, x, q) = demand2 .replies .adds d from to e o in as-known q (omega arith)
+  record-fits E e o =
+      let c = passed (close-steps d) e o in
+      let k = demand2 .typed d (c .plan) e D (c .was-open) o in
+      as-known (k .effect) (pairs-fit (closed (c .plan)) (k .kept))
+  record-fits (F a b c) e o =
+      let (p, q, r, x, y, k, same-shape, kept-shape, acts) = demand2 .follows d a b c e D o in
+      as-known (k .effect) (pairs-fit r (k .kept))
+  record-fits (I a c) e o =
+      let (p, r, x, k, kept-shape, acts) = demand2 .inverts d a c e D o in
+      as-known (k .effect) (pairs-fit r (k .kept))
+  record-fits (K a k c) e o =
+      let (p, x, in-c) = demand2 .repeats d a c k e D o in
+      as-known (in-c .effect) (pairs-fit _ (in-c .kept))
+  record-fits (S a b) e o =
+      let (p, q, x, y, one-or-zero, alike) = demand2 .compares d a b e D o in
+      ⊎-elim (λ q. as-known q (number-fits 1 (omega arith))) (λ q. as-known q (number-fits 0 (omega arith))) one-or-zero
+  record-fits (W a code) e o = passed (route-fits a code) e o
+  record-fits (L a) e o =
+      let (p, x, q) = demand2 .replies .lists d a e o in
+      as-known q (listing-fits a p (D .kept (slotNumber a) p x))
+  record-fits (C a) e o = let (p, x, q) = demand2 .replies .empties d a e o in as-known q (rooms .ok)
+  record-fits T e o = as-known (demand2 .replies .counts d e o) (number-fits (countOf d) (omega (arith, D .counted)))
+  record-fits U e o = as-known (demand2 .replies .surveys d e o) (omega (arith, rooms .survey, survey-size d D))
 
-    line-fits : (line : Bytes) → Passes Fits (lineOperation d line)
-    unfolding lineOperation
-    line-fits line = any-then (recordOf line) (λ r. passes-of (operation d r) (record-fits r))
+  line-fits : (line : Bytes) → Passes Fits (lineOperation d line)
+  unfolding lineOperation
+  line-fits line = any-then (recordOf line) (λ r. passes-of (operation d r) (record-fits r))
 
-    reply-fits : (line : Bytes) → length (replyBytes order (respondLine d line .1)) ≤ maxReply
-    reply-fits line = by-answer (demand1 .answered order d line)
-      where
-        by-answer : Done d line ⊎ Refused order d line → length (replyBytes order (respondLine d line .1)) ≤ maxReply
-        by-answer (inl (e, done, effect)) = as-known effect (passed (line-fits line) e done)
-        by-answer (inr r) =
-            subst (λ x. length (replyBytes order x) ≤ maxReply) (sym (r .replied)) (refusal-fits (r .number) (r .column) (r .numbered))
+  reply-fits : (line : Bytes) → length (replyBytes (respondLine d line .1)) ≤ maxReply
+  reply-fits line = by-answer (demand1 .answered d line)
+    where
+      by-answer : Done d line ⊎ Refused d line → length (replyBytes (respondLine d line .1)) ≤ maxReply
+      by-answer (inl (e, done, effect)) = as-known effect (passed (line-fits line) e done)
+      by-answer (inr r) =
+          subst (λ x. length (replyBytes x) ≤ maxReply) (sym (r .replied)) (refusal-fits (r .number) (r .column) (r .numbered))
 
 pub replies-fit : RepliesFit
 replies-fit = record { rooms = rooms; listing = listing-fits; image = image-fits; block = block-fits; every-reply = reply-fits }

@@ -8,7 +8,7 @@ use Rattle.higman.specs.Text.{byte, tab, lineEnd, wordBytes, decimal}
 use Rattle.higman.specs.Tables.{Pair, Table}
 use Rattle.higman.specs.Listing.{pairLine, joinLines}
 use Rattle.desk.specs.Replies.{okBlock}
-use Rattle.desk.specs.Bytes.{lineOf, okLine, partFields, Order, replyBytes}
+use Rattle.desk.specs.Bytes.{lineOf, okLine, partFields, replyBytes}
 use Rattle.desk.proofs.NumberFields.{digits-below}
 use Rattle.desk.proofs.Grammar.{text-exact}
 
@@ -21,7 +21,7 @@ part-is-pair-line : (p : Pair) → lineOf (partFields p) ≡ pairLine (byte "B")
 part-is-pair-line p =
     ap (λ x. byte "B" ∷ tab ∷ x) (append-assoc (wordBytes (p .from)) (tab ∷ wordBytes (p .to)) (lineEnd ∷ []))
 
-pub block-is-pair-lines : (order : Order) (t : Table)
-    → replyBytes order (okBlock t) ≡ joinLines (map (pairLine (byte "B")) t) ++ okLine (decimal (length t) ∷ [])
-block-is-pair-lines order t =
-    text-exact .replies order .block t ∙ ap (λ f. joinLines (map f t) ++ okLine (decimal (length t) ∷ [])) (λ i p. part-is-pair-line p i)
+pub block-is-pair-lines : (t : Table)
+    → replyBytes (okBlock t) ≡ joinLines (map (pairLine (byte "B")) t) ++ okLine (decimal (length t) ∷ [])
+block-is-pair-lines t =
+    text-exact .replies .block t ∙ ap (λ f. joinLines (map f t) ++ okLine (decimal (length t) ∷ [])) (λ i p. part-is-pair-line p i)

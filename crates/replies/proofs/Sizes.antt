@@ -2,8 +2,7 @@
 -- survey by the number of slots, and every other reply by the digits of its number.
 use Prim.Native.Nat.{ℕ, suc, _+_, _*_, _^_, _≤_, _<_}
 use mathlib.Core.Path.{_≡_, refl, _∙_, ap}
-use mathlib.Core.List.{List, [], _∷_, _++_, map, map-map, List·Memᴰ, List·Memᴰ·head, List·Memᴰ·tail, List·Permᴰ, List·Permᴰ·nil}
-use mathlib.Core.List.{List·Permᴰ·cons, List·Permᴰ·swap, List·Permᴰ·trans}
+use mathlib.Core.List.{List, [], _∷_, map, List·Memᴰ, List·Memᴰ·head, List·Memᴰ·tail}
 use mathlib.Core.Option.{Option, none, some}
 use native.Mathlib.Nat.{suc-mul}
 use native.Mathlib.Omega.{arith}
@@ -19,15 +18,18 @@ use Rattle.higman.specs.Fronts.{block}
 use Rattle.higman.specs.Refusals.{Letter}
 use Rattle.higman.specs.Listing.{pairLine, pairRecord, pairRecords, joinLines, closeRecord, listing}
 use Rattle.higman.proofs.Tests.{and-left, and-right, all-at}
+use Rattle.higman.proofs.Expansions.{length-of-perm}
 use Rattle.higman.proofs.Images.{row-of-image}
 use Rattle.higman.proofs.KeptPlans.{in-range}
 use Rattle.higman.proofs.Answers.{image-of-route}
 use Rattle.higman.proofs.Fronts.{block-own, block-few}
 use Rattle.words.proofs.Runs.{word-size}
 use Rattle.desk.specs.Desk.{Desk, IsDesk}
-use Rattle.desk.specs.Replies.{Held, heldFrom, surveys, okBlock}
-use Rattle.desk.specs.Bytes.{lineOf, okLine, noLine, columnField, heldFields, Order, replyBytes}
-use Rattle.desk.proofs.Surveys.{survey-exact}
+use Rattle.desk.specs.Replies.{Held, heldFrom, comesBefore, surveyed, surveys, okBlock}
+use Rattle.desk.specs.Bytes.{lineOf, okLine, noLine, columnField, heldFields, replyBytes}
+use Rattle.desk.proofs.Grammar.{text-exact}
+use Rattle.desk.proofs.Arranged.{arranged-perm}
+use Rattle.desk.proofs.Surveys.{survey-of}
 use Rattle.replies.specs.Lines.{HeldFits}
 use Rattle.replies.specs.Sizes.{maxReply, Rooms}
 use Rattle.replies.proofs.Lines.{decimal-size, block-is-pair-lines}
@@ -82,12 +84,12 @@ block-count-fits p w k =
     let n = length (block (p .rows) w) in
     omega (arith, decimal-size 2 n (omega (arith, few-pairs p k, block-few (p .rows) w)), length-append (decimal n) (lineEnd ∷ []))
 
-pub block-fits : (order : Order) (p : Plan) (w : Word) → Kept p → length (replyBytes order (okBlock (block (p .rows) w))) ≤ maxReply
+pub block-fits : (p : Plan) (w : Word) → Kept p → length (replyBytes (okBlock (block (p .rows) w))) ≤ maxReply
 unfolding maxReply maxPairs
-block-fits order p w k =
+block-fits p w k =
     let t = block (p .rows) w in
     let lines = joinLines (map (pairLine (byte "B")) t) in
-    let whole = ap length (block-is-pair-lines order t) ∙ length-append lines (okLine (decimal (length t) ∷ [])) in
+    let whole = ap length (block-is-pair-lines t) ∙ length-append lines (okLine (decimal (length t) ∷ [])) in
     omega (arith, block-lines-fit p w k, block-count-fits p w k)
 
 code-fits : (s : Shape) (code : Word) → T (isCode s code) → length code ≤ maxCode
@@ -134,37 +136,26 @@ held-size h k =
     let pairs-digits = decimal-size 2 (length (p .rows)) (omega arith) in
     simp length-append (omega arith)
 
--- the lines of a survey: their order doesn't matter, and there are no more than slots
-joined-size : {A : Type 0} (f : A → Bytes) {l m : List A} → List·Permᴰ l m → length (joinLines (map f l)) ≡ length (joinLines (map f m))
-joined-size f List·Permᴰ·nil = refl
-joined-size f (List·Permᴰ·cons {a = a} {b = b} {l₁ = l} {l₂ = m} e p) =
-    let heads = ap (λ x. length (f x)) e in
-    omega (arith, length-append (f a) (joinLines (map f l)), length-append (f b) (joinLines (map f m)), joined-size f p)
-joined-size f (List·Permᴰ·swap {a = a} {b = b} {a′ = c} {b′ = d} {l = l} e q) =
-    let rest = joinLines (map f l) in
-    let first = ap (λ x. length (f x)) e in
-    let second = ap (λ x. length (f x)) q in
-    let left = length-append (f a) (f b ++ rest) ∙ ap (λ n. length (f a) + n) (length-append (f b) rest) in
-    let right = length-append (f c) (f d ++ rest) ∙ ap (λ n. length (f c) + n) (length-append (f d) rest) in
-    omega arith
-joined-size f (List·Permᴰ·trans p q) = joined-size f p ∙ joined-size f q
-
+-- the lines of a survey: there are no more than slots
 held-few : (i : ℕ) (l : List (Option Plan)) → length (heldFrom i l) ≤ length l
 held-few i [] = omega arith
 held-few i (none ∷ l) = omega (arith, held-few (suc i) l)
 held-few i (some p ∷ l) = omega (arith, held-few (suc i) l)
 
-pub survey-size : (order : Order) (d : Desk) → IsDesk d
-    → length (replyBytes order (surveys (heldFrom 0 (d .slots)))) ≤ slotCount * 10 + 14
-unfolding slotCount
-survey-size order d D =
+surveyed-few : (d : Desk) → length (surveyed d) ≤ length (d .slots)
+unfolding surveyed
+surveyed-few d =
     let hs = heldFrom 0 (d .slots) in
-    let few : length hs ≤ 8 = omega (arith, held-few 0 (d .slots), D .eight) in
-    let s = survey-exact .replied order hs in
+    omega (arith, length-of-perm (arranged-perm comesBefore hs), held-few 0 (d .slots))
+
+pub survey-size : (d : Desk) → IsDesk d → length (replyBytes (surveys (surveyed d))) ≤ slotCount * 10 + 14
+unfolding slotCount
+survey-size d D =
+    let hs = surveyed d in
+    let few : length hs ≤ 8 = omega (arith, surveyed-few d, D .eight) in
+    let line : Held → Bytes = λ h. lineOf (heldFields h) in
     let count = okLine (decimal (length hs) ∷ []) in
-    let whole = ap length (s .reply) ∙ length-append (joinLines (map lineOf (s .lines))) count in
-    let lines = joined-size lineOf (s .each-once) ∙ ap (λ x. length (joinLines x)) (map-map lineOf heldFields hs) in
-    let kept : (h : Held) → List·Memᴰ h hs → Kept (h .plan) =
-    λ h m. D .kept (h .slot) (h .plan) (survey-exact .held-listed d (h .slot) (h .plan) .1 m) in
-    let each = lines-fit (λ h. lineOf (heldFields h)) 10 hs (λ h m. held-size h (kept h m)) in
+    let whole = ap length (text-exact .replies .survey hs) ∙ length-append (joinLines (map line hs)) count in
+    let kept : (h : Held) → List·Memᴰ h hs → Kept (h .plan) = λ h m. D .kept (h .slot) (h .plan) (survey-of d .each (h .slot) (h .plan) .1 m) in
+    let each = lines-fit line 10 hs (λ h m. held-size h (kept h m)) in
     omega (arith, ok-number-size (length hs) (omega arith))

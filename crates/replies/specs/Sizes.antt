@@ -12,7 +12,7 @@ use Rattle.higman.specs.Fronts.{block as blockOf}
 use Rattle.higman.specs.Listing.{listing as listingOf}
 use Rattle.desk.specs.Desk.{Desk, IsDesk}
 use Rattle.desk.specs.Replies.{okBlock, respondLine}
-use Rattle.desk.specs.Bytes.{okLine, Order, replyBytes}
+use Rattle.desk.specs.Bytes.{okLine, replyBytes}
 
 -- "A plan is 1 to 128 pairs", "A word in a plan has at most 16 digits": 128 M records of 36 bytes each, and 10 bytes of the P record and
 -- the E record. Listings are the longest replies: a block has at most as many lines of that length, and `ok⇥128` and its byte 10 behind.
@@ -34,9 +34,9 @@ pub record RepliesFit : Type 0 where
   -- W: "`ok⇥` and the image", with the byte 10 behind it
   pub image : (p : Plan) (code image : Word) → Kept p → routed p code ≡ Image image → length (wordBytes image) + 4 ≤ maxReply
   -- W: the lines of a block, "and closes with `ok⇥` and how many" (change request E1)
-  pub block : (order : Order) (p : Plan) (w : Word) → Kept p → length (replyBytes order (okBlock (blockOf (p .rows) w))) ≤ maxReply
-  -- whatever the line, and in whatever order U's lines stand
-  pub every-reply : (order : Order) (d : Desk) → IsDesk d → (line : Bytes) → length (replyBytes order (respondLine d line .1)) ≤ maxReply
+  pub block : (p : Plan) (w : Word) → Kept p → length (replyBytes (okBlock (blockOf (p .rows) w))) ≤ maxReply
+  -- whatever the line
+  pub every-reply : (d : Desk) → IsDesk d → (line : Bytes) → length (replyBytes (respondLine d line .1)) ≤ maxReply
 
 -- the lines of a block and the one behind them: three bytes less
 block-size-example : maxReply ≡ maxPairs * (4 + (maxDigits + maxDigits)) + length (okLine (decimal maxPairs ∷ [])) + 3

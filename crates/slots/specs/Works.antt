@@ -16,7 +16,7 @@ use Rattle.desk.specs.Desk.{Desk}
 use Rattle.desk.specs.Records.{Record, slotsNamed, isChange}
 use Rattle.desk.specs.Replies.{Reply as ReplyOf, silent, ok, okNumber, okWord, okBlock, lists, surveys, refuses, Outcome, refuse, pass, Effect}
 use Rattle.desk.specs.Replies.{operation, _>>=_, openAmiss, outside, job, ofAnswer, keepIn}
-use Rattle.desk.specs.Bytes.{Order, byLetter, replyBytes}
+use Rattle.desk.specs.Bytes.{replyBytes}
 use Rattle.operations.specs.declared.Making.{Making}
 use Rattle.operations.specs.Answers.{making}
 use Rattle.slots.specs.declared.Head.{Head}
@@ -25,19 +25,15 @@ use Rattle.slots.specs.declared.Reply.the-variants.{Silent, Ok, Number, 
 use Rattle.slots.specs.declared.Work.{Work}
 use Rattle.slots.specs.Desks.{deskOf, HoldsDesk}
 
--- The order in which the code writes U's lines. The paper leaves it open: no promise to a user says more of it than that it is one.
-unfoldable pub deskOrder : Order
-deskOrder = byLetter
-
 -- the bytes of a reply that a work writes itself
 abbrev pub direct : ReplyOf → Bytes
 direct silent = []
 direct ok = []
 direct (okNumber n) = []
-direct (okWord w) = replyBytes deskOrder (okWord w)
-direct (okBlock t) = replyBytes deskOrder (okBlock t)
-direct (lists slot p) = replyBytes deskOrder (lists slot p)
-direct (surveys hs) = replyBytes deskOrder (surveys hs)
+direct (okWord w) = replyBytes (okWord w)
+direct (okBlock t) = replyBytes (okBlock t)
+direct (lists slot p) = replyBytes (lists slot p)
+direct (surveys hs) = replyBytes (surveys hs)
 direct (refuses n c) = []
 
 -- the value by which a reply is told
@@ -116,9 +112,9 @@ DoneKeeping h i made columns w columns′ =
 -- a reply by its form; "ok⇥12" and byte 10 are six bytes
 told-example : map told (silent ∷ okNumber 3 ∷ okWord (spell 12) ∷ refuses 9 none ∷ refuses 7 (some Letter.T) ∷ [])
     ≡ Silent ∷ Number 3 ∷ Written 6 ∷ Refused 9 ∷ RefusedIn 7 84 ∷ []
-unfolding replyBytes deskOrder
+unfolding replyBytes
 told-example = refl
 
 direct-example : map direct (okNumber 3 ∷ okWord (spell 12) ∷ []) ≡ [] ∷ bytes "ok\t12\n" ∷ []
-unfolding replyBytes deskOrder
+unfolding replyBytes
 direct-example = refl

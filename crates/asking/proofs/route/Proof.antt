@@ -34,7 +34,7 @@ use Rattle.slots.specs.declared.Reply.the-variants.{Written}
 use Rattle.slots.specs.declared.Work.{Work}
 use Rattle.slots.specs.Blocks.{sizeAt}
 use Rattle.slots.specs.Desks.{deskOf}
-use Rattle.slots.specs.Works.{deskOrder, refusing, Done}
+use Rattle.slots.specs.Works.{refusing, Done}
 use Rattle.slots.proofs.Windows.{written-length}
 use Rattle.slots.proofs.Steps.{amiss-closed, outside-first, outside-next, refused-open, refused-slot, refused-job}
 use Rattle.asking.specs.Asked.{blockReply}
@@ -301,7 +301,7 @@ returns-5 c =
     let left = w .write-block .last .1 .1 .1 .0 in
     let whole = subst (λ x. Wrote (blockReply (p .before .part .result .now) (p .part2 .result .now) (a .code .now)) x 0 left reply)
     (unmoved r (short e .buffer)) (w .write-block .ensures) in
-    let line = subst (λ t. Wrote (replyBytes deskOrder (okBlock t)) (out p) 0 left reply) (ap (λ q. block (q .rows) (code p)) (lent p)) whole in
+    let line = subst (λ t. Wrote (replyBytes (okBlock t)) (out p) 0 left reply) (ap (λ q. block (q .rows) (code p)) (lent p)) whole in
     answered (a .t1) (a .columns .now) (s .pre .holds) (typed s) (out p) (asks n) (okBlock (inside p)) (job-told p ∙ short e .reply)
     (Written reply) (ap Written (line .place ∙ zero-add _)) _ (line .contents)
 

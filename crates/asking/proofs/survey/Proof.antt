@@ -1,32 +1,29 @@
--- `asking::survey` meets its contract. The loop's invariant: the lines of the slots that were passed are written, and counted. The measure
--- is how many slots are left.
-use Prim.Native.Nat.{_-_, _<_}
+-- `asking::survey` meets its contract. The loop's invariant: the lines of so many slots are written, in the order that they were arranged
+-- in. The measure is how many are left.
+use Prim.Native.Nat.{_-_}
 use mathlib.Core.Path.{refl, _∙_, ap}
-use mathlib.Core.Logic.{⊎-elim}
 use native.Mathlib.Nat.{zero-add}
 use native.Mathlib.Omega.{arith}
 use borrow.Author.Needs.{needs}
-use Rattle.higman.specs.Limits.{slotCount}
+use lib.ListN.{getD}
 use Rattle.desk.specs.Records.{U, needsOpen, slotsNamed, isChange}
-use Rattle.desk.specs.Replies.{heldFrom, surveys, job}
-use Rattle.desk.specs.Bytes.{replyBytes}
+use Rattle.desk.specs.Replies.{surveyed, surveys, job}
 use Rattle.replies.proofs.Sizes.{ok-number-size}
 use Rattle.slots.specs.declared.Reply.the-variants.{Written}
-use Rattle.slots.specs.Desks.{slotsOf, deskOf}
-use Rattle.slots.specs.Works.{deskOrder}
+use Rattle.slots.specs.Desks.{deskOf}
 use Rattle.slots.proofs.Held.{slots-eight}
 use Rattle.slots.proofs.Steps.{amiss-closed, refused-open}
 use Rattle.asking.proofs.Answered.{answered}
-use Rattle.asking.proofs.Surveyed.{line-fits, Surveyed, survey-start, survey-long, survey-room, survey-passed, survey-held, survey-as}
-use Rattle.asking.proofs.Surveyed.{survey-ends}
+use Rattle.asking.proofs.Surveyed.{line-fits, Surveyed, survey-start, survey-long, survey-room, next-named, next-full, survey-next}
+use Rattle.asking.proofs.Surveyed.{all-few, survey-ends}
 use Rattle.asking.proofs.survey.Statement.{statement}
 use Rattle.asking.proofs.survey.Tie as tie
 
 abbrev Inv-loop : tie.InvT-loop
-Inv-loop out₀ head used₀ held₀ i₀ out used held i = Surveyed head out₀ out used held i
+Inv-loop out₀ head order held used₀ i₀ out used i = Surveyed head out₀ out used i
 
 abbrev μ-loop : tie.MeasureT-loop
-μ-loop out₀ head used₀ held₀ i₀ out used held i = 8 - i
+μ-loop out₀ head order held used₀ i₀ out used i = held - i
 
 returns : tie.Need-returns Inv-loop μ-loop
 unfolding needsOpen
@@ -34,54 +31,99 @@ returns c = λ columns H.
     let s = c .before .before .before in
     refused-open (s .args .t1) columns H U (s .args .out .now) refl (c .before .if1 .taken) (c .refused .result) (c .refused .ensures)
 
+arrange-requires : tie.Need-arrange-requires Inv-loop μ-loop
+arrange-requires c κs = omega (arith, slots-eight)
+
 loop-holds : tie.Need-loop-holds Inv-loop μ-loop
-loop-holds c = let a = c .before .before .args in survey-start (a .t1) (a .out .now)
+loop-holds c = let a = c .before .before .before .before .before .args in survey-start (a .t1) (a .out .now)
+
+-- the place that is read, and the slot that stands there
+mul-slot : tie.Need-mul-slot Inv-loop μ-loop
+mul-slot c =
+    let a = c .before .before .before in
+    let few = all-few (a .before .before .before .before .args .t1) (a .arrange .ensures) in
+    search needs
+
+array-read-slot : tie.Need-array-read-slot Inv-loop μ-loop
+array-read-slot c =
+    let a = c .before .before .before in
+    omega (arith, c .loop-test .taken, all-few (a .before .before .before .before .args .t1) (a .arrange .ensures))
+
+mul-size : tie.Need-mul-size Inv-loop μ-loop
+mul-size c =
+    let a = c .before .before .before in
+    let named = next-named (a .before .before .before .before .args .t1) (a .arrange .ensures) (c .loop-test .taken) in
+    search needs
+
+element-copy-out-size : tie.Need-element-copy-out-size Inv-loop μ-loop
+element-copy-out-size c =
+    let a = c .before .before .before in
+    omega (arith, next-named (a .before .before .before .before .args .t1) (a .arrange .ensures) (c .loop-test .taken))
+
+cast-held : tie.Need-cast-held Inv-loop μ-loop
+cast-held c =
+    let a = c .before .before .before .before in
+    let named = next-named (a .before .before .before .before .args .t1) (a .arrange .ensures) (c .before .loop-test .taken) in
+    search needs
+
+add-held : tie.Need-add-held Inv-loop μ-loop
+add-held c =
+    let a = c .before .before .before .before in
+    let named = next-named (a .before .before .before .before .args .t1) (a .arrange .ensures) (c .before .loop-test .taken) in
+    search needs
 
 held-requires : tie.Need-held-requires Inv-loop μ-loop
 held-requires c κs =
-    let t = c .before in
-    let l = t .before .before .before .before in
-    let s = l .before .before .before in
-    let i = l .loop .i in
-    let below : i < slotCount = omega (arith, slots-eight, t .before .before .before .loop-test .taken) in
-    line-fits (s .args .t1) (s .pre .0) (s .pre .1 .holds) i below (λ e. omega (arith, t .if2 .taken)) (l .loop .used) _
+    let n = c .before .before in
+    let l = n .before in
+    let a = l .before .before in
+    let s = a .before .before .before .before in
+    let below = next-named (s .args .t1) (a .arrange .ensures) (n .loop-test .taken) in
+    line-fits (s .args .t1) (s .pre .0) (s .pre .1 .holds) (getD (a .arrange .last .1 .0) (l .loop .i) 0) (omega (arith, slots-eight, below))
+    (next-full (s .args .t1) (a .arrange .ensures) (n .loop-test .taken)) (l .loop .used) _
     (omega (arith, survey-room (l .loop .inv) (s .pre .1 .room)))
 
 loop-again : tie.Need-loop-again Inv-loop μ-loop
 loop-again c =
-    let n = c .before .before .before in
+    let w = c .before .before in
+    let n = w .before .before .before in
     let l = n .before in
-    let s = l .before .before .before in
-    let below : l .loop .i < 8 = n .loop-test .taken in
-    ⊎-elim
-    (λ w. survey-as (w .5) (w .6) (w .7)
-    (survey-held (s .pre .1 .holds) (l .loop .inv) below (λ z. omega (arith, w .0 .taken)) (w .2 .ensures)))
-    (λ w. survey-as (w .1) (w .2) (w .3) (survey-passed (l .loop .inv) below (omega (arith, w .0 .left))))
-    (c .if2 .came)
+    let a = l .before .before in
+    let s = a .before .before .before .before in
+    survey-next (s .args .t1) (a .arrange .ensures) (n .loop-test .taken) (s .pre .1 .holds) (l .loop .inv) (w .held .ensures)
+
+cast-ok-number : tie.Need-cast-ok-number Inv-loop μ-loop
+cast-ok-number c =
+    let a = c .before .before .before in
+    let few = all-few (a .before .before .before .before .args .t1) (a .arrange .ensures) in
+    search needs
 
 ok-number-requires : tie.Need-ok-number-requires Inv-loop μ-loop
 ok-number-requires c κs =
     let l = c .before .before in
-    let v = l .loop .inv in
-    omega (arith, survey-room v (l .before .before .before .pre .1 .room), ok-number-size (l .loop .held) (omega (arith, v .few, v .below)))
+    let a = l .before .before in
+    let s = a .before .before .before .before in
+    let few = all-few (s .args .t1) (a .arrange .ensures) in
+    omega (arith, survey-room (l .loop .inv) (s .pre .1 .room), ok-number-size (a .arrange .result) (omega (arith, few)))
 
 same-length : tie.Need-same-length Inv-loop μ-loop
 same-length c =
     let l = c .before .before .before .before .before in
-    omega (arith, survey-long (l .loop .inv) (l .before .before .before .pre .1 .room))
+    omega (arith, survey-long (l .loop .inv) (l .before .before .before .before .before .before .pre .1 .room))
 
 returns-2 : tie.Need-returns-2 Inv-loop μ-loop
-unfolding needsOpen slotsNamed isChange job deskOf deskOrder replyBytes
+unfolding needsOpen slotsNamed isChange job
 returns-2 c = λ columns H.
     let o = c .before .before in
     let e = o .before .before in
     let l = e .before in
-    let n = l .before in
-    let a = n .before .before .args in
-    let h = a .t1 in
-    let whole = survey-ends H (l .loop .inv) (e .loop-test .left) (o .ok-number .ensures) in
-    answered h columns H U (a .out .now) (record { fits = amiss-closed h columns U refl ∙ n .if1 .left; named = refl; unchanged = refl })
-    (surveys (heldFrom 0 (slotsOf h columns))) refl (Written (o .ok-number .result)) (ap Written (whole .place ∙ zero-add _)) _ (whole .contents)
+    let a = l .before .before in
+    let n = a .before .before in
+    let s = n .before .before in
+    let h = s .args .t1 in
+    let whole = survey-ends H (a .arrange .ensures) (l .loop .inv) (e .loop-test .left) (o .ok-number .ensures) in
+    answered h columns H U (s .args .out .now) (record { fits = amiss-closed h columns U refl ∙ n .if1 .left; named = refl; unchanged = refl })
+    (surveys (surveyed (deskOf h columns))) refl (Written (o .ok-number .result)) (ap Written (whole .place ∙ zero-add _)) _ (whole .contents)
 
 pub survey-spec : {M : Type 1} → statement M
 survey-spec =
@@ -91,16 +133,20 @@ survey-spec =
     μ-loop
     (λ c κs. search needs)
     returns
+    (λ c. search needs)
+    arrange-requires
     loop-holds
-    (λ c. search needs)
-    (λ c. search needs)
-    (λ c. search needs)
-    (λ c. search needs)
+    mul-slot
+    array-read-slot
+    mul-size
+    element-copy-out-size
+    cast-held
+    add-held
     held-requires
     (λ c. search needs)
     (λ c. search needs)
-    (λ c. search needs)
     loop-again
+    cast-ok-number
     ok-number-requires
     same-length
     returns-2)
