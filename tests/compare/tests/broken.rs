@@ -155,6 +155,26 @@ fn a_survey_by_letter_is_found() {
 }
 
 #[test]
+fn a_survey_with_the_fewest_pairs_first_is_found() {
+    is_found("u-fewest-first");
+}
+
+#[test]
+fn a_survey_with_equal_ones_by_the_later_letter_is_found() {
+    is_found("u-later-letter-first");
+}
+
+#[test]
+fn a_survey_with_equal_ones_by_shape_is_found() {
+    is_found("u-equal-by-shape");
+}
+
+#[test]
+fn a_survey_that_compares_digits_is_found() {
+    is_found("u-pairs-as-text");
+}
+
+#[test]
 fn a_lost_last_line_is_found() {
     is_found("lost-last-line");
 }
