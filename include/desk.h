@@ -14,10 +14,12 @@
  *     E  closes it: reduces and keeps it                     K  keeps the power k of a in c
  *     S  whether a and b act alike, 1 or 0                   W  the image of a code under a, or its block
  *     L  lists a as P, M and E records                       C  empties a
- *     T  the count of changes                                U  lists the held slots: slot, n, r, pairs; in no fixed order
+ *     T  the count of changes                                U  lists the held slots: slot, n, r, pairs
  *
  * A block is W's reply to a code that no from-word begins: for each pair whose from-word extends the code, in the order of the
  * from-words, a line of "B", the from-word and the to-word, and last of all "ok" and how many they are.
+ *
+ * U's lines come with the most pairs first, and equal ones by slot letter; last of all comes "ok" and how many they are.
  *
  * Every answer begins with a number, 0 for a job done and else that of the first refusal that holds (refusals.h). First of all comes
  * REFUSED_VALUE (15): the struct is no desk; then no field of it is changed. Any other refusal drops the open plan, if there is one,

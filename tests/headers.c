@@ -119,6 +119,17 @@ static struct desk_written say(struct desk *d, const char *line, uint8_t *out, s
     return desk_line(d, (const uint8_t *)line, strlen(line), out, out_length);
 }
 
+/* The slots of the session and the inverse of its plan in H: the most pairs first, and equal ones by slot letter. */
+static void check_survey(struct desk *d)
+{
+    static const char survey[] = "B\t2\t1\t4\nA\t2\t1\t3\nH\t2\t1\t3\nok\t3\n";
+    uint8_t out[DESK_LONGEST_REPLY];
+    struct desk_written written = say(d, "U", out, sizeof out);
+
+    check("desk_line lists the held slots in their order", written.number == 0 && written.length == strlen(survey)
+                                                               && holds_text(out, sizeof out, survey));
+}
+
 static void check_desk(void)
 {
     static const char block[] = "B\t111\t11\nB\t112\t121\nok\t2\n";
@@ -159,6 +170,7 @@ static void check_desk(void)
                                                         && !memcmp(d.columns + DESK_PLACES, p.to, sizeof p.to));
     done = desk_do(&d, job);
     check("desk_do", done.number == 0 && done.value == 3 && d.blocks[7].pairs == 3 && d.changes == 3);
+    check_survey(&d);
     job.letter = 'L';
     done = desk_do(&d, job);
     check("desk_do refuses a listing", done.number == REFUSED_FORM && done.value == 0);

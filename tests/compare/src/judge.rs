@@ -1,7 +1,5 @@
-//! The judgement of an output: which reply belongs to which record, and
-//! whether it is the one the reference gives. The order of U's lines is left
-//! open by the paper, so those are compared as a collection in which each
-//! line has to be there as often as expected.
+//! The judgement of an output: it has to be that of the reference, byte by
+//! byte. Where it is another, the first record whose reply differs is named.
 
 use reference::Desk;
 
@@ -52,50 +50,40 @@ pub fn expected(input: &[u8]) -> Vec<Step> {
     steps
 }
 
-/// The first difference between the expected replies and an output.
+/// The first difference between the expected replies and an output. Of a
+/// wrong reply as many lines are shown as were expected; what is left behind
+/// the last reply is shown with it.
 pub fn judge(steps: &[Step], output: &[u8]) -> Option<Difference> {
-    let mut rest = lines(output).into_iter();
+    let mut rest = output;
     for (index, step) in steps.iter().enumerate() {
-        let wanted = lines(&step.reply);
-        let got: Vec<&[u8]> = rest.by_ref().take(wanted.len()).collect();
-        if settled(step, wanted) != settled(step, got.clone()) {
-            return Some(difference(index, step, got));
+        match rest.strip_prefix(step.reply.as_slice()) {
+            Some(behind) => rest = behind,
+            None => {
+                let count = lines(&step.reply).len();
+                let got: Vec<&[u8]> = lines(rest).into_iter().take(count).collect();
+                return Some(difference(index, step, got.concat()));
+            }
         }
     }
-    let left: Vec<&[u8]> = rest.collect();
-    if left.is_empty() {
+    if rest.is_empty() {
         return None;
     }
-    let index = steps.len().saturating_sub(1);
     let nothing = Step {
         record: Vec::new(),
         reply: Vec::new(),
     };
     let step = steps.last().unwrap_or(&nothing);
-    let mut got = lines(&step.reply);
-    got.extend(left);
-    Some(difference(index, step, got))
+    let got = [step.reply.as_slice(), rest].concat();
+    Some(difference(steps.len().saturating_sub(1), step, got))
 }
 
-fn difference(index: usize, step: &Step, got: Vec<&[u8]>) -> Difference {
+fn difference(index: usize, step: &Step, got: Vec<u8>) -> Difference {
     Difference {
         index,
         record: step.record.clone(),
         expected: step.reply.clone(),
-        got: got.concat(),
+        got,
     }
-}
-
-/// The lines of a reply in a settled order: U's lines are sorted, except the
-/// last, which has to come last; all other replies stay as they are.
-fn settled<'a>(step: &Step, mut reply: Vec<&'a [u8]>) -> Vec<&'a [u8]> {
-    let asked = step.record.strip_suffix(b"\n").unwrap_or(&step.record);
-    if asked == b"U" {
-        if let Some((_, held)) = reply.split_last_mut() {
-            held.sort();
-        }
-    }
-    reply
 }
 
 #[cfg(test)]
@@ -109,10 +97,13 @@ mod tests {
         }
     }
 
+    /// The reply to U among others: three pairs in B, one in each of A and C.
+    const HELD: &str = "B\t2\t1\t3\nA\t2\t1\t1\nC\t3\t1\t1\nok\t3\n";
+
     fn used() -> Vec<Step> {
         vec![
-            step("T\n", "ok\t2\n"),
-            step("U\n", "A\t2\t1\t1\nC\t2\t1\t3\nok\t2\n"),
+            step("T\n", "ok\t3\n"),
+            step("U\n", HELD),
             step("P\tA\t2\t1\n", ""),
             step("T\n", "no\t2\n"),
         ]
@@ -122,39 +113,43 @@ mod tests {
         judge(&used(), output.as_bytes()).map(|difference| difference.index)
     }
 
+    /// E2: "its reply is an equality like every other".
     #[test]
-    fn the_order_of_the_lines_of_u_is_open() {
-        assert_eq!(index("ok\t2\nA\t2\t1\t1\nC\t2\t1\t3\nok\t2\nno\t2\n"), None);
-        assert_eq!(index("ok\t2\nC\t2\t1\t3\nA\t2\t1\t1\nok\t2\nno\t2\n"), None);
+    fn the_lines_of_u_keep_their_order() {
+        let index = |reply: &str| index(&format!("ok\t3\n{reply}no\t2\n"));
+        assert_eq!(index(HELD), None);
+        for other in [
+            // by letter alone, the fewest first, equal ones by the later letter
+            "A\t2\t1\t1\nB\t2\t1\t3\nC\t3\t1\t1\nok\t3\n",
+            "A\t2\t1\t1\nC\t3\t1\t1\nB\t2\t1\t3\nok\t3\n",
+            "B\t2\t1\t3\nC\t3\t1\t1\nA\t2\t1\t1\nok\t3\n",
+            // the number of lines not at the end
+            "ok\t3\nB\t2\t1\t3\nA\t2\t1\t1\nC\t3\t1\t1\n",
+            // a line twice, in the place of another and beside it; a line missing; a wrong number
+            "B\t2\t1\t3\nA\t2\t1\t1\nA\t2\t1\t1\nok\t3\n",
+            "B\t2\t1\t3\nB\t2\t1\t3\nA\t2\t1\t1\nC\t3\t1\t1\nok\t3\n",
+            "B\t2\t1\t3\nA\t2\t1\t1\nok\t3\n",
+            "B\t2\t1\t4\nA\t2\t1\t1\nC\t3\t1\t1\nok\t3\n",
+        ] {
+            assert_eq!(index(other), Some(1), "{other}");
+        }
+    }
+
+    /// Of a wrong reply all lines are shown that stand in its place.
+    #[test]
+    fn a_wrong_order_is_shown_with_the_right_one() {
+        let other = "A\t2\t1\t1\nB\t2\t1\t3\nC\t3\t1\t1\nok\t3\n";
+        let output = format!("ok\t3\n{other}no\t2\n");
+        let found = judge(&used(), output.as_bytes()).unwrap();
+        assert_eq!((found.index, found.record.as_slice()), (1, &b"U\n"[..]));
+        assert_eq!(
+            (&found.expected[..], &found.got[..]),
+            (HELD.as_bytes(), other.as_bytes())
+        );
     }
 
     #[test]
-    fn each_held_slot_has_its_line_exactly_once() {
-        assert_eq!(
-            index("ok\t2\nA\t2\t1\t1\nA\t2\t1\t1\nok\t2\nno\t2\n"),
-            Some(1)
-        );
-        assert_eq!(index("ok\t2\nA\t2\t1\t1\nok\t2\nno\t2\n"), Some(1));
-        assert_eq!(
-            index("ok\t2\nA\t2\t1\t1\nC\t2\t1\t3\nC\t2\t1\t3\nok\t2\nno\t2\n"),
-            Some(1)
-        );
-        assert_eq!(
-            index("ok\t2\nA\t2\t1\t1\nC\t2\t1\t4\nok\t2\nno\t2\n"),
-            Some(1)
-        );
-    }
-
-    #[test]
-    fn the_number_of_held_slots_comes_last() {
-        assert_eq!(
-            index("ok\t2\nok\t2\nA\t2\t1\t1\nC\t2\t1\t3\nno\t2\n"),
-            Some(1)
-        );
-    }
-
-    #[test]
-    fn the_lines_of_other_replies_keep_their_order() {
+    fn the_lines_of_a_listing_keep_their_order() {
         let steps = [step("L\tA\n", "P\tA\t2\t1\nM\t11\t12\nM\t12\t11\nE\n")];
         assert_eq!(
             judge(&steps, b"P\tA\t2\t1\nM\t11\t12\nM\t12\t11\nE\n"),
@@ -188,26 +183,23 @@ mod tests {
 
     #[test]
     fn a_reply_goes_to_the_record_that_asked() {
-        let found = judge(&used(), b"ok\t2\nA\t2\t1\t1\nC\t2\t1\t3\nok\t2\nok\t2\n").unwrap();
+        let output = format!("ok\t3\n{HELD}ok\t3\n");
+        let found = judge(&used(), output.as_bytes()).unwrap();
         assert_eq!((found.index, found.record.as_slice()), (3, &b"T\n"[..]));
         assert_eq!(
             (&found.expected[..], &found.got[..]),
-            (&b"no\t2\n"[..], &b"ok\t2\n"[..])
+            (&b"no\t2\n"[..], &b"ok\t3\n"[..])
         );
     }
 
     #[test]
     fn missing_and_additional_output_are_differences() {
         assert_eq!(index(""), Some(0));
-        assert_eq!(index("ok\t2\nA\t2\t1\t1\nC\t2\t1\t3\nok\t2\n"), Some(3));
-        assert_eq!(
-            index("ok\t2\nA\t2\t1\t1\nC\t2\t1\t3\nok\t2\nno\t2"),
-            Some(3)
-        );
-        assert_eq!(
-            index("ok\t2\nA\t2\t1\t1\nC\t2\t1\t3\nok\t2\nno\t2\nok\n"),
-            Some(3)
-        );
+        assert_eq!(index(&format!("ok\t3\n{HELD}")), Some(3));
+        assert_eq!(index(&format!("ok\t3\n{HELD}no\t2")), Some(3));
+        let more = format!("ok\t3\n{HELD}no\t2\nok\n");
+        let found = judge(&used(), more.as_bytes()).unwrap();
+        assert_eq!((found.index, &found.got[..]), (3, &b"no\t2\nok\n"[..]));
         assert!(judge(&[], b"ok\n").is_some());
         assert_eq!(judge(&[], b""), None);
     }

@@ -295,6 +295,7 @@ fn operation(record: &[u8]) -> char {
 #[cfg(test)]
 mod tests {
     use super::*;
+    use sessions::SURVEYS;
 
     #[test]
     fn a_reply_that_never_came_up_fails_a_full_range_only() {
@@ -312,6 +313,9 @@ mod tests {
         }
         assert_eq!(verdict(&all, FULL_RANGE), None);
         assert!(all.count("B line") > 10_000, "{}", all.line());
+        for kind in SURVEYS {
+            assert!(all.count(kind) > 200, "{}", all.line());
+        }
         assert_eq!(all.count("no 13") + all.count("other"), 0);
     }
 

@@ -120,11 +120,6 @@ fn the_reference_itself_passes() {
 }
 
 #[test]
-fn another_order_of_u_passes() {
-    assert_eq!(failures(&build("other-u-order", true)), (0, 0));
-}
-
-#[test]
 fn a_wrong_join_is_found() {
     is_found("wrong-join");
 }
@@ -152,6 +147,31 @@ fn a_limit_on_the_last_power_alone_is_found() {
 #[test]
 fn a_missing_line_of_u_is_found() {
     is_found("u-line-missing");
+}
+
+#[test]
+fn a_survey_by_letter_is_found() {
+    is_found("u-slot-order");
+}
+
+#[test]
+fn a_survey_with_the_fewest_pairs_first_is_found() {
+    is_found("u-fewest-first");
+}
+
+#[test]
+fn a_survey_with_equal_ones_by_the_later_letter_is_found() {
+    is_found("u-later-letter-first");
+}
+
+#[test]
+fn a_survey_with_equal_ones_by_shape_is_found() {
+    is_found("u-equal-by-shape");
+}
+
+#[test]
+fn a_survey_that_compares_digits_is_found() {
+    is_found("u-pairs-as-text");
 }
 
 #[test]

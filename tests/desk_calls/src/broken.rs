@@ -3,6 +3,8 @@
 //! shows what an agreement of the proved desk with the second implementation is
 //! worth.
 
+use std::cmp::Reverse;
+
 use library::{packed, Plan};
 use reference::COUNT_LIMIT;
 
@@ -179,28 +181,46 @@ impl Broken {
             }
             Fault::ByteBehind if answer.number == 0 && end < out.len() => out[end] = 0,
             Fault::ClearedBuffer if answer.number == 0 => out[end..].fill(0),
-            Fault::SlotMissing | Fault::SlotTwice if line == b"U" && answer.number == 0 => {
-                let lines: Vec<Vec<u8>> = out[..end]
-                    .split_inclusive(|byte| *byte == b'\n')
-                    .map(<[u8]>::to_vec)
-                    .collect();
-                if lines.len() > 2 {
-                    let mut wrong = lines.clone();
-                    if self.is(Fault::SlotTwice) {
-                        wrong[1] = wrong[0].clone();
-                    } else {
-                        wrong.remove(lines.len() - 2);
-                    }
-                    let wrong = wrong.concat();
-                    if wrong.len() <= out.len() {
-                        out[..wrong.len()].copy_from_slice(&wrong);
-                        answer.length = wrong.len();
-                    }
+            _ if line == b"U" && answer.number == 0 => {
+                let wrong = self.wrong_survey(&out[..end]);
+                if wrong.len() <= out.len() {
+                    out[..wrong.len()].copy_from_slice(&wrong);
+                    answer.length = wrong.len();
                 }
             }
             _ => {}
         }
     }
+
+    /// The reply to U as the fault has it: with other lines of slots, or with
+    /// these in another order.
+    fn wrong_survey(&self, reply: &[u8]) -> Vec<u8> {
+        let mut lines: Vec<&[u8]> = reply.split_inclusive(|byte| *byte == b'\n').collect();
+        let Some(closing) = lines.pop().filter(|_| lines.len() > 1) else {
+            return reply.to_vec();
+        };
+        match self.fault {
+            Fault::SlotMissing => drop(lines.pop()),
+            Fault::SlotTwice => lines[1] = lines[0],
+            Fault::LettersAlone => lines.sort_by_key(|line| line[0]),
+            Fault::FewestFirst => lines.sort_by_key(|line| (pairs(line), line[0])),
+            Fault::LaterLetterFirst => {
+                lines.sort_by_key(|line| (Reverse(pairs(line)), Reverse(line[0])));
+            }
+            _ => {}
+        }
+        lines.push(closing);
+        lines.concat()
+    }
+}
+
+/// The number of pairs in a line of U, which is its last field.
+fn pairs(line: &[u8]) -> usize {
+    let text = std::str::from_utf8(line).expect("a reply is text");
+    let field = text.trim_end().rsplit('\t').next();
+    field
+        .and_then(|pairs| pairs.parse().ok())
+        .expect("a number of pairs")
 }
 
 impl Calls for Broken {

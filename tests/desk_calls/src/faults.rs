@@ -66,10 +66,16 @@ pub enum Fault {
     LineEndsAtTen,
     /// A line is read up to a byte 0.
     LineEndsAtZero,
-    /// U leaves out the last held slot.
+    /// U leaves out its last slot.
     SlotMissing,
-    /// U gives the first held slot twice instead of the second.
+    /// U gives its first slot twice instead of the second.
     SlotTwice,
+    /// U gives its slots by their letters alone.
+    LettersAlone,
+    /// U gives the slot with the fewest pairs first.
+    FewestFirst,
+    /// U gives of two slots with as many pairs the later letter first.
+    LaterLetterFirst,
     /// A job of a listing's letter is done.
     ListingTaken,
     /// The target of I and K is read from the third field.
@@ -90,7 +96,7 @@ pub enum Fault {
 type Check = fn(&dyn Calls);
 
 /// Each fault, and a check that has to see it.
-pub const FAULTS: [(Fault, Check); 38] = [
+pub const FAULTS: [(Fault, Check); 41] = [
     (Fault::WorkBeforeShortBuffer, buffers::of_every_length),
     (Fault::OpenAfterShortBuffer, buffers::of_every_length),
     (Fault::CutReply, buffers::of_every_length),
@@ -122,6 +128,9 @@ pub const FAULTS: [(Fault, Check); 38] = [
     (Fault::LineEndsAtZero, lines::of_any_bytes),
     (Fault::SlotMissing, buffers::of_every_length),
     (Fault::SlotTwice, buffers::of_every_length),
+    (Fault::LettersAlone, paper::survey),
+    (Fault::FewestFirst, paper::survey),
+    (Fault::LaterLetterFirst, buffers::of_every_length),
     (Fault::ListingTaken, jobs::of_every_letter),
     (Fault::TargetThird, jobs::of_every_number),
     (Fault::NarrowExponent, jobs::of_every_number),

@@ -20,6 +20,11 @@ fn a_block_without_room() {
 }
 
 #[test]
+fn the_slots_in_their_order() {
+    paper::survey(&Library);
+}
+
+#[test]
 fn refusals_of_calls_in_the_paper() {
     paper::refusals_of_calls(&Library);
 }

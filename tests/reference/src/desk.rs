@@ -2,6 +2,7 @@
 //! takes the bytes of standard input in any pieces and gives the bytes of the
 //! replies. Every refusal drops an open plan and changes nothing else.
 
+use std::cmp::Reverse;
 use std::collections::BTreeMap;
 
 use crate::plan::{self, Plan, Routed};
@@ -257,10 +258,13 @@ impl Desk {
         Ok(b"ok\n".to_vec())
     }
 
-    /// U leaves the order of its lines open; here it is that of the letters.
+    /// U: "the lines now come with the most pairs first, and equal ones by slot
+    /// letter", and then "`ok⇥` and how many".
     fn held_slots(&self) -> Vec<u8> {
+        let mut held: Vec<(&u8, &Plan)> = self.slots.iter().collect();
+        held.sort_by_key(|(slot, plan)| (Reverse(plan.size()), **slot));
         let mut lines = Vec::new();
-        for (slot, plan) in &self.slots {
+        for (slot, plan) in held {
             let Shape { arity, roots } = plan.shape();
             lines.push(*slot);
             lines.extend(format!("\t{arity}\t{roots}\t{}\n", plan.size()).bytes());

@@ -1,8 +1,9 @@
 //! A second implementation of the sort plan desk, written from the papers.
 //! It keeps words as strings of digits and plans as ordered maps, and follows
 //! the definitions word by word: it is made to be read and compared with, not
-//! to be fast. Document 01 decides on records and numbers, with change request
-//! E1 for the blocks of W, and document 004 on words, bases and maps.
+//! to be fast. Document 01 decides on records and numbers, with change requests
+//! E1 for the blocks of W and E2 for the order of U's lines, and document 004 on
+//! words, bases and maps.
 
 pub mod basis;
 pub mod desk;

@@ -1,7 +1,8 @@
 //! Which replies an output holds and how often: a tally by kind, and the
 //! kinds that a long run of sessions has to have met. Refusals 13, 14 and 15
 //! are given by library calls alone, and 16 needs four thousand million
-//! changes, so no session meets them.
+//! changes, so no session meets them. Of U not only the lines are counted but
+//! also the replies that show something of their order.
 
 use std::collections::BTreeMap;
 use std::fmt;
@@ -17,20 +18,39 @@ const GRANTED: &[&str] = &[
     "ok", "ok value", "P line", "M line", "E line", "U line", "B line",
 ];
 
+/// The replies to U by which orders of its lines can be told apart: the lines
+/// don't stand by their letters, or two of them have as many pairs.
+pub const SURVEYS: &[&str] = &["U moved", "U tie"];
+
 /// How often each kind of reply came up.
 #[derive(Default, Clone, PartialEq, Eq, Debug)]
 pub struct Tally {
     counts: BTreeMap<String, u64>,
 }
 
-/// Counts the reply lines of an output by their kind.
+/// Counts the reply lines of an output by their kind, and the replies to U,
+/// whose lines are closed by another, by what they show.
 pub fn tally(output: &[u8]) -> Tally {
     let mut tally = Tally::default();
+    let mut held = Vec::new();
     for line in output.split_inclusive(|&byte| byte == b'\n') {
         let line = line.strip_suffix(b"\n").unwrap_or(line);
-        *tally.counts.entry(kind(line)).or_default() += 1;
+        let kind = kind(line);
+        if kind == "U line" {
+            held.push(line);
+        } else {
+            tally.count_survey(&held);
+            held.clear();
+        }
+        tally.raise(&kind);
     }
     tally
+}
+
+/// The last field of a line, of one of U the number of pairs.
+fn last_field(line: &[u8]) -> &[u8] {
+    let mut fields = line.rsplit(|&byte| byte == b'\t');
+    fields.next().unwrap_or(line)
 }
 
 fn kind(line: &[u8]) -> String {
@@ -49,6 +69,21 @@ fn kind(line: &[u8]) -> String {
 }
 
 impl Tally {
+    fn raise(&mut self, kind: &str) {
+        *self.counts.entry(kind.to_string()).or_default() += 1;
+    }
+
+    /// Counts what the lines of one U show.
+    fn count_survey(&mut self, held: &[&[u8]]) {
+        if !held.is_sorted_by_key(|line| line[0]) {
+            self.raise("U moved");
+        }
+        let in_a_row = |pair: &[&[u8]]| last_field(pair[0]) == last_field(pair[1]);
+        if held.windows(2).any(in_a_row) {
+            self.raise("U tie");
+        }
+    }
+
     /// Adds the counts of another tally to this one.
     pub fn add(&mut self, other: &Tally) {
         for (kind, count) in &other.counts {
@@ -75,6 +110,7 @@ impl Tally {
         REFUSALS
             .iter()
             .chain(GRANTED)
+            .chain(SURVEYS)
             .copied()
             .filter(|kind| self.count(kind) == 0)
             .collect()
@@ -83,7 +119,7 @@ impl Tally {
 
 impl fmt::Display for Tally {
     fn fmt(&self, out: &mut fmt::Formatter<'_>) -> fmt::Result {
-        let known = GRANTED.iter().chain(REFUSALS).copied();
+        let known = GRANTED.iter().chain(SURVEYS).chain(REFUSALS).copied();
         for kind in known.clone() {
             writeln!(out, "  {kind:<9} {:>9}", self.count(kind))?;
         }
@@ -120,12 +156,38 @@ mod tests {
             .iter()
             .map(|kind| kind.replace(' ', "\t") + "\n")
             .collect();
-        let granted = "ok\nok\t1\nP\tA\t2\t1\nM\t1\t1\nE\nH\t2\t1\t1\nB\t11\t1\n";
-        let mut tally = tally((all.clone() + granted).as_bytes());
+        let granted = "ok\nP\tA\t2\t1\nM\t1\t1\nE\nB\t11\t1\n";
+        let surveys = "H\t2\t1\t4\nA\t2\t1\t3\nB\t9\t1\t3\nok\t3\n";
+        let mut tally = tally((all.clone() + granted + surveys).as_bytes());
         assert!(tally.missing().is_empty());
-        tally.counts.remove("no 11");
-        tally.counts.remove("no 6 T");
-        assert_eq!(tally.missing(), ["no 6 T", "no 11"]);
+        for kind in ["no 11", "no 6 T", "U tie"] {
+            tally.counts.remove(kind);
+        }
+        assert_eq!(tally.missing(), ["no 6 T", "no 11", "U tie"]);
+    }
+
+    /// A reply to U is closed by its number, so that two of them aren't one.
+    #[test]
+    fn the_orders_of_u_are_counted() {
+        for (output, moved, tie) in [
+            ("ok\t0\n", 0, 0),
+            ("H\t2\t1\t9\nok\t1\n", 0, 0),
+            ("A\t2\t1\t9\nB\t2\t1\t4\nok\t2\n", 0, 0),
+            ("B\t2\t1\t9\nA\t2\t1\t4\nok\t2\n", 1, 0),
+            ("A\t2\t1\t4\nB\t9\t9\t4\nok\t2\n", 0, 1),
+            ("A\t2\t1\t14\nB\t2\t1\t4\nok\t2\n", 0, 0),
+            ("C\t2\t1\t9\nA\t2\t1\t4\nB\t2\t1\t4\nok\t3\n", 1, 1),
+            ("B\t2\t1\t4\nok\t1\nA\t2\t1\t4\nok\t1\n", 0, 0),
+            (
+                "B\t2\t1\t4\nA\t2\t1\t2\nok\t2\nB\t2\t1\t4\nA\t2\t1\t2\nok\t2\n",
+                2,
+                0,
+            ),
+        ] {
+            let tally = tally(output.as_bytes());
+            let seen = SURVEYS.iter().map(|kind| tally.count(kind));
+            assert_eq!(seen.collect::<Vec<u64>>(), [moved, tie], "{output}");
+        }
     }
 
     #[test]

@@ -7,6 +7,7 @@ mod blocks;
 mod case;
 mod lines;
 mod plans;
+mod surveys;
 
 use case::Case;
 use std::fs;
@@ -28,6 +29,7 @@ fn all() -> Vec<Case> {
         lines::last_line("long-last-line-9000", 8996, "no|1"),
         blocks::of_128_pairs(),
         blocks::of_long_words(),
+        surveys::of_large_plans(),
     ]
 }
 
@@ -50,6 +52,7 @@ fn the_files_are_the_rules_written_out() {
 fn the_rules_have_the_sizes_they_speak_of() {
     assert_eq!(plans::still().len(), 128);
     assert_eq!(plans::turned_belts(&[1, 2, 3, 4, 5, 6]).len(), 99);
+    assert_eq!(plans::phi_everywhere().len(), 108);
     let lines = lines::long_lines().input;
     let lengths: Vec<usize> = lines
         .split(|&byte| byte == b'\n')

@@ -61,7 +61,7 @@ pub fn kept() -> Case {
     case.list("P|B|2|1", &[row("1", "1")]);
     case.ask("I|A|C", "ok|128");
     case.ask("S|A|C", "ok|1");
-    case.ask("U", "A|2|1|128\nB|2|1|1\nC|2|1|128\nok|3");
+    case.ask("U", "A|2|1|128\nC|2|1|128\nB|2|1|1\nok|3");
     case
 }
 
@@ -155,18 +155,23 @@ pub fn reduced_in_time() -> Case {
     case
 }
 
-/// Shape (2,9): φ behind each of the 36 words of a belt and two ways. It has
-/// 3 pairs at each, 108 in all, and so have its inverse and its third power;
-/// its square has 4 at each, 144; its fourth power moves nothing.
-pub fn power_in_between() -> Case {
-    let mut case = Case::new("long-power-in-between");
+/// Shape (2,9): φ behind each of the 36 words of a belt and two ways, with 3
+/// pairs at each, 108 in all.
+pub fn phi_everywhere() -> Vec<Row> {
     let mut rows = Vec::new();
     for belt in 1..=9 {
         for ways in ["11", "12", "21", "22"] {
             rows.extend(phi_behind(&format!("{belt}{ways}")));
         }
     }
-    case.load("P|A|2|9", &rows, "ok|108");
+    rows
+}
+
+/// A plan of 108 pairs that has as many in its inverse and in its third power;
+/// its square has 4 where it has 3, 144 in all; its fourth power moves nothing.
+pub fn power_in_between() -> Case {
+    let mut case = Case::new("long-power-in-between");
+    case.load("P|A|2|9", &phi_everywhere(), "ok|108");
     case.ask("K|A|1|B", "ok|108");
     for k in ["2", "3", "4", "-2", "-3", "-4", "1000", "-1000"] {
         case.ask(&format!("K|A|{k}|B"), "no|11");

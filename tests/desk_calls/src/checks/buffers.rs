@@ -1,6 +1,8 @@
 //! Every record that replies, with buffers that fit, are short by one, are empty
 //! or have more room than is needed; with a plan open and without.
 
+use sessions::SURVEYS;
+
 use super::side_by_side::{SideBySide, AMPLE};
 use crate::calls::Calls;
 use crate::random::desks::{prepared, with_psi_open};
@@ -47,6 +49,7 @@ pub fn of_every_length(calls: &dyn Calls) {
         }
     }
     both.tally.demand(10, &["0", "1", "2", "14", "a block"]);
+    both.tally.demand(10, SURVEYS);
 }
 
 /// Blocks with buffers that have room for some of their lines, whole or in part:

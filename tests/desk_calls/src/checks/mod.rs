@@ -17,10 +17,11 @@ use crate::calls::Calls;
 pub type Check = (&'static str, fn(&dyn Calls));
 
 /// Every check, those that take long behind the others.
-pub const ALL: [Check; 18] = [
+pub const ALL: [Check; 19] = [
     ("paper::session", paper::session),
     ("paper::session_in_jobs", paper::session_in_jobs),
     ("paper::block_without_room", paper::block_without_room),
+    ("paper::survey", paper::survey),
     ("paper::refusals_of_calls", paper::refusals_of_calls),
     ("lines::of_any_bytes", lines::of_any_bytes),
     ("lines::at_the_limit", lines::at_the_limit),

@@ -1,6 +1,7 @@
 //! The session of document 01 in full, with the replies that it and E1 give, in
-//! lines and as far as that goes in jobs; and what only calls refuse, in so many
-//! words. Nothing here asks the second implementation.
+//! lines and as far as that goes in jobs; the slots of U in the order of E2; and
+//! what only calls refuse, in so many words. Nothing here asks the second
+//! implementation.
 
 use crate::calls::Calls;
 use crate::values::{Desk, Done, Job, Written};
@@ -100,6 +101,38 @@ pub fn block_without_room(calls: &dyn Calls) {
     reply(calls, &mut desk, "W\tA\t11", BLOCK);
     reply(calls, &mut desk, "W\tA\t112", "ok\t121\n");
     reply(calls, &mut desk, "T", "ok\t1\n");
+}
+
+/// "The lines now come with the most pairs first, and equal ones by slot letter"
+/// (E2): after plans are kept, replaced and emptied.
+pub fn survey(calls: &dyn Calls) {
+    let mut desk = calls.fresh();
+    reply(calls, &mut desk, "U", "ok\t0\n");
+    for line in PLAN {
+        reply(calls, &mut desk, line, "");
+    }
+    for (line, said) in [
+        ("E", "ok\t3\n"),
+        ("U", "A\t2\t1\t3\nok\t1\n"),
+        ("K\tA\t8\tB", "ok\t10\n"),
+        ("K\tA\t7\tC", "ok\t9\n"),
+        ("I\tA\tH", "ok\t3\n"),
+        (
+            "U",
+            "B\t2\t1\t10\nC\t2\t1\t9\nA\t2\t1\t3\nH\t2\t1\t3\nok\t4\n",
+        ),
+        ("K\tB\t0\tB", "ok\t1\n"),
+        ("F\tA\tA\tH", "ok\t4\n"),
+        (
+            "U",
+            "C\t2\t1\t9\nH\t2\t1\t4\nA\t2\t1\t3\nB\t2\t1\t1\nok\t4\n",
+        ),
+        ("C\tC", "ok\n"),
+        ("U", "H\t2\t1\t4\nA\t2\t1\t3\nB\t2\t1\t1\nok\t3\n"),
+        ("T", "ok\t7\n"),
+    ] {
+        reply(calls, &mut desk, line, said);
+    }
 }
 
 /// "Library calls put 15 before all these"; "such a desk has no open plan to

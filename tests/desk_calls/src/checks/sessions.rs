@@ -4,6 +4,7 @@
 
 use library::checks::tally::Tally;
 use reference::COUNT_LIMIT;
+use sessions::SURVEYS;
 
 use super::side_by_side::{SideBySide, AMPLE};
 use crate::calls::Calls;
@@ -24,6 +25,7 @@ pub fn of_lines(calls: &dyn Calls) {
         run(calls, seed, 0, &mut tally);
     }
     tally.demand(10, &ANSWERS);
+    tally.demand(10, SURVEYS);
 }
 
 pub fn with_jobs(calls: &dyn Calls) {
@@ -32,6 +34,7 @@ pub fn with_jobs(calls: &dyn Calls) {
         run(calls, seed, 25, &mut tally);
     }
     tally.demand(10, &ANSWERS);
+    tally.demand(10, SURVEYS);
 }
 
 /// Desks with no room left: the longest replies, and products that mostly are
@@ -67,7 +70,8 @@ pub fn of_full_desks(calls: &dyn Calls) {
             both.job(some_job(&mut rng));
         }
     }
-    both.tally.demand(5, &["0", "5", "6F", "11", "a block"]);
+    both.tally
+        .demand(5, &["0", "5", "6F", "11", "a block", "U tie"]);
 }
 
 /// Seventy-two seeds in a row meet every shape; twice as many also give every

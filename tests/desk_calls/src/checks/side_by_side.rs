@@ -7,6 +7,7 @@
 use std::mem::MaybeUninit;
 
 use library::checks::tally::Tally;
+use sessions::SURVEYS;
 
 use crate::calls::Calls;
 use crate::second::Second;
@@ -86,11 +87,6 @@ impl<'a> SideBySide<'a> {
         };
         assert_eq!(answer, expected, "to {}", asked());
         assert!(read == line, "the line is changed by {}", asked());
-        if line == b"U" && answer.number == 0 {
-            for room in [&mut room, &mut expected_room] {
-                order_lines(&mut room[GUARD..GUARD + answer.length]);
-            }
-        }
         let different = room.iter().zip(&expected_room).position(|(a, b)| a != b);
         assert!(
             different.is_none(),
@@ -104,9 +100,7 @@ impl<'a> SideBySide<'a> {
             self.desk,
             self.expected
         );
-        let written = &room[GUARD..GUARD + answer.length];
-        let block = line.starts_with(b"W") && written.starts_with(b"B\t");
-        self.tally.count_if(block, "a block");
+        self.count_lines(line, &room[GUARD..GUARD + answer.length]);
         self.count(answer.number, answer.column);
         answer
     }
@@ -125,6 +119,19 @@ impl<'a> SideBySide<'a> {
         );
         self.count(answer.number, answer.column);
         answer
+    }
+
+    /// Counts what the lines of a reply show: a block of W, slots of U that don't
+    /// stand by their letters, and slots of U with as many pairs.
+    fn count_lines(&mut self, line: &[u8], written: &[u8]) {
+        let block = line.starts_with(b"W") && written.starts_with(b"B\t");
+        self.tally.count_if(block, "a block");
+        if line == b"U" {
+            let seen = sessions::tally(written);
+            for kind in SURVEYS {
+                self.tally.count_if(seen.count(kind) > 0, kind);
+            }
+        }
     }
 
     /// Counts an answer: its number, with the column if it has one.
@@ -162,30 +169,5 @@ fn placed(desk: &Desk, padding: u8) -> Box<Desk> {
         placed.changes = desk.changes;
         placed.columns = desk.columns;
         Box::from_raw(Box::into_raw(place).cast())
-    }
-}
-
-/// "In an order left open": all lines but the last, in order of their bytes.
-fn order_lines(reply: &mut [u8]) {
-    let whole = reply.to_vec();
-    let mut lines: Vec<&[u8]> = whole.split_inclusive(|byte| *byte == b'\n').collect();
-    if let Some((_last, slots)) = lines.split_last_mut() {
-        slots.sort_unstable();
-    }
-    reply.copy_from_slice(&lines.concat());
-}
-
-#[cfg(test)]
-mod tests {
-    use super::*;
-
-    #[test]
-    fn the_last_line_of_a_survey_stays_last() {
-        let mut reply = *b"B\t2\t1\t3\nA\t2\t1\t3\nok\t2\n";
-        order_lines(&mut reply);
-        assert_eq!(&reply, b"A\t2\t1\t3\nB\t2\t1\t3\nok\t2\n");
-        let mut moved = *b"ok\t1\nA\t2\t1\t3\n";
-        order_lines(&mut moved);
-        assert_eq!(&moved, b"ok\t1\nA\t2\t1\t3\n");
     }
 }

@@ -1,6 +1,6 @@
 //! The checks of the second implementation: the paper's own cases, every
-//! refusal in its order, the mathematics on random plans of all shapes, and
-//! the reading of input in pieces.
+//! refusal in its order, the mathematics on random plans of all shapes, the
+//! order of U's lines, and the reading of input in pieces.
 
 mod bases;
 mod blocks;
@@ -16,3 +16,4 @@ mod random;
 mod refusals;
 mod routes;
 mod stream;
+mod surveys;

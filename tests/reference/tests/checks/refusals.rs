@@ -69,7 +69,7 @@ fn granted_neighbours() {
     ] {
         check(record, reply);
     }
-    check("U", "A 2 1 3\nB 3 2 2\nD 2 1 16\nok 3");
+    check("U", "D 2 1 16\nA 2 1 3\nB 3 2 2\nok 3");
 }
 
 #[test]
@@ -105,7 +105,7 @@ fn the_count_at_its_limit() {
     let input = lines("P C 2 1\nM 1 1\nE\nL C\nE\nP C 2 1\nM 1 1\nM 1 1\nE\nP C 2 1\nE\nU");
     desk.feed(&input, &mut out);
     let replies = "no\t16\nno\t9\nno\t2\nno\t6\tF\nno\t7\tF\n\
-                   A\t2\t1\t3\nB\t3\t2\t2\nD\t2\t1\t16\nok\t3\n";
+                   D\t2\t1\t16\nA\t2\t1\t3\nB\t3\t2\t2\nok\t3\n";
     assert_eq!(String::from_utf8(out).unwrap(), replies);
     assert_eq!(desk.count(), COUNT_LIMIT);
 }

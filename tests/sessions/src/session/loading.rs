@@ -44,6 +44,17 @@ impl Session {
         slot
     }
 
+    /// Loads plans that send belts to belts, of two shapes with as many of them:
+    /// one number of pairs, and mostly another n.
+    pub(super) fn load_belts(&mut self) {
+        for shape in [self.shapes[1], self.shapes[0]] {
+            let slot = self.some_slot();
+            let rows = plans::permutation(&mut self.rng, &shape.belts());
+            self.load(slot, shape, &rows);
+            self.slots[slot] = Some(Held { shape, rows });
+        }
+    }
+
     /// A plan of the shape: one on the common basis or on the blocks, a loaded
     /// plan written in another way or with two images swapped, or any plan.
     fn plan_to_load(&mut self, shape: Shape) -> Vec<Row> {

@@ -98,7 +98,7 @@ impl Session {
             72 => self.clear(),
             73 => self.turn_back(),
             74 => self.turn_round(),
-            75..=76 => self.record(&[b"U"]),
+            75..=76 => self.survey(),
             77..=78 => self.record(&[b"T"]),
             _ => mischief::step(self),
         }

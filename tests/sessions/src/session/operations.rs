@@ -1,6 +1,7 @@
-//! The steps that work on held plans and ask about them: F, I, K, S, W, L and
-//! C, with the powers and the codes that they take. Each is one record, but
-//! that W also comes with all fronts of a word.
+//! The steps that work on held plans and ask about them: F, I, K, S, W, L, C and
+//! U, with the powers and the codes that they take. Each is one record, but that
+//! W also comes with all fronts of a word, and U again and again between records
+//! that change what it lists.
 
 use super::{name, Held, Session};
 use crate::plans::{self, Word};
@@ -65,6 +66,29 @@ impl Session {
         let a = self.held_slot();
         self.record(&[b"C", name(a)]);
         self.slots[a] = None;
+    }
+
+    /// U a few times, mostly behind records that change its lines: a plan kept
+    /// over another, two with as many pairs, or C.
+    pub(super) fn survey(&mut self) {
+        for _ in 0..self.rng.between(1, 3) {
+            match self.rng.below(10) {
+                0..=4 => self.keep_for_survey(),
+                5 | 6 => self.load_belts(),
+                7 => self.clear(),
+                _ => {}
+            }
+            self.record(&[b"U"]);
+        }
+    }
+
+    /// A power in any slot: 1 and -1 have as many pairs as the plan itself, so
+    /// that two lines of U are equal in that, and 0 and 2 mostly have others.
+    fn keep_for_survey(&mut self) {
+        let (a, c) = (self.held_slot(), self.some_slot());
+        let k = *self.rng.pick(&["1", "1", "-1", "0", "2"]);
+        self.record(&[b"K", name(a), k.as_bytes(), name(c)]);
+        self.enter_result(a, c);
     }
 
     pub(super) fn route(&mut self) {

@@ -84,6 +84,17 @@ fn fronts_of_every_length_come_up() {
     }
 }
 
+/// What U lists has just changed: a plan is kept or typed, or a slot emptied.
+#[test]
+fn surveys_come_up_behind_changes() {
+    let lines = all_lines(0..200);
+    for letter in [b'K', b'E', b'C'] {
+        let behind = |pair: &&[Vec<u8>]| pair[0].first() == Some(&letter) && pair[1] == b"U";
+        let found = lines.windows(2).filter(behind).count();
+        assert!(found > 20, "{found} times U behind {}", letter as char);
+    }
+}
+
 #[test]
 fn n_and_r_come_up_at_their_ends() {
     let lines = all_lines(0..200);
