@@ -2,12 +2,12 @@
 -- whatever its columns are, and they follow one another in the order that the slots were arranged in.
 use Prim.Native.Nat.{ℕ, zero, suc, _+_, _*_, _≤_, _<_}
 use mathlib.Core.Path.{_≡_, refl, sym, _∙_, ap, ap₂, subst}
-use mathlib.Core.Bool.{Bool, true, false, _&&_, _||_}
+use mathlib.Core.Bool.{Bool, true, false}
 use mathlib.Core.List.{List, [], _∷_, _++_, map, append-nil, append-assoc, List·Memᴰ, List·Memᴰ·head, List·Memᴰ·tail}
 use mathlib.Core.Option.{none, some}
 use native.Mathlib.Numerals.{add-one}
 use native.Mathlib.Omega.{arith}
-use lib.Dec.{eqb, ltb}
+use lib.Dec.{eqb}
 use lib.ListN.{length, getD, take, drop, length-drop, length-map, List·getD-append}
 use lib.Seq.{take-all, take-suc, length-take-le}
 use Rattle.higman.specs.Words.{count}
@@ -18,7 +18,8 @@ use Rattle.higman.proofs.Tests.{count-bounds}
 use Rattle.columns.proofs.Rows.{rows-length}
 use Rattle.words.specs.Writing.{Wrote}
 use Rattle.words.proofs.Runs.{wrote-nothing, wrote-then}
-use Rattle.desk.specs.Replies.{Held, heldFrom, comesBefore, arranged, surveyed, surveys}
+use Rattle.tables.proofs.Lookup.{mem-number}
+use Rattle.desk.specs.Replies.{Held, heldFrom, lineFirst, comesBefore, arranged, surveyed, surveys}
 use Rattle.desk.specs.Bytes.{lineOf, okLine, heldFields, replyBytes}
 use Rattle.desk.proofs.Grammar.{text-exact}
 use Rattle.desk.proofs.Arranged.{arranged-map}
@@ -32,9 +33,9 @@ use Rattle.slots.specs.Blocks.{sizeAt, fromPlace, toPlace, valueAt}
 use Rattle.slots.specs.Desks.{slotAt, deskOf, HoldsDesk}
 use Rattle.slots.proofs.Windows.{pair-limit, written-length}
 use Rattle.slots.proofs.Held.{slots-eight, slot-kept}
-use Rattle.asking.specs.Arranged.{lineFirst, heldAmong, heldInOrder}
+use Rattle.asking.specs.Arranged.{slotFirst, heldAmong, heldInOrder}
 use Rattle.asking.proofs.Lent.{few-pairs}
-use Rattle.asking.proofs.Arranged.{at-place, heldIf, held-in, in-order-held, in-order-few}
+use Rattle.asking.proofs.Arranged.{heldIf, held-in, in-order-held, in-order-few}
 
 -- "`slot⇥n⇥r⇥pairs`"
 abbrev pub sizeFields : ℕ → Size → List Bytes
@@ -98,9 +99,9 @@ module _ (h : Head) (columns : List ℕ) (H : HoldsDesk h columns) where
       by false rest = ap (λ l. heldAt a ∷ l) rest
 
   -- the head's test is that of the definitions
-  same-test : (i j : ℕ) → i < slotCount → j < slotCount → comesBefore (heldAt i) (heldAt j) ≡ lineFirst h i j
+  same-test : (i j : ℕ) → i < slotCount → j < slotCount → comesBefore (heldAt i) (heldAt j) ≡ slotFirst h i j
   same-test i j k l =
-      ap₂ (λ m n. ltb n m || (eqb m n && ltb i j)) (pairs-held h columns H i k) (pairs-held h columns H j l)
+      ap₂ (λ m n. lineFirst m i n j) (pairs-held h columns H i k) (pairs-held h columns H j l)
 
   surveyed-slots : surveyed (deskOf h columns) ≡ map heldAt (heldInOrder h)
   unfolding surveyed deskOf heldInOrder
@@ -108,7 +109,7 @@ module _ (h : Head) (columns : List ℕ) (H : HoldsDesk h columns) where
       let named : (i : ℕ) → List·Memᴰ i (heldAmong h (count 0 slotCount)) → i < slotCount =
       λ i m. let b = count-bounds 0 slotCount i (held-in h (count 0 slotCount) i m .0) .1 in omega arith in
       ap (arranged comesBefore) (held-slots 0 slotCount)
-      ∙ arranged-map heldAt (lineFirst h) comesBefore (heldAmong h (count 0 slotCount)) (λ i j m n. same-test i j (named i m) (named j n))
+      ∙ arranged-map heldAt (slotFirst h) comesBefore (heldAmong h (count 0 slotCount)) (λ i j m n. same-test i j (named i m) (named j n))
 
   lines-held : (is : List ℕ) → ((i : ℕ) → List·Memᴰ i is → i < slotCount)
       → joinLines (map (λ k. lineOf (heldFields k)) (map heldAt is)) ≡ linesAt h is
@@ -157,7 +158,7 @@ module _ (h : Head) {order₀ order : List ℕ} {held i : ℕ} (w : Wrote (heldI
       ∙ List·getD-append (heldInOrder h) (drop (0 + length (heldInOrder h)) order₀) 0 i (omega (arith, w .place))
 
   next-held : List·Memᴰ (getD order i 0) (heldInOrder h)
-  next-held = subst (λ k. List·Memᴰ k (heldInOrder h)) (sym next-slot) (at-place (heldInOrder h) i (omega (arith, w .place)))
+  next-held = subst (λ k. List·Memᴰ k (heldInOrder h)) (sym next-slot) (mem-number (heldInOrder h) i (omega (arith, w .place)))
 
   pub next-named : getD order i 0 < 8
   next-named = omega (arith, in-order-held h (getD order i 0) next-held .0, slots-eight)

@@ -22,5 +22,5 @@ desk-cases =
     record {
       star = (refl, (refl, (refl, (refl, (refl, (refl, (refl, (refl, (refl, (refl, tt))))))))));
       others = (refl, (refl, (refl, (refl, (refl, (refl, (refl, (refl, tt))))))));
-      survey = (refl, (refl, tt));
+      survey = (refl, (refl, (refl, tt)));
     }

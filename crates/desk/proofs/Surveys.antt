@@ -1,10 +1,10 @@
 -- What U lists: the slots are gone through by ascending number, so each held slot is met once, and arranging them neither drops nor repeats
 -- one. Two lists of the same slots in that order are equal: of the first lines of both, each would come before the other.
-use Prim.Native.Nat.{ℕ, zero, suc, _+_, _-_, _≤_}
+use Prim.Native.Nat.{ℕ, zero, suc, _+_, _-_, _≤_, _<_}
 use native.Mathlib.Nat.{le-refl}
 use native.Mathlib.Omega.{arith}
 use mathlib.Core.Path.{_≡_, refl, sym, _∙_, ap, ap₂, subst}
-use mathlib.Core.Logic.{inl, inr}
+use mathlib.Core.Logic.{_⊎_, inl, inr}
 use mathlib.Core.Bool.{true}
 use mathlib.Core.List.{List, [], _∷_, List·Memᴰ, List·Memᴰ·head, List·Memᴰ·tail, List·Memᴰ·not-nil, Permᴰ·symm}
 use mathlib.Core.Option.{Option, none, some, Option·none-ne-some, Option·some-injective}
@@ -15,7 +15,7 @@ use Rattle.desk.specs.Desk.{Desk, held}
 use Rattle.desk.specs.Replies.{Held, heldFrom, pairsIn, comesBefore, surveyed}
 use Rattle.desk.specs.Theorems.{Before, InOrder, NoneTwice, SurveyOf, SurveyExact}
 use Rattle.desk.proofs.Replies.{replies-exact}
-use Rattle.desk.proofs.Arranged.{arranged-perm, arranged-sorted, Sorted, Told, line-first, first-transitive, first-other}
+use Rattle.desk.proofs.Arranged.{arranged-perm, arranged-sorted, Sorted, Comparable, before-of-test, first-transitive, first-other}
 
 abbrev at : ℕ → Plan → Held
 at i p = record { slot = i; plan = p }
@@ -52,22 +52,30 @@ listed-of-held l i p e = let z : 0 + i ≡ i = omega arith in subst (λ n. List�
 held-of-listed : (l : List (Option Plan)) (i : ℕ) (p : Plan) → List·Memᴰ (at i p) (heldFrom 0 l) → getD l i none ≡ some p
 held-of-listed l i p m = let z : i - 0 ≡ i = omega arith in subst (λ n. getD l n none ≡ some p) z (stands l 0 (at i p) m .holds)
 
--- no slot is met twice, so any two are told apart
+-- no slot is met twice, so any two are comparable apart
 met-once : (l : List (Option Plan)) (i : ℕ) → NoneTwice (heldFrom i l)
 met-once [] i = tt
 met-once (none ∷ l) i = met-once l (suc i)
 met-once (some q ∷ l) i = (λ k m e. let b : suc i ≤ k .slot = stands l (suc i) k m .from-here in omega (arith, e), met-once l (suc i))
 
-told : (hs : List Held) → NoneTwice hs → Told comesBefore hs
-told [] o = tt
-told (h ∷ hs) o = (λ k m e. first-other (pairsIn h) (h .slot) (pairsIn k) (k .slot) (o .0 k m) e, told hs (o .1))
+comparable : (hs : List Held) → NoneTwice hs → Comparable comesBefore hs
+comparable [] o = tt
+comparable (h ∷ hs) o = (λ k m e. first-other (pairsIn h) (h .slot) (pairsIn k) (k .slot) (o .0 k m) e, comparable hs (o .1))
 
 before-transitive : (h k l : Held) → comesBefore h k ≡ true → comesBefore k l ≡ true → comesBefore h l ≡ true
 before-transitive h k l = first-transitive (pairsIn h) (h .slot) (pairsIn k) (k .slot) (pairsIn l) (l .slot)
 
+-- slots by their numbers are slots by their letters
+before : (h k : Held) → comesBefore h k ≡ true → Before h k
+before h k e = by (before-of-test (pairsIn h) (h .slot) (pairsIn k) (k .slot) e)
+  where
+    by : (pairsIn k < pairsIn h) ⊎ ((pairsIn h ≡ pairsIn k) × (h .slot < k .slot)) → Before h k
+    by (inl f) = inl (omega arith)
+    by (inr f) = inr (f .0, omega (arith, f .1))
+
 in-order : (hs : List Held) → Sorted comesBefore hs → InOrder hs
 in-order [] s = tt
-in-order (h ∷ hs) s = (λ k m. line-first (pairsIn h) (h .slot) (pairsIn k) (k .slot) (s .0 k m), in-order hs (s .1))
+in-order (h ∷ hs) s = (λ k m. before h k (s .0 k m), in-order hs (s .1))
 
 -- of two, not each comes before the other; so none comes before itself
 never-both : (h k : Held) → Before h k → Before k h → ⊥
@@ -126,7 +134,7 @@ survey-of d =
     let perm = arranged-perm comesBefore hs in
     let holds : (i : ℕ) (p : Plan) → List·Memᴰ (at i p) (surveyed d) → held d i ≡ some p =
     λ i p m. held-of-listed (d .slots) i p (mem-of-perm perm m) in
-    let ordered = in-order (surveyed d) (arranged-sorted comesBefore before-transitive hs (told hs (met-once (d .slots) 0))) in
+    let ordered = in-order (surveyed d) (arranged-sorted comesBefore before-transitive hs (comparable hs (met-once (d .slots) 0))) in
     record {
       each = λ i p. (λ e. mem-of-perm (Permᴰ·symm perm) (listed-of-held (d .slots) i p e), holds i p);
       once = once-each d (surveyed d) (λ h. holds (h .slot) (h .plan)) ordered;

@@ -11,7 +11,7 @@ use Rattle.higman.specs.Text.{lineEnd, wordBytes, Bytes, bytes, decimal}
 use Rattle.higman.specs.Listing.{joinLines, listing, slotByte}
 use Rattle.higman.specs.Refusals.{Letter, letterByte}
 use Rattle.desk.specs.Records.{parted}
-use Rattle.desk.specs.Replies.{Held, Reply, silent, ok, okNumber, okWord, okBlock, lists, surveys, refuses}
+use Rattle.desk.specs.Replies.{Held, pairsIn, Reply, silent, ok, okNumber, okWord, okBlock, lists, surveys, refuses}
 
 -- a line of fields: tabs between them, byte 10 behind
 abbrev pub lineOf : List Bytes → Bytes
@@ -40,7 +40,7 @@ partFields p = bytes "B" ∷ wordBytes (p .from) ∷ wordBytes (p .to) ∷ []
 -- U: "`slot⇥n⇥r⇥pairs` for each held slot"
 abbrev pub heldFields : Held → List Bytes
 heldFields h =
-    (slotByte (h .slot) ∷ []) ∷ decimal (h .plan .shape .arity) ∷ decimal (h .plan .shape .roots) ∷ decimal (length (h .plan .rows)) ∷ []
+    (slotByte (h .slot) ∷ []) ∷ decimal (h .plan .shape .arity) ∷ decimal (h .plan .shape .roots) ∷ decimal (pairsIn h) ∷ []
 
 unfoldable pub replyBytes : Reply → Bytes
 replyBytes silent = []
@@ -62,10 +62,15 @@ block-example : replyBytes (okBlock (row 111 11 ∷ row 112 121 ∷ [])) ≡ byt
 unfolding replyBytes
 block-example = refl
 
--- U: "`slot⇥n⇥r⇥pairs`"
+-- plans of shape (2,1), with one pair and with two
+abbrev onePair : Plan
+onePair = record { shape = record { arity = 2; roots = 1 }; rows = row 1 1 ∷ [] }
+
 abbrev twoPairs : Plan
 twoPairs = record { shape = record { arity = 2; roots = 1 }; rows = row 11 12 ∷ row 12 11 ∷ [] }
 
-survey-example : replyBytes (surveys (record { slot = 1; plan = twoPairs } ∷ [])) ≡ bytes "B\t2\t1\t2\nok\t1\n"
+-- U: "`slot⇥n⇥r⇥pairs` for each held slot", as they stand
+survey-example : replyBytes (surveys (record { slot = 1; plan = twoPairs } ∷ record { slot = 0; plan = onePair } ∷ []))
+    ≡ bytes "B\t2\t1\t2\nA\t2\t1\t1\nok\t2\n"
 unfolding replyBytes
 survey-example = refl

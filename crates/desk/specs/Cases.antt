@@ -71,6 +71,7 @@ otherSessions =
 unfoldable pub surveySessions : List Case
 surveySessions =
     (("U" ∷ []) gives ("ok\t0" ∷ [])) ∷
+    (typeψ ++ typeφInB ++ ("U" ∷ []) gives ("ok\t3" ∷ "ok\t3" ∷ "A\t2\t1\t3" ∷ "B\t2\t1\t3" ∷ "ok\t2" ∷ [])) ∷
     (typeψ ++ ("I\tA\tC" ∷ "K\tA\t0\tB" ∷ "U" ∷ "C\tA" ∷ "U" ∷ [])
     gives ("ok\t3" ∷ "ok\t3" ∷ "ok\t1" ∷ "A\t2\t1\t3" ∷ "C\t2\t1\t3" ∷ "B\t2\t1\t1" ∷ "ok\t3" ∷ "ok" ∷ "C\t2\t1\t3" ∷ "B\t2\t1\t1" ∷ "ok\t2" ∷ [])) ∷
     []

@@ -18,7 +18,7 @@ use Rattle.higman.specs.Listing.{slotByte, joinLines, listing}
 use Rattle.higman.specs.Theorems.{SlotsExact, DecimalsExact}
 use Rattle.desk.specs.Limits.{maxLine, maxNumeral}
 use Rattle.desk.specs.Records.{Record, P, M, E, F, I, K, S, W, L, C, T, U, fields, parse, recordFields, recordText, noTab, wellFormed}
-use Rattle.desk.specs.Replies.{Held, silent, ok, okNumber, okWord, okBlock, lists, surveys, refuses}
+use Rattle.desk.specs.Replies.{Held, pairsIn, silent, ok, okNumber, okWord, okBlock, lists, surveys, refuses}
 use Rattle.desk.specs.Bytes.{lineOf, okLine, partFields, heldFields, replyBytes}
 
 -- "1, unknown letter, wrong number of fields, a field form": every other line is the text of the record that it is read as.
@@ -74,7 +74,7 @@ pub record RepliesWritten : Type 0 where
   -- U: "`slot⇥n⇥r⇥pairs` for each held slot .. then `ok⇥` and how many"
   pub held : (h : Held)
       → LineOf (lineOf (heldFields h))
-      ((slotByte (h .slot) ∷ []) ∷ decimal (h .plan .shape .arity) ∷ decimal (h .plan .shape .roots) ∷ decimal (length (h .plan .rows)) ∷ [])
+      ((slotByte (h .slot) ∷ []) ∷ decimal (h .plan .shape .arity) ∷ decimal (h .plan .shape .roots) ∷ decimal (pairsIn h) ∷ [])
   pub survey : (hs : List Held)
       → replyBytes (surveys hs) ≡ joinLines (map (λ h. lineOf (heldFields h)) hs) ++ okLine (decimal (length hs) ∷ [])
 

@@ -128,13 +128,18 @@ module _ {A : Type 0} (before : A → A → Bool) where
   arranged [] = []
   arranged (x ∷ l) = insert x (arranged l)
 
--- U: "the most pairs first, and equal ones by slot letter" (change request E2)
+-- U (change request E2): "with the most pairs first, and equal ones by slot letter". So m pairs in slot i come before n pairs in slot j:
+abbrev pub lineFirst : ℕ → ℕ → ℕ → ℕ → Bool
+lineFirst m i n j = ltb n m || (eqb m n && ltb i j)
+
+-- the pairs of a held slot
 abbrev pub pairsIn : Held → ℕ
 pairsIn h = length (h .plan .rows)
 
 abbrev pub comesBefore : Held → Held → Bool
-comesBefore h k = ltb (pairsIn k) (pairsIn h) || (eqb (pairsIn h) (pairsIn k) && ltb (h .slot) (k .slot))
+comesBefore h k = lineFirst (pairsIn h) (h .slot) (pairsIn k) (k .slot)
 
+-- the held slots, as U lists them
 unfoldable pub surveyed : Desk → List Held
 surveyed d = arranged comesBefore (heldFrom 0 (d .slots))
 

@@ -18,7 +18,7 @@ use Rattle.higman.specs.Limits.{Plan, Bases, Kept, shapeInRange, isPlanWord, ma
 use Rattle.higman.specs.Refusals.{bufferTooShort, invalidValue, Letter}
 use Rattle.higman.specs.Answers.{isTableOf, followed, Granted}
 use Rattle.higman.specs.Fronts.{BlockOf, SendsInTurn}
-use Rattle.higman.specs.Listing.{slotNumber, isSlot, openRecord, pairRecords, joinLines}
+use Rattle.higman.specs.Listing.{slotNumber, slotByte, isSlot, openRecord, pairRecords, joinLines}
 use Rattle.higman.specs.Buffers.{written}
 use Rattle.desk.specs.Limits.{maxChanges}
 use Rattle.desk.specs.Desk.{Desk, countOf, held, IsDesk, isDesk, freshDesk, changed, withDraft, dropped}
@@ -44,7 +44,7 @@ DeskTest = (d : Desk) → T (isDesk d) ↔ IsDesk d
 
 -- U (change request E2): "with the most pairs first, and equal ones by slot letter"
 abbrev pub Before : Held → Held → Type 0
-Before h k = (pairsIn k < pairsIn h) ⊎ ((pairsIn h ≡ pairsIn k) × (h .slot < k .slot))
+Before h k = (pairsIn k < pairsIn h) ⊎ ((pairsIn h ≡ pairsIn k) × (slotByte (h .slot) < slotByte (k .slot)))
 
 -- each before all that follow it
 abbrev pub InOrder : List Held → Type 0

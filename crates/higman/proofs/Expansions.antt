@@ -203,7 +203,7 @@ proper-of-expansion s (suc d) c (front, w, back, h, e) =
     let q = proper-of-perm s (append-swap parts front back) (proper-children s w (front ++ back) p) in
     subst (Proper s) (sym (e ∙ append-assoc front parts back)) q
 
-length-count : (a m : ℕ) → length (count a m) ≡ m
+pub length-count : (a m : ℕ) → length (count a m) ≡ m
 length-count a zero = refl
 length-count a (suc m) = ap suc (length-count (suc a) m)
 

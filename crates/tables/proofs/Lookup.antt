@@ -59,7 +59,7 @@ module _ (from to : List ℕ) (l : length from ≡ length to) (w : Word) (k : �
   image-nowhere e =
       match-nowhere (λ p. p .from) _ (λ place p tail. p .to ++ tail) (table from to) w k first-pair (e ∙ sym (table-length from to l))
 
-mem-number : (column : List ℕ) (k : ℕ) → k < length column → List·Memᴰ (getD column k 0) column
+pub mem-number : (column : List ℕ) (k : ℕ) → k < length column → List·Memᴰ (getD column k 0) column
 mem-number [] k h = absurd (omega arith)
 mem-number (x ∷ column) zero h = List·Memᴰ·head refl
 mem-number (x ∷ column) (suc k) h = List·Memᴰ·tail (mem-number column k (omega arith))
