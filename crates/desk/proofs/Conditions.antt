@@ -13,21 +13,22 @@ use borrow.Author.Tests.{not-false, not-true}
 use lib.IntN.{ℤ, pos, negsuc, natAbs}
 use lib.ListN.{length}
 use Rattle.higman.specs.Words.{Shape, Word, count, given}
-use Rattle.higman.specs.Bases.{anyOf, overlap, gap}
+use Rattle.higman.specs.Bases.{all, anyOf, overlap, gap}
 use Rattle.higman.specs.Tables.{Table, froms, tos, image, sameTable}
 use Rattle.higman.specs.Normal.{compose, repeated, power}
-use Rattle.higman.specs.Limits.{Plan, Kept, shapeInRange, granted, isCode, maxPairs, maxPower, isPlanWord}
+use Rattle.higman.specs.Limits.{Plan, Kept, shapeInRange, seedInRange, granted, pairFits, isCode, maxPairs, maxPower, isPlanWord}
 use Rattle.higman.specs.Answers.{Reason, Overlap, Gap, Verdict, Accepted, InFrom, InTo, verdict, Answer, Granted, Refused, ShapesDiffer}
 use Rattle.higman.specs.Answers.{LimitBroken, BadCode, Comparison, Alike, NotCompared, Route, Image, TooShort, NotRouted, sameShape}
-use Rattle.higman.specs.Answers.{raised, repeatable, followed, inverted, powered, same, routed}
+use Rattle.higman.specs.Answers.{raised, repeatable, followed, inverted, powered, same, routed, SeedOutside, TooManyPairs, WordTooLong}
 use Rattle.higman.specs.Fronts.{block}
+use Rattle.higman.specs.Exercises.{exercised, exercisePlan, exercise}
 use Rattle.higman.specs.Refusals.{shapeOutside, pairsFull, powerOutside, countFull, slotOutside, wrongState, badWord, wordsOverlap}
-use Rattle.higman.specs.Refusals.{rootUncovered, slotEmpty, shapesDiffer, limitBroken}
+use Rattle.higman.specs.Refusals.{rootUncovered, slotEmpty, shapesDiffer, limitBroken, seedOutside}
 use Rattle.higman.specs.Refusals.{Letter}
 use Rattle.higman.proofs.Tests.{T-of, clash, or-cases, or-true-left, or-true-right, count-bounds, count-mem}
 use Rattle.higman.proofs.Statements.{answers-exact}
 use Rattle.desk.specs.Desk.{Draft, Desk, held, IsDesk}
-use Rattle.desk.specs.Records.{Record, P, M, E, F, I, K, S, W, L, C, T as Tᴿ, U, needsOpen, slotsNamed, isChange}
+use Rattle.desk.specs.Records.{Record, P, M, E, F, I, K, S, W, L, C, T as Tᴿ, U, X, needsOpen, slotsNamed, isChange}
 use Rattle.higman.specs.Listing.{slotNumber}
 use Rattle.higman.specs.Text.{wordOf}
 use Rattle.desk.specs.Replies.{Reply, okWord, okBlock, Outcome, refuse, pass, _>>=_, isOpen, openAmiss, outside, atLimit}
@@ -228,6 +229,28 @@ routed-then inside p c {f} h = by-code (isCode (p .shape) c) (image (p .rows) c)
     by-code true none = record { says = h (okBlock inside) .says }
     by-code true (some v) = record { says = h (okWord v) .says }
 
+-- X: the seed, the pairs and then the words
+exercise-then : {A : Type 0} (s : Shape) (k seed : ℕ) {f : Plan → Outcome A} → ((p : Plan) → Says (f p) [])
+    → Says (ofAnswer (exercise s k seed) >>= f)
+    ((seedOutside if not (seedInRange seed)) ∷
+    (pairsFull if not (leb (length (exercised s k seed)) maxPairs)) ∷
+    (badWord if not (all pairFits (exercised s k seed))) ∷
+    [])
+unfolding _>>=_ exercise
+exercise-then s k seed {f} h =
+    by-tests (seedInRange seed) (leb (length (exercised s k seed)) maxPairs) (all pairFits (exercised s k seed))
+  where
+    made : Bool → Answer
+    made c = elim c [ false ↦ Refused WordTooLong | true ↦ Granted (exercisePlan s k seed) ]
+
+    by-tests : (a b c : Bool)
+        → Says (ofAnswer (elim a as (λ _. Answer) [ false ↦ Refused SeedOutside | true ↦ elim b [ false ↦ Refused TooManyPairs | true ↦ made c ] ]) >>= f)
+        ((seedOutside if not a) ∷ (pairsFull if not b) ∷ (badWord if not c) ∷ [])
+    by-tests false b c = record { says = refl }
+    by-tests true false c = record { says = refl }
+    by-tests true true false = record { says = refl }
+    by-tests true true true = record { says = h _ .says }
+
 -- what is asked of the plans that two slots hold
 of-both : (d : Desk) (a b : ℕ) (p q : Plan) → held d (slotNumber a) ≡ some p → held d (slotNumber b) ≡ some q
     → (test : Plan → Plan → Bool) → ofBoth d a b test ≡ test p q
@@ -289,6 +312,12 @@ ownConditions d (L a) = (slotEmpty if isEmpty d a) ∷ []
 ownConditions d (C a) = (slotEmpty if isEmpty d a) ∷ []
 ownConditions d Tᴿ = []
 ownConditions d U = []
+ownConditions d (X a n r s seed) =
+    (shapeOutside if not (shapeInRange (record { arity = n; roots = r }))) ∷
+    (seedOutside if not (seedInRange seed)) ∷
+    (pairsFull if not (leb (length (exercised (record { arity = n; roots = r }) s seed)) maxPairs)) ∷
+    (badWord if not (all pairFits (exercised (record { arity = n; roots = r }) s seed))) ∷
+    []
 
 own-says : (d : Desk) → IsDesk d → (r : Record) → openAmiss d r ≡ false → Says (job d r) (ownConditions d r)
 unfolding job ownConditions needsOpen
@@ -309,6 +338,8 @@ own-says d D (L a) o = plan-then d a (λ p e. done)
 own-says d D (C a) o = plan-then d a (λ p e. done)
 own-says d D Tᴿ o = done
 own-says d D U o = done
+own-says d D (X a n r s seed) o =
+    when-then (not (shapeInRange (record { arity = n; roots = r }))) (λ _ _. exercise-then (record { arity = n; roots = r }) s seed (λ p. done))
 
 -- the order of all operations
 abbrev shared : Desk → Record → List Condition
@@ -338,6 +369,7 @@ shared-table d (L a) = refl
 shared-table d (C a) = refl
 shared-table d Tᴿ = refl
 shared-table d U = refl
+shared-table d (X a n r s seed) = refl
 
 pub first-condition : (d : Desk) → IsDesk d → (r : Record) → refusalOf (operation d r) ≡ firstOf (conditions d r)
 first-condition d D r = shared-says d D r .says ∙ shared-table d r

@@ -20,13 +20,14 @@ use Rattle.higman.specs.Refusals.{noRecord, wrongState, shapeOutside, badWord, 
 use Rattle.higman.specs.Refusals.{Letter}
 use Rattle.higman.specs.Answers as Answers
 use Rattle.higman.specs.Answers.{Overlap, Gap, Verdict, Accepted, InFrom, InTo, verdict, Refusal, BadCode, ShapesDiffer, LimitBroken}
-use Rattle.higman.specs.Answers.{PowerOutside, refusalNumber, Answer, Granted, followed, inverted, powered, Comparison, Alike}
+use Rattle.higman.specs.Answers.{PowerOutside, SeedOutside, TooManyPairs, WordTooLong, refusalNumber, Answer, Granted, followed, inverted, powered, Comparison, Alike}
 use Rattle.higman.specs.Answers.{NotCompared, same, Route, Image, TooShort, NotRouted, routed}
 use Rattle.higman.specs.Listing.{slotNumber}
+use Rattle.higman.specs.Exercises.{exercise}
 use Rattle.higman.proofs.Tests.{so, T-of, clash, or-cases, or-true-left, or-true-right}
 use Rattle.desk.specs.Limits.{maxLine}
 use Rattle.desk.specs.Desk.{Draft, Desk, held}
-use Rattle.desk.specs.Records.{Record, P, M, E, F, I, K, S, W, L, C, T as Tᴿ, U, parted, parse, slotsNamed, isChange}
+use Rattle.desk.specs.Records.{Record, P, M, E, F, I, K, S, W, L, C, T as Tᴿ, U, X, parted, parse, slotsNamed, isChange}
 use Rattle.desk.specs.Replies.{Outcome, refuse, pass, _>>=_, Effect, openAmiss, outside, atLimit, openPlan, planIn, ofVerdict}
 use Rattle.desk.specs.Replies.{ofAnswer, ofComparison, ofRoute, settle, job, operation, recordOf, lineOperation, respondLine}
 use Rattle.desk.specs.Replies.{_when_}
@@ -101,6 +102,9 @@ refusal-among BadCode = tt
 refusal-among ShapesDiffer = tt
 refusal-among LimitBroken = tt
 refusal-among PowerOutside = tt
+refusal-among SeedOutside = tt
+refusal-among TooManyPairs = tt
+refusal-among WordTooLong = tt
 
 numbered-answer : (a : Answer) → Numbered (ofAnswer a)
 numbered-answer (Granted p) = no-refusal
@@ -135,6 +139,9 @@ job-numbered d (L a) = numbered-then (numbered-plan d a) (λ _. no-refusal)
 job-numbered d (C a) = numbered-then (numbered-plan d a) (λ _. no-refusal)
 job-numbered d Tᴿ = no-refusal
 job-numbered d U = no-refusal
+job-numbered d (X a n r s seed) =
+    numbered-then (numbered-test shapeOutside (not (shapeInRange (record { arity = n; roots = r }))) tt)
+    (λ _. numbered-then (numbered-answer (exercise (record { arity = n; roots = r }) s seed)) (λ _. no-refusal))
 
 numbered-operation : (d : Desk) (r : Record) → Numbered (operation d r)
 unfolding operation among operationNumbers
@@ -281,7 +288,7 @@ answered d line = go (lineOperation d line) refl
           one-line = ap (λ x. replyBytes (x .1)) r;
         })
 
-numbers : refusalNumbers ≡ 1 ∷ 2 ∷ 3 ∷ 4 ∷ 5 ∷ 6 ∷ 7 ∷ 8 ∷ 9 ∷ 10 ∷ 11 ∷ 12 ∷ 16 ∷ []
+numbers : refusalNumbers ≡ 1 ∷ 2 ∷ 3 ∷ 4 ∷ 5 ∷ 6 ∷ 7 ∷ 8 ∷ 9 ∷ 10 ∷ 11 ∷ 12 ∷ 16 ∷ 17 ∷ []
 unfolding refusalNumbers operationNumbers
 numbers = refl
 

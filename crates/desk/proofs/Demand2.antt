@@ -40,12 +40,9 @@ use Rattle.desk.proofs.Stays.{below-limit, slot-of-record}
 use Rattle.desk.proofs.OpenPlans.{close-pass, close-steps, draft-verdict}
 use Rattle.desk.proofs.Replies.{replies-exact, slots-used, desk-parts}
 use Rattle.desk.proofs.Surveys.{survey-exact}
+use Rattle.desk.proofs.Exercises.{answer-granted, kept-there, exercises, exercises-fixed}
 
 -- what the answers about plans pass on
-answer-granted : (a : Answer) → Passes (λ p. a ≡ Granted p) (ofAnswer a)
-answer-granted (Granted p) = passes refl
-answer-granted (Refused r) = stops
-
 comparison-made : (c : Comparison) → Passes (λ b. c ≡ Alike b) (ofComparison c)
 comparison-made (Alike b) = passes refl
 comparison-made (NotCompared r) = stops
@@ -75,10 +72,6 @@ accepted d o h x = (to, from)
 
     from : Bases (o .shape) (o .rows) × (countOf d < maxChanges) → (e : Effect) × (operation d E ≡ pass e)
     from (b, l) = (keepIn d (o .slot) (closed o), close-pass d o x (draft-verdict o (h .drafted o x) .1 b) (lt-leb maxChanges (countOf d) l))
-
--- what is kept in a slot is there afterwards
-kept-there : (d : Desk) (i : ℕ) (e : Effect) (p : Plan) → IsDesk d → i < slotCount → e ≡ keepIn d i p → held (e .0) i ≡ some p
-kept-there d i e p h l f = subst (λ z. held (z .0) i ≡ some p) (sym f) (desk-parts .changed-here d i (some p) (h .eight) l)
 
 typed : (d : Desk) (o : Draft) (e : Effect) → IsDesk d → d .draft ≡ some o → operation d E ≡ pass e → KeptAsTyped d o e
 typed d o e h x p =
@@ -278,6 +271,8 @@ demand2 =
       repeats = repeats;
       routes = routes;
       blocks = block-replied;
+      exercises = exercises;
+      exercises-fixed = exercises-fixed;
       compares = compares;
       replies = replies-exact;
       slots-used = slots-used;

@@ -2,6 +2,7 @@
 use Rattle.higman.proofs.Demand3.{demand3}
 use Rattle.higman.proofs.Results.{results-reduced}
 use Rattle.higman.proofs.MinimalExpansion.{minimal-expansion}
+use Rattle.higman.proofs.Exercises.{exercises-exact}
 use Rattle.higman.proofs.Automorphisms.{plans-are-automorphisms}
 use Rattle.desk.specs.Demands.{SessionExact, Demands}
 use Rattle.desk.proofs.Session.{fed-in-pieces, session-fed, lines-exact, lines-fed}
@@ -21,5 +22,6 @@ demands =
       group = plans-are-automorphisms;
       results = results-reduced;
       minimal = minimal-expansion;
+      exercises = exercises-exact;
       sessions = session-exact;
     }

@@ -4,7 +4,7 @@ use Prim.Native.Nat.{ℕ, suc}
 use native.Mathlib.Omega.{arith}
 use mathlib.Core.Path.{_≡_, refl, sym, _∙_, ap, ap₂, subst}
 use mathlib.Core.Logic.{_⊎_, inl, inr, _↔_}
-use mathlib.Core.Bool.{Bool, true, false}
+use mathlib.Core.Bool.{Bool, true, false, _&&_}
 use mathlib.Core.List.{List, [], _∷_, _++_, map, map-map}
 use mathlib.Core.Option.{Option, none, some, Option·none-ne-some, Option·some-injective}
 use lib.Dec.{T, eqb}
@@ -17,9 +17,9 @@ use Rattle.higman.specs.Tables.{Pair, Table}
 use Rattle.higman.specs.Text.{Bytes, bytes, tab, wordBytes, decimal}
 use Rattle.higman.specs.Listing.{slotByte, joinLines}
 use Rattle.higman.proofs.Tests.{passes, and-left, and-right, and-intro, all-cons}
-use Rattle.desk.specs.Limits.{maxNumeral}
-use Rattle.desk.specs.Records.{Record, P, M, E, F, I, K, S, W, L, C, T as Tᴿ, U, Form, slotField, anyField, numberField, field}
-use Rattle.desk.specs.Records.{noMore, Rule}
+use Rattle.desk.specs.Limits.{maxNumeral, maxSplitsNumeral, maxSeedNumeral}
+use Rattle.desk.specs.Records.{Record, P, M, E, F, I, K, S, W, L, C, T as Tᴿ, U, X, Form, slotField, anyField, numberField}
+use Rattle.desk.specs.Records.{field, noMore, Rule}
 use Rattle.desk.specs.Records.{grammar, readBy, readFields, parse, fields, parted, recordFields, recordText, noTab, hasDigits}
 use Rattle.desk.specs.Records.{numbersFit, wellFormed}
 use Rattle.desk.specs.Grammar.{GrammarExact, NumbersFit, WellFormedExact, LineOf, RepliesWritten, TextExact}
@@ -41,6 +41,32 @@ slot-exact = record { reads = λ b h. refl; only = only }
 
 any-exact : ExactForm anyField (λ f. f) (λ f. true)
 any-exact = record { reads = λ f h. refl; only = λ f g e. record { own-text = Option·some-injective f g e; fit = tt } }
+
+-- the four numbers of X
+record ExerciseFits (n r s seed : ℕ) : Type 0 where
+  ways : T (hasDigits 1 n)
+  belts : T (hasDigits 1 r)
+  splits : T (hasDigits maxSplitsNumeral s)
+  seeds : T (hasDigits maxSeedNumeral seed)
+
+fits-of-test : (a n r s seed : ℕ) → T (numbersFit (X a n r s seed)) → ExerciseFits n r s seed
+fits-of-test a n r s seed h =
+    let shape = hasDigits 1 n && hasDigits 1 r in
+    let front = and-left (shape && hasDigits maxSplitsNumeral s) (hasDigits maxSeedNumeral seed) h in
+    let both = and-left shape (hasDigits maxSplitsNumeral s) front in
+    record {
+      ways = and-left (hasDigits 1 n) (hasDigits 1 r) both;
+      belts = and-right (hasDigits 1 n) (hasDigits 1 r) both;
+      splits = and-right shape (hasDigits maxSplitsNumeral s) front;
+      seeds = and-right (shape && hasDigits maxSplitsNumeral s) (hasDigits maxSeedNumeral seed) h;
+    }
+
+test-of-fits : (a n r s seed : ℕ) → ExerciseFits n r s seed → T (numbersFit (X a n r s seed))
+test-of-fits a n r s seed f =
+    let shape = hasDigits 1 n && hasDigits 1 r in
+    let both = and-intro (hasDigits 1 n) (hasDigits 1 r) (f .ways) (f .belts) in
+    let front = and-intro shape (hasDigits maxSplitsNumeral s) both (f .splits) in
+    and-intro (shape && hasDigits maxSplitsNumeral s) (hasDigits maxSeedNumeral seed) front (f .seeds)
 
 -- what a record has to do with the fields that it was read from
 record Typed (fs : List Bytes) (r : Record) : Type 0 where
@@ -96,7 +122,7 @@ data OnlyRules : List Rule → Type 0 where
   _and_ : {rule : Rule} {rules : List Rule}
       → Only (λ fs. (rule .letter ∷ []) ∷ fs) (rule .reads) → OnlyRules rules → OnlyRules (rule ∷ rules)
 
--- P, M, E, F, I, K, S, W, L, C, T and U
+-- P, M, E, F, I, K, S, W, L, C, T, U and X
 grammar-only : OnlyRules grammar
 unfolding grammar
 grammar-only =
@@ -112,6 +138,9 @@ grammar-only =
     (only-slot λ a. only-noMore _ refl tt) and
     only-noMore _ refl tt and
     only-noMore _ refl tt and
+    (only-slot λ a. only-digit λ n h. only-digit λ r k.
+    only-field (number-exact maxSplitsNumeral) λ s l. only-field (number-exact maxSeedNumeral) λ seed m.
+    only-noMore _ refl (test-of-fits a n r s seed (record { ways = h; belts = k; splits = l; seeds = m }))) and
     no-rule
 
 readBy-only : {rules : List Rule} → OnlyRules rules → (b : ℕ) → Only (λ fs. (b ∷ []) ∷ fs) (readBy rules b)
@@ -156,6 +185,18 @@ readFields-recordFields (L a) h = refl
 readFields-recordFields (C a) h = refl
 readFields-recordFields Record.T h = refl
 readFields-recordFields U h = refl
+readFields-recordFields (X a n r s seed) h =
+    let fits = fits-of-test a n r s seed h in
+    rw (
+      number-exact 1 .reads n (fits .ways),
+      field,
+      number-exact 1 .reads r (fits .belts),
+      field,
+      number-exact maxSplitsNumeral .reads s (fits .splits),
+      field,
+      number-exact maxSeedNumeral .reads seed (fits .seeds),
+      field,
+    )
 
 -- fields without a tab that are read as a record are a line that is parsed as it
 parse-parted : (fs : List Bytes) (r : Record) → T (all noTab fs) → readFields fs ≡ some r → parse (parted fs) ≡ some r
@@ -246,7 +287,7 @@ replies-written =
 
 -- the numbers of well-formed records
 numbers-fit : (r : Record) → T (numbersFit r) ↔ NumbersFit r
-unfolding maxNumeral
+unfolding maxNumeral maxSplitsNumeral maxSeedNumeral
 numbers-fit (P a n r) = (
   λ h. (digits-below 0 n .0 (and-left (hasDigits 1 n) (hasDigits 1 r) h), digits-below 0 r .0 (and-right (hasDigits 1 n) (hasDigits 1 r) h)),
   λ h. and-intro (hasDigits 1 n) (hasDigits 1 r) (digits-below 0 n .1 (h .0)) (digits-below 0 r .1 (h .1)),
@@ -262,6 +303,19 @@ numbers-fit (L a) = (λ _. tt, λ _. tt)
 numbers-fit (C a) = (λ _. tt, λ _. tt)
 numbers-fit Tᴿ = (λ _. tt, λ _. tt)
 numbers-fit U = (λ _. tt, λ _. tt)
+numbers-fit (X a n r s seed) = (
+  λ h.
+      let fits = fits-of-test a n r s seed h in
+      (digits-below 0 n .0 (fits .ways), digits-below 0 r .0 (fits .belts), digits-below 1 s .0 (fits .splits), digits-below 9 seed .0 (fits .seeds)),
+  λ (below, below′, below″, below‴).
+      test-of-fits a n r s seed
+      (record {
+        ways = digits-below 0 n .1 below;
+        belts = digits-below 0 r .1 below′;
+        splits = digits-below 1 s .1 below″;
+        seeds = digits-below 9 seed .1 below‴;
+      }),
+)
 
 well-formed-exact : WellFormedExact
 unfolding wellFormed

@@ -1,7 +1,7 @@
 -- The arguments, each file after those it leans on. The terms of the statements of specs/Theorems.antt are in Outcomes (RefusalDrops),
 -- Stays (DeskStays), TypedLines (AcceptedFromLines), Desks (DeskTest), Surveys (SurveyExact), Calls (CallsExact), Session (FedInPieces,
 -- SessionFed) and ReadBack (TypedIn, ListingReadBack); that of specs/Grammar.antt is in Grammar; those of specs/Demands.antt in Replies
--- (RepliesExact, DeskParts), Demand1, Demand2 and Demands; that of specs/Cases.antt in Cases.
+-- (RepliesExact, DeskParts), Exercises (ExercisesFixed), Demand1, Demand2 and Demands; that of specs/Cases.antt in Cases.
 pub mod Outcomes
 pub mod Stays
 pub mod OpenPlans
@@ -19,6 +19,7 @@ pub mod Replies
 pub mod Arranged
 pub mod Surveys
 pub mod Demand1
+pub mod Exercises
 pub mod Demand2
 pub mod Demands
 pub mod Cases

@@ -13,7 +13,7 @@ use Rattle.higman.specs.Fronts.{block}
 use Rattle.higman.specs.Refusals.{wrongState, slotOutside, slotEmpty, countFull, Letter}
 use Rattle.higman.specs.Text.{Bytes, wordOf}
 use Rattle.desk.specs.Desk.{Draft, Desk, held, dropped}
-use Rattle.desk.specs.Records.{Record, P, M, E, F, I, K, S, W, L, C, T as Tᴿ, U, slotsNamed, isChange}
+use Rattle.desk.specs.Records.{Record, P, M, E, F, I, K, S, W, L, C, T as Tᴿ, U, X, slotsNamed, isChange}
 use Rattle.higman.specs.Listing.{slotNumber, isSlot}
 use Rattle.desk.specs.Replies.{Reply, silent, ok, okNumber, okWord, okBlock, lists, surveys, refuses, Outcome, refuse, pass, _>>=_}
 use Rattle.desk.specs.Replies.{openAmiss, openPlan, planIn, atLimit, ofRoute, job, Effect, settle, operation, lineOperation, respondLine}
@@ -138,6 +138,7 @@ job-answers d (L a) = any-then _ (λ _. passes tt)
 job-answers d (C a) = any-then _ (λ _. passes tt)
 job-answers d Tᴿ = passes tt
 job-answers d U = passes tt
+job-answers d (X a n r s seed) = any-then _ (λ _. any-then _ (λ _. passes tt))
 
 -- only a refusal replies as one
 pub operation-answers : (d : Desk) (r : Record) → Passes Answered (operation d r)

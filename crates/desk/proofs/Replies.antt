@@ -12,8 +12,8 @@ use Rattle.higman.specs.Limits.{Plan, slotCount}
 use Rattle.higman.proofs.Tests.{clash}
 use Rattle.higman.specs.Text.{Bytes, wordOf}
 use Rattle.desk.specs.Desk.{Draft, Desk, freshDesk, countOf, held, changed, withDraft, withPair, dropped}
-use Rattle.desk.specs.Records.{Record, P, M, E, F, I, K, S, W, L, C, T, U, Use, reads, target, SlotUse, reading, writing, needsOpen}
-use Rattle.desk.specs.Records.{slotsNamed, isChange}
+use Rattle.desk.specs.Records.{Record, P, M, E, F, I, K, S, W, L, C, T, U, X, Use, reads, target, SlotUse, reading, writing}
+use Rattle.desk.specs.Records.{needsOpen, slotsNamed, isChange}
 use Rattle.higman.specs.Listing.{slotNumber}
 use Rattle.desk.specs.Replies.{Effect, silent, ok, okNumber, lists, surveys, isOpen, surveyed, newDraft, job, operation}
 use Rattle.desk.specs.Demands.{RepliesExact, SlotsUsed, DeskParts}
@@ -89,6 +89,7 @@ count-of d (L a) = any-then _ (λ _. passes (refl, refl))
 count-of d (C a) = any-then _ (λ _. passes refl)
 count-of d T = passes (refl, refl)
 count-of d U = passes (refl, refl)
+count-of d (X a n r s seed) = any-then _ (λ _. any-then _ (λ _. passes refl))
 
 operation-counts : (d : Desk) (r : Record) → Passes (Counts (isChange r) d) (operation d r)
 operation-counts d r = passes-operation d r (λ _. count-of d r)
@@ -186,6 +187,7 @@ job-reads d (L a) = passes-then (plan-held d a) (λ p x. passes (reading-held d 
 job-reads d (C a) = any-then _ (λ _. passes (writing-held d a [] (no-uses d)))
 job-reads d T = passes (no-uses d)
 job-reads d U = passes (no-uses d)
+job-reads d (X a n r s seed) = any-then _ (λ _. any-then _ (λ _. passes (writing-held d a [] (no-uses d))))
 
 -- slots other than the targets are as they were
 abbrev Spares : Desk → Record → Effect → Type 0
@@ -214,6 +216,9 @@ job-spares d (C a) =
     any-then _ (λ _. passes (λ o j h. desk-parts .changed-elsewhere d (slotNumber a) j none (h (writing a) (List·Memᴰ·head refl) refl)))
 job-spares d T = passes (λ o j h. refl)
 job-spares d U = passes (λ o j h. refl)
+job-spares d (X a n r s seed) =
+    any-then _ (λ _. any-then _ (λ p. passes (λ o j h. desk-parts .changed-elsewhere d (slotNumber a) j (some p)
+    (h (writing a) (List·Memᴰ·head refl) refl))))
 
 pub slots-used : SlotsUsed
 slots-used =

@@ -18,6 +18,8 @@ use Rattle.higman.specs.Answers.{Verdict, Accepted, InFrom, InTo, verdict, Answ
 use Rattle.higman.proofs.Listing.{slots-exact}
 use Rattle.higman.proofs.Demand3.{demand3}
 use Rattle.higman.proofs.Statements.{answers-exact}
+use Rattle.higman.specs.Exercises.{exercise}
+use Rattle.higman.proofs.Exercises.{exercises-exact}
 use Rattle.higman.proofs.Tests.{so, clash, and-left, and-right, and-intro, all-at, all-snoc}
 use Rattle.higman.proofs.KeptPlans.{arity-of-range}
 use Rattle.higman.specs.Text.{Bytes, wordOf}
@@ -25,7 +27,7 @@ use Rattle.higman.proofs.PlanWords.{word-of-plan-word, plan-word-fits}
 use Rattle.higman.specs.Refusals.{wrongState, shapeOutside, badWord, pairsFull, slotEmpty}
 use Rattle.desk.specs.Limits.{maxChanges}
 use Rattle.desk.specs.Desk.{Draft, Desk, freshDesk, countOf, held, IsDraft, IsDesk, changed, withDraft, dropped, withPair}
-use Rattle.desk.specs.Records.{Record, P, M, E, F, I, K, S, W, L, C, T as Tᴿ, U, SlotUse, writing, slotsNamed, isChange}
+use Rattle.desk.specs.Records.{Record, P, M, E, F, I, K, S, W, L, C, T as Tᴿ, U, X, SlotUse, writing, slotsNamed, isChange}
 use Rattle.higman.specs.Listing.{slotNumber, isSlot}
 use Rattle.desk.specs.Replies.{Outcome, refuse, pass, openPlan, planIn, atLimit, ofVerdict, ofAnswer, Effect, newDraft, closed, job}
 use Rattle.desk.specs.Replies.{operation, recordOf, lineOperation, settle, respondLine}
@@ -178,6 +180,11 @@ job-stays d h (L a) t = any-then _ (λ _. passes h)
 job-stays d h (C a) t = any-then _ (λ _. passes (changed-desk d h (t .room) _ none none-kept))
 job-stays d h Tᴿ t = passes h
 job-stays d h U t = passes h
+job-stays d h (X a n r s seed) t =
+    let shape : Shape = record { arity = n; roots = r } in
+    passes-then (test-held shapeOutside (shapeInRange shape)) (λ _ y. passes-then
+    (granted-kept (exercise shape s seed) (λ p e. exercises-exact .kept shape y s seed p e))
+    (λ p k. passes (changed-desk d h (t .room) _ _ (some-kept p k))))
 
 pub operation-stays : (d : Desk) → IsDesk d → (r : Record) → Passes Stays (operation d r)
 operation-stays d h r = passes-operation d r (job-stays d h r)

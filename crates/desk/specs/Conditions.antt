@@ -16,12 +16,14 @@ use Rattle.higman.specs.Bases.{all, anyOf, overlap, gap}
 use Rattle.higman.specs.Tables.{froms, tos}
 use Rattle.higman.specs.Normal.{compose, power}
 use Rattle.higman.specs.Limits.{Plan, shapeInRange, granted, isCode, maxPairs, maxPower, slotCount, isPlanWord, powerInRange}
+use Rattle.higman.specs.Limits.{seedInRange, pairFits}
 use Rattle.higman.specs.Answers.{sameShape}
+use Rattle.higman.specs.Exercises.{nextDraw, drawn, grown, shuffled, exercised}
 use Rattle.higman.specs.Refusals.{wrongState, shapeOutside, badWord, pairsFull, wordsOverlap, rootUncovered, slotOutside, slotEmpty}
-use Rattle.higman.specs.Refusals.{shapesDiffer, limitBroken, powerOutside, countFull, Letter}
+use Rattle.higman.specs.Refusals.{shapesDiffer, limitBroken, powerOutside, countFull, seedOutside, Letter}
 use Rattle.higman.specs.Text.{byte, wordOf}
 use Rattle.desk.specs.Desk.{Draft, Desk, freshDesk, held}
-use Rattle.desk.specs.Records.{Record, P, M, E, F, I, K, S, W, L, C, T, U}
+use Rattle.desk.specs.Records.{Record, P, M, E, F, I, K, S, W, L, C, T, U, X}
 use Rattle.higman.specs.Listing.{slotNumber, isSlot}
 use Rattle.desk.specs.Replies.{Outcome, refuse, pass, isOpen, atLimit}
 
@@ -134,6 +136,16 @@ conditions d (C a) =
 -- "U and T: no more."
 conditions d T = (wrongState if isOpen d) ∷ []
 conditions d U = (wrongState if isOpen d) ∷ []
+-- "17, a seed outside 1 to 2147483646, after 8 and 3; then 5 and 4 if the unreduced plan breaks those limits; 16 last" (change request E3)
+conditions d (X a n r s seed) =
+    (wrongState if isOpen d) ∷
+    (slotOutside if outsideOf (a ∷ [])) ∷
+    (shapeOutside if not (shapeInRange (record { arity = n; roots = r }))) ∷
+    (seedOutside if not (seedInRange seed)) ∷
+    (pairsFull if not (leb (length (exercised (record { arity = n; roots = r }) s seed)) maxPairs)) ∷
+    (badWord if not (all pairFits (exercised (record { arity = n; roots = r }) s seed))) ∷
+    (countFull if atLimit d) ∷
+    []
 
 -- the first condition that holds: its number and column
 abbrev pub firstOf : List Condition → Option (ℕ × Option Letter)

@@ -9,21 +9,22 @@ use mathlib.Core.Option.{Option, none, some}
 use lib.Dec.{T}
 use lib.IntN.{ℤ}
 use lib.ListN.{length}
-use Rattle.higman.specs.Words.{Word, isWord}
+use Rattle.higman.specs.Words.{Shape, Word, isWord}
 use Rattle.higman.specs.Tables.{image}
 use Rattle.higman.specs.Normal.{andThen, power}
 use Rattle.higman.specs.Limits.{Plan, Bases, Kept, slotCount}
 use Rattle.higman.specs.Text.{lineEnd, Bytes, wordOf}
 use Rattle.higman.specs.Theorems.{ActAlike, ResultsReduced, MinimalExpansion, Demand3}
 use Rattle.higman.specs.Fronts.{block}
+use Rattle.higman.specs.Exercises.{exercised, exercisePlan, ExercisesExact}
 use Rattle.higman.specs.Automorphisms.{PlansAreAutomorphisms}
 use Rattle.higman.specs.Refusals.{noRecord, wrongState, shapeOutside, badWord, pairsFull, wordsOverlap, rootUncovered, slotOutside}
 use Rattle.higman.specs.Refusals.{slotEmpty, shapesDiffer, limitBroken, powerOutside, codeTooShort, bufferTooShort, invalidValue}
-use Rattle.higman.specs.Refusals.{countFull, Letter}
+use Rattle.higman.specs.Refusals.{countFull, seedOutside, Letter}
 use Rattle.desk.specs.Limits.{maxChanges, maxLine}
 use Rattle.desk.specs.Desk.{Draft, Desk, freshDesk, countOf, held, IsDesk, changed, withDraft, withPair, dropped}
-use Rattle.desk.specs.Records.{Record, P, M, E, F, I, K, S, W, L, C, T as Tᴿ, U, SlotUse, reads, target, needsOpen, slotsNamed}
-use Rattle.desk.specs.Records.{isChange, recordText, wellFormed}
+use Rattle.desk.specs.Records.{Record, P, M, E, F, I, K, S, W, L, C, T as Tᴿ, U, X, SlotUse, reads, target, needsOpen}
+use Rattle.desk.specs.Records.{slotsNamed, isChange, recordText, wellFormed}
 use Rattle.higman.specs.Listing.{slotNumber}
 use Rattle.desk.specs.Replies.{refuse, pass, Effect, silent, ok, okNumber, okWord, okBlock, lists, surveys, refuses, surveyed}
 use Rattle.desk.specs.Replies.{operation, lineOperation, respondLine, newDraft, closed}
@@ -49,6 +50,7 @@ operationNumbers =
     limitBroken ∷
     powerOutside ∷
     countFull ∷
+    seedOutside ∷
     []
 
 -- and those of a line, which may be no record
@@ -77,7 +79,7 @@ pub record Demand1 : Type 0 where
   pub refusal-drops : RefusalDrops
   pub desk-stays : DeskStays
   -- the paper's numbers
-  pub numbers : refusalNumbers ≡ 1 ∷ 2 ∷ 3 ∷ 4 ∷ 5 ∷ 6 ∷ 7 ∷ 8 ∷ 9 ∷ 10 ∷ 11 ∷ 12 ∷ 16 ∷ []
+  pub numbers : refusalNumbers ≡ 1 ∷ 2 ∷ 3 ∷ 4 ∷ 5 ∷ 6 ∷ 7 ∷ 8 ∷ 9 ∷ 10 ∷ 11 ∷ 12 ∷ 16 ∷ 17 ∷ []
   pub library-numbers : (codeTooShort ≡ 13) × (bufferTooShort ≡ 14) × (invalidValue ≡ 15)
   -- 1 exactly where a line is no record, a record's line does what the record does, and every other number is given under its
   -- condition and no other: the first that holds
@@ -139,7 +141,12 @@ pub record KeptAsTyped (d : Desk) (o : Draft) (e : Effect) : Type 0 where
   pub kept : Kept (closed o)
   pub acts : (w v : Word) → T (isWord (o .shape) w) → image (o .rows) w ≡ some v → image (closed o .rows) w ≡ some v
 
--- F, I and K: the plan that is kept in slot c, from what the slots held before
+-- no plan is open, and the count is below its limit
+pub record Ready (d : Desk) : Type 0 where
+  pub none-open : d .draft ≡ none
+  pub room : countOf d < maxChanges
+
+-- F, I, K and X: the plan that is kept in slot c, from what the slots held before
 pub record KeptIn (d : Desk) (c : ℕ) (e : Effect) (p : Plan) : Type 0 where
   pub effect : e ≡ (changed d (slotNumber c) (some p), okNumber (length (p .rows)))
   pub there : held (e .0) (slotNumber c) ≡ some p
@@ -150,6 +157,22 @@ abbrev pub RoutedBy : Plan → Word → Desk → Effect → Type 0
 RoutedBy p w d e =
     ((v : Word) × (image (p .rows) w ≡ some v) × (e ≡ (d, okWord v)))
     ⊎ ((image (p .rows) w ≡ none) × (e ≡ (d, okBlock (block (p .rows) w))))
+
+-- X: the plan of its numbers is kept, and acts as the pairs that were made
+pub record ExerciseKept (d : Desk) (a : ℕ) (s : Shape) (k seed : ℕ) (e : Effect) : Type 0 where
+  pub plan : KeptIn d a e (exercisePlan s k seed)
+  pub acts : (w v : Word) → T (isWord s w) → image (exercised s k seed) w ≡ some v → image (exercisePlan s k seed .rows) w ≡ some v
+
+-- "The plan is fixed by the five fields alone": where X is done on two desks, its reply is the same and it keeps the same in its slot;
+-- and where both are ready for a change, it is done on both or refused on both, with the same number.
+pub record ExercisesFixed : Type 0 where
+  pub same-reply : (d c : Desk) (a n r s seed : ℕ) (e f : Effect)
+      → operation d (X a n r s seed) ≡ pass e → operation c (X a n r s seed) ≡ pass f → e .1 ≡ f .1
+  pub same-plan : (d c : Desk) (a n r s seed : ℕ) (e f : Effect) → IsDesk d → IsDesk c
+      → operation d (X a n r s seed) ≡ pass e → operation c (X a n r s seed) ≡ pass f
+      → held (e .0) (slotNumber a) ≡ held (f .0) (slotNumber a)
+  pub same-refusal : (d c : Desk) (a n r s seed : ℕ) → IsDesk d → IsDesk c → Ready d → Ready c
+      → refusalOf (operation d (X a n r s seed)) ≡ refusalOf (operation c (X a n r s seed))
 
 -- Demand 2: plans accepted exactly when both columns are bases, operations those of G(n,r), a listing read back is the same plan.
 pub record Demand2 : Type 0 where
@@ -167,6 +190,10 @@ pub record Demand2 : Type 0 where
   pub routes : (d : Desk) (a : ℕ) (code : Bytes) (e : Effect) → operation d (W a code) ≡ pass e
       → (p : Plan) × (held d (slotNumber a) ≡ some p) × RoutedBy p (wordOf code) d e
   pub blocks : BlockReplied
+  -- X: the plan that the request makes of the shape, the splits and the seed, reduced (change request E3)
+  pub exercises : (d : Desk) (a : ℕ) (s : Shape) (k seed : ℕ) (e : Effect) → IsDesk d
+      → operation d (X a (s .arity) (s .roots) k seed) ≡ pass e → ExerciseKept d a s k seed e
+  pub exercises-fixed : ExercisesFixed
   pub compares : (d : Desk) (a b : ℕ) (e : Effect) → IsDesk d → operation d (S a b) ≡ pass e
       → (p : Plan) × (q : Plan) × (held d (slotNumber a) ≡ some p) × (held d (slotNumber b) ≡ some q)
       × ((e ≡ (d, okNumber 1)) ⊎ (e ≡ (d, okNumber 0))) × ((e ≡ (d, okNumber 1)) ↔ ActAlike p q)
@@ -190,7 +217,7 @@ pub record SessionExact : Type 0 where
   pub pieces : FedInPieces
 
 -- All three demands, in one place, with what their words lean on: the plans are the automorphisms of V(n,r), a result is the reduced
--- plan on the minimal expansion, and bytes are read and written as the paper says.
+-- plan on the minimal expansion, X makes its plans as the request says, and bytes are read and written as the paper says.
 pub record Demands : Type 1 where
   pub demand1 : Demand1
   pub demand2 : Demand2
@@ -198,4 +225,5 @@ pub record Demands : Type 1 where
   pub group : PlansAreAutomorphisms
   pub results : ResultsReduced
   pub minimal : MinimalExpansion
+  pub exercises : ExercisesExact
   pub sessions : SessionExact

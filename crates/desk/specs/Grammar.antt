@@ -16,8 +16,8 @@ use Rattle.higman.specs.Limits.{Plan}
 use Rattle.higman.specs.Refusals.{Letter}
 use Rattle.higman.specs.Listing.{slotByte, joinLines, listing}
 use Rattle.higman.specs.Theorems.{SlotsExact, DecimalsExact}
-use Rattle.desk.specs.Limits.{maxLine, maxNumeral}
-use Rattle.desk.specs.Records.{Record, P, M, E, F, I, K, S, W, L, C, T, U, fields, parse, recordFields, recordText, noTab, wellFormed}
+use Rattle.desk.specs.Limits.{maxLine, maxNumeral, maxSplitsNumeral, maxSeedNumeral}
+use Rattle.desk.specs.Records.{Record, P, M, E, F, I, K, S, W, L, C, T, U, X, fields, parse, recordFields, recordText, noTab, wellFormed}
 use Rattle.desk.specs.Replies.{Held, pairsIn, silent, ok, okNumber, okWord, okBlock, lists, surveys, refuses}
 use Rattle.desk.specs.Bytes.{lineOf, okLine, partFields, heldFields, replyBytes}
 
@@ -25,7 +25,8 @@ use Rattle.desk.specs.Bytes.{lineOf, okLine, partFields, heldFields, rep
 abbrev pub GrammarExact : Type 0
 GrammarExact = (line : Bytes) (r : Record) → (parse line ≡ some r) ↔ (So (wellFormed r) × (line ≡ recordText r))
 
--- what it is for the numbers of a record to fit their fields: "n and r one digit 0 to 9", "k .. one to four digits"
+-- what it is for the numbers of a record to fit their fields: "n and r one digit 0 to 9", "k .. one to four digits", "s one or two
+-- digits and seed one to ten"
 abbrev pub NumbersFit : Record → Type 0
 NumbersFit (P a n r) = (n < 10) × (r < 10)
 NumbersFit (M from to) = Unit {0}
@@ -39,6 +40,7 @@ NumbersFit (L a) = Unit {0}
 NumbersFit (C a) = Unit {0}
 NumbersFit T = Unit {0}
 NumbersFit U = Unit {0}
+NumbersFit (X a n r s seed) = (n < 10) × (r < 10) × (s < 10 ^ maxSplitsNumeral) × (seed < 10 ^ maxSeedNumeral)
 
 -- a record is well formed exactly when no field has a tab in it and its numbers fit
 abbrev pub WellFormedExact : Type 0

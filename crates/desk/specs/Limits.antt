@@ -13,3 +13,10 @@ maxLine = 1_100
 -- "k an optional minus and one to four digits"
 unfoldable pub maxNumeral : ℕ
 maxNumeral = 4
+
+-- "s one or two digits and seed one to ten" (change request E3)
+unfoldable pub maxSplitsNumeral : ℕ
+maxSplitsNumeral = 2
+
+unfoldable pub maxSeedNumeral : ℕ
+maxSeedNumeral = 10

@@ -11,7 +11,7 @@ use lib.IntN.{ℤ, pos, negsuc, natAbs}
 use lib.ListN.{length}
 use Rattle.higman.specs.Bases.{all}
 use Rattle.higman.specs.Text.{tab, Bytes, byte, bytes, isNumeral, spelledOut, noLeadingZero, decimal}
-use Rattle.desk.specs.Limits.{maxNumeral}
+use Rattle.desk.specs.Limits.{maxNumeral, maxSplitsNumeral, maxSeedNumeral}
 
 -- A record, by its letter. A slot is the byte that names it, a word or code the bytes that spell it.
 pub data Record : Type 0 where
@@ -39,6 +39,8 @@ pub data Record : Type 0 where
   T : Record
   -- U: the held slots
   U : Record
+  -- X⇥slot⇥n⇥r⇥s⇥seed makes a plan by numbers and keeps it (change request E3)
+  X : ℕ → ℕ → ℕ → ℕ → ℕ → Record
 
 -- a byte in front of the first field
 abbrev pub inFront : ℕ → List Bytes → List Bytes
@@ -105,6 +107,10 @@ pub record Rule : Type 0 where
   pub letter : ℕ
   pub reads : List Bytes → Option Record
 
+-- X behind its r: "s one or two digits and seed one to ten, neither with a leading zero but for 0 itself"
+abbrev pub exerciseFields : ℕ → ℕ → ℕ → List Bytes → Option Record
+exerciseFields a n r = field (numberField maxSplitsNumeral) (λ s. field (numberField maxSeedNumeral) (λ seed. noMore (X a n r s seed)))
+
 unfoldable pub grammar : List Rule
 grammar =
     record { letter = byte "P"; reads = field slotField (λ a. field (numberField 1) (λ n. field (numberField 1) (λ r. noMore (P a n r)))) } ∷
@@ -119,6 +125,7 @@ grammar =
     record { letter = byte "C"; reads = field slotField (λ a. noMore (C a)) } ∷
     record { letter = byte "T"; reads = noMore T } ∷
     record { letter = byte "U"; reads = noMore U } ∷
+    record { letter = byte "X"; reads = field slotField (λ a. field (numberField 1) (λ n. field (numberField 1) (exerciseFields a n))) } ∷
     []
 
 -- the record of a letter and fields by the first rule for the letter; an unknown letter has none
@@ -158,6 +165,8 @@ recordFields (L a) = bytes "L" ∷ (a ∷ []) ∷ []
 recordFields (C a) = bytes "C" ∷ (a ∷ []) ∷ []
 recordFields T = bytes "T" ∷ []
 recordFields U = bytes "U" ∷ []
+-- "X⇥slot⇥n⇥r⇥s⇥seed"
+recordFields (X a n r s seed) = bytes "X" ∷ (a ∷ []) ∷ decimal n ∷ decimal r ∷ decimal s ∷ decimal seed ∷ []
 
 unfoldable pub recordText : Record → Bytes
 recordText r = parted (recordFields r)
@@ -166,7 +175,7 @@ recordText r = parted (recordFields r)
 abbrev pub noTab : Bytes → Bool
 noTab f = all (λ b. not (eqb b tab)) f
 
--- a number has no more digits than its field: "n and r one digit", "k .. one to four digits"
+-- a number has no more digits than its field: "n and r one digit", "k .. one to four digits", "s one or two digits and seed one to ten"
 abbrev pub hasDigits : ℕ → ℕ → Bool
 hasDigits digits k = leb (length (decimal k)) digits
 
@@ -183,6 +192,7 @@ numbersFit (L a) = true
 numbersFit (C a) = true
 numbersFit T = true
 numbersFit U = true
+numbersFit (X a n r s seed) = hasDigits 1 n && hasDigits 1 r && hasDigits maxSplitsNumeral s && hasDigits maxSeedNumeral seed
 
 -- a record that some line is the text of
 unfoldable pub wellFormed : Record → Bool
@@ -202,6 +212,7 @@ needsOpen (L a) = false
 needsOpen (C a) = false
 needsOpen T = false
 needsOpen U = false
+needsOpen (X a n r s seed) = false
 
 -- What a record does to a slot that it names: it reads what the slot holds, or the slot is a target, which it fills or empties.
 pub data Use : Type 0 where
@@ -232,8 +243,9 @@ slotsNamed (L a) = reading a ∷ []
 slotsNamed (C a) = writing a ∷ []
 slotsNamed T = []
 slotsNamed U = []
+slotsNamed (X a n r s seed) = writing a ∷ []
 
--- "E, F, I, K and C raise the count by one."
+-- "E, F, I, K and C raise the count by one.", and X does so "as E does" (change request E3)
 unfoldable pub isChange : Record → Bool
 isChange (P a n r) = false
 isChange (M from to) = false
@@ -247,6 +259,7 @@ isChange (L a) = false
 isChange (C a) = true
 isChange T = false
 isChange U = false
+isChange (X a n r s seed) = true
 
 fields-example : fields (bytes "W\tA\t") ≡ bytes "W" ∷ bytes "A" ∷ [] ∷ []
 fields-example = refl
@@ -266,6 +279,12 @@ numberField-example = refl
 parse-example : parse (bytes "K\tA\t-2\tz") ≡ some (K (byte "A") (negsuc 1) (byte "z"))
 unfolding parse grammar maxNumeral
 parse-example = refl
+
+-- s and the seed: 0 itself, the most digits, a digit too many and a leading zero
+parse-exercise-example : map parse (bytes "X\tA\t2\t1\t0\t9999999999" ∷ bytes "X\tA\t2\t1\t99\t0" ∷ bytes "X\tA\t2\t1\t100\t1" ∷ bytes "X\tA\t2\t1\t07\t1" ∷ bytes "X\tA\t2\t1\t7\t00" ∷ bytes "X\tA\t2\t1\t7\t10000000000" ∷ [])
+    ≡ some (X (byte "A") 2 1 0 9_999_999_999) ∷ some (X (byte "A") 2 1 99 0) ∷ none ∷ none ∷ none ∷ none ∷ []
+unfolding parse grammar maxNumeral maxSplitsNumeral maxSeedNumeral
+parse-exercise-example = refl
 
 recordText-example : map recordText (K (byte "A") (negsuc 1) (byte "z") ∷ M (bytes "11") [] ∷ E ∷ [])
     ≡ bytes "K\tA\t-2\tz" ∷ bytes "M\t11\t" ∷ bytes "E" ∷ []

@@ -14,18 +14,19 @@ use Rattle.higman.specs.Bases.{all}
 use Rattle.higman.specs.Tables.{Table, row, φ, ψ}
 use Rattle.higman.specs.Normal.{joined, normal, normalForm, keep, compose, inverse}
 use Rattle.higman.specs.Limits.{Plan, shapeInRange, granted, isCode, maxPairs, maxDigits, maxCode, maxPower, slotCount, isPlanWord}
-use Rattle.higman.specs.Limits.{powerInRange}
+use Rattle.higman.specs.Limits.{powerInRange, seedInRange}
 use Rattle.higman.specs.Answers.{Verdict, Accepted, InFrom, InTo, verdict, reasonNumber, Answer, Granted, Refused, refusalNumber}
 use Rattle.higman.specs.Answers.{followed, inverted, powered, Comparison, Alike, NotCompared, same, Route, Image, TooShort, NotRouted}
 use Rattle.higman.specs.Answers.{routed}
 use Rattle.higman.specs.Fronts.{block}
+use Rattle.higman.specs.Exercises.{nextDraw, drawn, grown, shuffled, exercised, exercise}
 use Rattle.higman.specs.Refusals.{noRecord, wrongState, shapeOutside, badWord, pairsFull, slotOutside, slotEmpty, powerOutside, countFull}
 use Rattle.higman.specs.Refusals.{Letter}
 use Rattle.higman.specs.Text.{Bytes, byte, bytes, digitOf, wordOf}
 use Rattle.higman.specs.Listing.{slotNumber, isSlot}
 use Rattle.desk.specs.Limits.{maxChanges, maxLine}
 use Rattle.desk.specs.Desk.{Draft, Desk, freshDesk, countOf, held, changed, withDraft, dropped, atCount, withPair}
-use Rattle.desk.specs.Records.{Record, P, M, E, F, I, K, S, W, L, C, T, U, grammar, parse, needsOpen, SlotUse, slotsNamed, isChange}
+use Rattle.desk.specs.Records.{Record, P, M, E, F, I, K, S, W, L, C, T, U, X, grammar, parse, needsOpen, SlotUse, slotsNamed, isChange}
 
 -- a slot that holds a plan
 pub record Held : Type 0 where
@@ -92,7 +93,7 @@ ofVerdict Accepted = pass tt
 ofVerdict (InFrom r) = refuse (reasonNumber r) (some Letter.F)
 ofVerdict (InTo r) = refuse (reasonNumber r) (some Letter.T)
 
--- F, I, K: the granted plan
+-- F, I, K, X: the granted plan
 abbrev pub ofAnswer : Answer → Outcome Plan
 ofAnswer (Granted p) = pass p
 ofAnswer (Refused r) = refuse (refusalNumber r) none
@@ -218,6 +219,11 @@ job d (C a) = do
   pass (changed d (slotNumber a) none, ok)
 job d T = pass (d, okNumber (countOf d))
 job d U = pass (d, surveys (surveyed d))
+job d (X a n r s seed) = do
+  _ ← shapeOutside when not (shapeInRange (record { arity = n; roots = r }))
+  -- 17, 5 and 4
+  p ← ofAnswer (exercise (record { arity = n; roots = r }) s seed)
+  pass (keepIn d (slotNumber a) p)
 
 -- "When each operation says no": 2, then 8, then the record's own numbers, and 16 last where the record is a change
 unfoldable pub operation : Desk → Record → Outcome Effect
@@ -278,6 +284,13 @@ open-example : map (λ r. respond (withDraft freshDesk (newDraft (byte "A") (rec
 unfolding _>>=_ respond operation job needsOpen slotsNamed isChange freshDesk withDraft slotCount isPlanWord maxPairs maxDigits verdict
     digitOf
 open-example = refl
+
+-- X on a fresh desk: two pairs kept; a slot outside, a shape outside, a seed outside and 129 pairs, each before what follows it
+exercise-example : map (λ r. respond freshDesk r .1) (X (byte "A") 2 1 2 1 ∷ X (byte "I") 1 1 99 0 ∷ X (byte "A") 1 1 99 0 ∷ X (byte "A") 9 9 15 0 ∷ X (byte "A") 9 9 15 1 ∷ [])
+    ≡ okNumber 2 ∷ refuses 8 none ∷ refuses 3 none ∷ refuses 17 none ∷ refuses 5 none ∷ []
+unfolding _>>=_ respond operation job needsOpen slotsNamed isChange freshDesk changed slotCount shapeInRange seedInRange maxPairs maxDigits
+    maxChanges exercise exercised grown shuffled drawn nextDraw keep normalForm normal joined
+exercise-example = refl
 
 -- a line that is no record, and a record
 respondLine-example : map (λ l. respondLine freshDesk (bytes l) .1) ("" ∷ "T " ∷ "T" ∷ [])

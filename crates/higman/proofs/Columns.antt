@@ -35,7 +35,7 @@ apart-from-of-meets w (v ∷ c) e u m =
     go h (inr k) rest x = rest k x
 
 -- a test that cannot pass fails
-fails : (b : Bool) → (b ≡ true → ⊥) → b ≡ false
+pub fails : (b : Bool) → (b ≡ true → ⊥) → b ≡ false
 fails true h = absurd (h refl)
 fails false h = refl
 

@@ -12,6 +12,7 @@ use Rattle.higman.specs.Bases.{all, overlap, gap}
 use Rattle.higman.specs.Tables.{Table, froms, tos, image, sameTable, row, φ, ψ}
 use Rattle.higman.specs.Normal.{joined, normal, normalForm, keep, compose, inverse, identity}
 use Rattle.higman.specs.Refusals.{badWord, wordsOverlap, rootUncovered, shapesDiffer, limitBroken, powerOutside, codeTooShort}
+use Rattle.higman.specs.Refusals.{pairsFull, seedOutside}
 use Rattle.higman.specs.Limits.{Plan, shapeInRange, granted, isCode, maxPairs, maxDigits, maxCode, maxPower, powerInRange}
 
 -- "6, one word begins or equals another; 7, a belt isn't covered"
@@ -50,20 +51,26 @@ isTableOf s t = shapeInRange s && granted t && all (isWord s) (froms t) && all (
 unfoldable pub isKept : Plan → Bool
 isKept p = isTableOf (p .shape) (p .rows) && accepts (verdict (p .shape) (p .rows)) && sameTable (keep (p .shape) (p .rows)) (p .rows)
 
--- the refusals of the calls that take kept plans
+-- the refusals of the calls that take kept plans, and of X, which makes one
 pub data Refusal : Type 0 where
   BadCode : Refusal
   ShapesDiffer : Refusal
   LimitBroken : Refusal
   PowerOutside : Refusal
+  SeedOutside : Refusal
+  TooManyPairs : Refusal
+  WordTooLong : Refusal
 
 abbrev pub refusalNumber : Refusal → ℕ
 refusalNumber BadCode = badWord
 refusalNumber ShapesDiffer = shapesDiffer
 refusalNumber LimitBroken = limitBroken
 refusalNumber PowerOutside = powerOutside
+refusalNumber SeedOutside = seedOutside
+refusalNumber TooManyPairs = pairsFull
+refusalNumber WordTooLong = badWord
 
--- the plan that F, I or K would keep, or why not
+-- the plan that F, I, K or X would keep, or why not
 pub data Answer : Type 0 where
   Granted : Plan → Answer
   Refused : Refusal → Answer

@@ -1,7 +1,7 @@
 -- The definitions, in reading order: words, and words as text; bases; tables; the normal form and the group; what is granted; the
 -- numbers of the refusals; the answers of the calls; the listing; lent buffers; the statements of the theorems; fronts of codes and
--- their blocks; Higman's algebras, and the statement that the plans are their automorphisms; and the worked cases. proofs/ has a term
--- of each statement.
+-- their blocks; plans made by numbers; Higman's algebras, and the statement that the plans are their automorphisms; and the worked
+-- cases. proofs/ has a term of each statement.
 pub mod Words
 pub mod Text
 pub mod Bases
@@ -14,6 +14,7 @@ pub mod Listing
 pub mod Buffers
 pub mod Theorems
 pub mod Fronts
+pub mod Exercises
 pub mod Algebras
 pub mod StandardForms
 pub mod Automorphisms

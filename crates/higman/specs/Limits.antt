@@ -35,6 +35,10 @@ maxPower = 1000
 abbrev pub powerInRange : ℤ → Bool
 powerInRange k = leb (natAbs k) maxPower
 
+-- "17, a seed outside 1 to 2147483646" (change request E3)
+unfoldable pub seedInRange : ℕ → Bool
+seedInRange x = leb 1 x && leb x 2_147_483_646
+
 -- "The desk has slots A to H"
 unfoldable pub slotCount : ℕ
 slotCount = 8
@@ -94,6 +98,11 @@ isPlanWord-example = refl
 isCode-example : map (isCode (record { arity = 2; roots = 1 })) (replicate 1024 1 ∷ replicate 1025 1 ∷ []) ≡ true ∷ false ∷ []
 unfolding isCode maxCode
 isCode-example = refl
+
+-- the first and the last seed, and those beside them
+seedInRange-example : map seedInRange (0 ∷ 1 ∷ 2_147_483_646 ∷ 2_147_483_647 ∷ []) ≡ false ∷ true ∷ true ∷ false ∷ []
+unfolding seedInRange
+seedInRange-example = refl
 
 shapeInRange-example : map shapeInRange (record { arity = 2; roots = 1 } ∷ record { arity = 1; roots = 1 } ∷ record { arity = 9; roots = 0 } ∷ []) ≡ true ∷ false ∷ false ∷ []
 unfolding shapeInRange

@@ -17,11 +17,11 @@ wrongState = 2
 abbrev pub shapeOutside : ℕ
 shapeOutside = 3
 
--- "4, a word that is empty, too long or has a wrong digit"; of a routed code too
+-- "4, a word that is empty, too long or has a wrong digit"; of a routed code too, and of a word that X makes too long
 abbrev pub badWord : ℕ
 badWord = 4
 
--- "5, a 129th pair"
+-- "5, a 129th pair"; of the pairs that X makes too
 abbrev pub pairsFull : ℕ
 pairsFull = 5
 
@@ -69,6 +69,10 @@ invalidValue = 15
 abbrev pub countFull : ℕ
 countFull = 16
 
+-- "17, a seed outside 1 to 2147483646" (change request E3)
+abbrev pub seedOutside : ℕ
+seedOutside = 17
+
 -- "those of E for a column add ⇥F or ⇥T (from, to)"
 pub data Letter : Type 0 where
   F : Letter
@@ -86,6 +90,6 @@ numbers-example : noRecord ∷ wrongState ∷ shapeOutside ∷ badWord ∷ pairs
     ≡ 1 ∷ 2 ∷ 3 ∷ 4 ∷ 5 ∷ 6 ∷ 7 ∷ 8 ∷ 9 ∷ []
 numbers-example = refl
 
-later-numbers-example : shapesDiffer ∷ limitBroken ∷ powerOutside ∷ codeTooShort ∷ bufferTooShort ∷ invalidValue ∷ countFull ∷ []
-    ≡ 10 ∷ 11 ∷ 12 ∷ 13 ∷ 14 ∷ 15 ∷ 16 ∷ []
+later-numbers-example : shapesDiffer ∷ limitBroken ∷ powerOutside ∷ codeTooShort ∷ bufferTooShort ∷ invalidValue ∷ countFull ∷ seedOutside ∷ []
+    ≡ 10 ∷ 11 ∷ 12 ∷ 13 ∷ 14 ∷ 15 ∷ 16 ∷ 17 ∷ []
 later-numbers-example = refl
