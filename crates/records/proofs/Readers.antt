@@ -2,6 +2,7 @@
 -- form share a law.
 use Prim.Native.Nat.{ℕ, suc, _+_, _-_, _≤_, _<_}
 use mathlib.Core.Path.{_≡_, refl, _∙_, ap, ap₂}
+use mathlib.Core.Logic.{_⊎_, inl, inr}
 use mathlib.Core.Bool.{true, false}
 use mathlib.Core.List.{List, [], _∷_}
 use mathlib.Core.Option.{Option, none, some}
@@ -9,14 +10,17 @@ use native.Mathlib.Omega.{arith}
 use lib.IntN.{ℤ}
 use lib.ListN.{length, getD, drop, length-drop}
 use Rattle.higman.specs.Text.{Bytes, isNumeral}
-use Rattle.desk.specs.Limits.{maxNumeral}
-use Rattle.desk.specs.Records.{Record, P, M, K, W, Form, slotField, anyField, numberField, signedField, fields, field, noMore, noTab}
+use Rattle.higman.proofs.Tests.{passes}
+use Rattle.desk.specs.Limits.{maxNumeral, maxSplitsNumeral, maxSeedNumeral}
+use Rattle.desk.specs.Records.{Record, P, M, K, W, Form, slotField, anyField, numberField, signedField, exerciseFields}
+use Rattle.desk.specs.Records.{fields, field, noMore, noTab}
 use Rattle.records.specs.declared.Record.the-variants.{Pair, Route}
 use Rattle.records.specs.Reading.{placed}
 use Rattle.records.specs.Fields.{singleThen, singleLast, singles, firstField}
 use Rattle.records.proofs.fields.Forms.{field-some, field-none, field-nothing}
+use Rattle.records.proofs.fields.Numbers.{number-no-tab}
 use Rattle.records.proofs.fields.Ends.{fields-only, fields-then, fields-last, fields-two}
-use Rattle.records.proofs.fields.OneByte.{SingleForm, slot-single, then-fails, last-fails}
+use Rattle.records.proofs.fields.OneByte.{SingleForm, slot-single, digit-single, then-fails, then-nothing, last-fails}
 use Rattle.records.proofs.fields.OneByte.{slot-then, slot-last, digit-then, digit-last, not-digit-then, not-digit-last}
 use Rattle.records.proofs.fields.OneByte.{singles-first, singles-behind, singles-length, singles-fail}
 
@@ -189,3 +193,94 @@ module _ (line : Bytes) where
           → asPower ≡ some (K (getD line 2 0) k (getD line (end + 1) 0))
       power-read k e c =
           power-behind ∙ field-some signedForm asTarget (firstField (drop 4 line)) behindNumber k e ∙ slot-last line (end + 1) _ c
+
+-- X: a slot and two digits, each with a field behind it
+abbrev asArity : ℕ → List Bytes → Option Record
+asArity a = field (numberField 1) (λ n. field (numberField 1) (exerciseFields a n))
+
+module _ (line : Bytes) where
+  abbrev asExercise : Option Record
+  asExercise = field slotField asArity (fields (drop 2 line))
+
+  pub exercise-no-arity : singleThen (drop 2 line) ≡ false → asExercise ≡ none
+  exercise-no-arity t = then-fails slot-single asArity (drop 2 line) (λ a. refl) t
+
+  module _ (slot : singleThen (drop 2 line) ≡ true) where
+    exercise-arity : asExercise ≡ asArity (getD line 2 0) (fields (drop 4 line))
+    exercise-arity = slot-then line 2 asArity slot
+
+    pub exercise-no-roots : singleThen (drop 4 line) ≡ false → asExercise ≡ none
+    exercise-no-roots t = exercise-arity ∙ then-fails digit-single _ (drop 4 line) (λ n. refl) t
+
+    module _ (second : singleThen (drop 4 line) ≡ true) where
+      pub exercise-no-splits : singleThen (drop 6 line) ≡ false → asExercise ≡ none
+      exercise-no-splits t =
+          exercise-arity ∙ then-nothing (numberField 1) _ line 4 second (λ n. then-fails digit-single _ (drop 6 line) (λ r. refl) t)
+
+      pub exercise-wrong-arity : isNumeral (getD line 4 0) ≡ false → asExercise ≡ none
+      exercise-wrong-arity n = exercise-arity ∙ not-digit-then line 4 _ second n
+
+      module _ (third : singleThen (drop 6 line) ≡ true) (n : isNumeral (getD line 4 0) ≡ true) where
+        exercise-roots : asExercise ≡ field (numberField 1) (exerciseFields (getD line 2 0) (getD line 4 0 - 48)) (fields (drop 6 line))
+        exercise-roots = exercise-arity ∙ digit-then line 4 _ second n
+
+        pub exercise-wrong-roots : isNumeral (getD line 6 0) ≡ false → asExercise ≡ none
+        exercise-wrong-roots r = exercise-roots ∙ not-digit-then line 6 _ third r
+
+        pub exercise-shape : isNumeral (getD line 6 0) ≡ true
+            → asExercise ≡ exerciseFields (getD line 2 0) (getD line 4 0 - 48) (getD line 6 0 - 48) (fields (drop 8 line))
+        exercise-shape r = exercise-roots ∙ digit-then line 6 _ third r
+
+-- X behind its r: a number up to `end`, and one up to the end of the line
+abbrev splitsForm : Form ℕ
+splitsForm = numberField maxSplitsNumeral
+
+abbrev seedForm : Form ℕ
+seedForm = numberField maxSeedNumeral
+
+module _ (make : ℕ → ℕ → Record) (line : Bytes) (end : ℕ) (ends : end ≡ 8 + length (firstField (drop 8 line))) where
+  abbrev asSeed : ℕ → List Bytes → Option Record
+  asSeed s = field seedForm (λ seed. noMore (make s seed))
+
+  abbrev asNumbers : Option Record
+  asNumbers = field splitsForm asSeed (fields (drop 8 line))
+
+  pub numbers-no-seed : length line ≤ end → asNumbers ≡ none
+  numbers-no-seed h =
+      ap (field splitsForm asSeed) (fields-only line 8 end ends h)
+      ∙ field-nothing splitsForm asSeed (firstField (drop 8 line)) [] (λ s. refl)
+
+  module _ (h : end < length line) where
+    abbrev behindSplits : Bytes
+    behindSplits = drop (end + 1) line
+
+    numbers-behind : asNumbers ≡ field splitsForm asSeed (firstField (drop 8 line) ∷ fields behindSplits)
+    numbers-behind = ap (field splitsForm asSeed) (fields-then line 8 end ends h)
+
+    pub numbers-wrong-splits : splitsForm (firstField (drop 8 line)) ≡ none → asNumbers ≡ none
+    numbers-wrong-splits e = numbers-behind ∙ field-none splitsForm asSeed (firstField (drop 8 line)) (fields behindSplits) e
+
+    -- a field too many, or a seed that is no number
+    seed-missing : seedForm behindSplits ≡ none → (s : ℕ) → asSeed s (fields behindSplits) ≡ none
+    seed-missing e s = by-tabs (passes (noTab behindSplits))
+      where
+        by-tabs : (noTab behindSplits ≡ true) ⊎ (noTab behindSplits ≡ false) → asSeed s (fields behindSplits) ≡ none
+        by-tabs (inl t) = ap (asSeed s) (fields-last behindSplits t) ∙ field-none seedForm (λ seed. noMore (make s seed)) behindSplits [] e
+        by-tabs (inr t) =
+            fields-two (λ fs. asSeed s fs ≡ none)
+            (λ f g gs. field-nothing seedForm (λ seed. noMore (make s seed)) f (g ∷ gs) (λ seed. refl))
+            behindSplits
+            t
+
+    pub numbers-wrong-seed : seedForm behindSplits ≡ none → asNumbers ≡ none
+    numbers-wrong-seed e =
+        numbers-behind ∙ field-nothing splitsForm asSeed (firstField (drop 8 line)) (fields behindSplits) (seed-missing e)
+
+    pub numbers-read : (s seed : ℕ) → splitsForm (firstField (drop 8 line)) ≡ some s → seedForm behindSplits ≡ some seed
+        → asNumbers ≡ some (make s seed)
+    numbers-read s seed e d =
+        let last = fields-last behindSplits (number-no-tab maxSeedNumeral behindSplits seed d) in
+        numbers-behind
+        ∙ field-some splitsForm asSeed (firstField (drop 8 line)) (fields behindSplits) s e
+        ∙ ap (asSeed s) last
+        ∙ field-some seedForm (λ k. noMore (make s k)) behindSplits [] seed d

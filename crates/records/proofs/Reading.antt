@@ -1,8 +1,8 @@
 -- What is read of a line means the record that the definitions give: a record's line is its text, in which its words stand at the places
 -- that `placed` names. The term of specs/Reading.antt.
-use Prim.Native.Nat.{ℕ, _+_, _-_, _≤_}
+use Prim.Native.Nat.{ℕ, _+_, _-_, _^_, _≤_, _<_}
 use mathlib.Core.Path.{_≡_, refl, sym, _∙_, ap, ap₂, subst}
-use mathlib.Core.Bool.{Bool, true, false}
+use mathlib.Core.Bool.{Bool, true, false, _&&_}
 use mathlib.Core.List.{[], _∷_, _++_, append-nil}
 use mathlib.Core.Option.{Option, none, some}
 use native.Mathlib.Omega.{arith}
@@ -13,8 +13,8 @@ use Rattle.higman.specs.Bases.{all}
 use Rattle.higman.specs.Refusals.{noRecord}
 use Rattle.higman.specs.Text.{Bytes, byte, tab, decimal}
 use Rattle.higman.proofs.Tests.{and-left, and-right}
-use Rattle.desk.specs.Limits.{maxLine, maxNumeral}
-use Rattle.desk.specs.Records.{Record, P, M, E, F, I, K, S, W, L, C, U, parse, recordFields, recordText}
+use Rattle.desk.specs.Limits.{maxLine, maxNumeral, maxSplitsNumeral, maxSeedNumeral}
+use Rattle.desk.specs.Records.{Record, P, M, E, F, I, K, S, W, L, C, U, X, parse, recordFields, recordText}
 use Rattle.desk.specs.Records.{noTab, numbersFit, hasDigits, signedDecimal, wellFormed}
 use Rattle.desk.specs.Replies.{Outcome, refuse, pass, recordOf}
 use Rattle.desk.proofs.NumberFields.{number-exact, signed-exact}
@@ -76,9 +76,13 @@ placed-means line (L a) e = refl
 placed-means line (C a) e = refl
 placed-means line Record.T e = refl
 placed-means line U e = refl
+placed-means line (X a n r s seed) e = refl
+
+below-of-digits : (m n : ℕ) → T (hasDigits m n) → n < 10 ^ m
+below-of-digits m n h = number-below m (decimal n) n (number-exact m .reads n h)
 
 one-digit : (n : ℕ) → T (hasDigits 1 n) → n ≤ 9
-one-digit n h = omega (arith, number-below 1 (decimal n) n (number-exact 1 .reads n h))
+one-digit n h = omega (arith, below-of-digits 1 n h)
 
 placed-in-bounds : (line : Bytes) (r : Record) → T (numbersFit r) → line ≡ recordText r → InBounds line (placed r)
 placed-in-bounds line (P a n r) h e =
@@ -98,6 +102,16 @@ placed-in-bounds line (L a) h e = tt
 placed-in-bounds line (C a) h e = tt
 placed-in-bounds line Record.T h e = tt
 placed-in-bounds line U h e = tt
+placed-in-bounds line (X a n r s seed) h e =
+    let up-to-roots = hasDigits 1 n && hasDigits 1 r in
+    let up-to-splits = up-to-roots && hasDigits maxSplitsNumeral s in
+    let splits = and-left up-to-splits (hasDigits maxSeedNumeral seed) h in
+    let shape = and-left up-to-roots (hasDigits maxSplitsNumeral s) splits in (
+      one-digit n (and-left (hasDigits 1 n) (hasDigits 1 r) shape),
+      one-digit r (and-right (hasDigits 1 n) (hasDigits 1 r) shape),
+      below-of-digits maxSplitsNumeral s (and-right up-to-roots (hasDigits maxSplitsNumeral s) splits),
+      below-of-digits maxSeedNumeral seed (and-right up-to-splits (hasDigits maxSeedNumeral seed) h),
+    )
 
 -- What holds of a line that is no record, and of every record in the line that is its text, holds of what a line is read as.
 module _ (line : Bytes) (Q : Outcome Record → Type 0) (refused : Q (refuse noRecord none))

@@ -9,10 +9,10 @@ use lib.Dec.{eqb}
 use lib.IntN.{ℤ, negsuc}
 use lib.ListN.{drop}
 use Rattle.higman.specs.Text.{Bytes, tab, byte, bytes}
-use Rattle.desk.specs.Limits.{maxNumeral}
-use Rattle.desk.specs.Records.{Record as DeskRecord, fields, numberField, signedField, grammar, readBy}
+use Rattle.desk.specs.Limits.{maxNumeral, maxSplitsNumeral, maxSeedNumeral}
+use Rattle.desk.specs.Records.{Record as DeskRecord, fields, numberField, signedField, exerciseFields, grammar, readBy}
 use Rattle.records.specs.declared.Record.{Record}
-use Rattle.records.specs.declared.Record.the-variants.{Close, Same, NoRecord}
+use Rattle.records.specs.declared.Record.the-variants.{Close, Same, Exercise, NoRecord}
 use Rattle.records.specs.declared.fields.Natural.{Natural}
 use Rattle.records.specs.declared.fields.Whole.{Whole}
 use Rattle.records.specs.Reading.{placed}
@@ -61,6 +61,10 @@ alone letter = placedIf (readBy grammar letter [])
 unfoldable pub behindLetter : ℕ → Bytes → Record
 behindLetter letter rest = placedIf (readBy grammar letter (fields rest))
 
+-- what X is read as behind its slot, n and r
+unfoldable pub behindShape : ℕ → ℕ → ℕ → Bytes → Record
+behindShape a n r rest = placedIf (exerciseFields a n r (fields rest))
+
 singleThen-example : map (λ l. singleThen (bytes l)) ("A\t" ∷ "A\t1" ∷ "A" ∷ "\t\t" ∷ "AB\t" ∷ [])
     ≡ true ∷ true ∷ false ∷ false ∷ false ∷ []
 singleThen-example = refl
@@ -92,3 +96,8 @@ alone-example = refl
 behindLetter-example : map (λ l. behindLetter (byte "S") (bytes l)) ("A\tB" ∷ "A" ∷ []) ≡ Same (byte "A") (byte "B") ∷ NoRecord ∷ []
 unfolding behindLetter grammar
 behindLetter-example = refl
+
+behindShape-example : map (λ l. behindShape (byte "A") 2 1 (bytes l)) ("2\t1" ∷ "2" ∷ "2\t1\t" ∷ [])
+    ≡ Exercise (byte "A") 2 1 2 1 ∷ NoRecord ∷ NoRecord ∷ []
+unfolding behindShape maxSplitsNumeral maxSeedNumeral
+behindShape-example = refl

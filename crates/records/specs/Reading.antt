@@ -9,13 +9,13 @@ use lib.IntN.{negsuc, natAbs}
 use lib.ListN.{length, take, drop, replicate}
 use Rattle.higman.specs.Refusals.{noRecord}
 use Rattle.higman.specs.Text.{Bytes, byte, bytes}
-use Rattle.desk.specs.Limits.{maxLine, maxNumeral}
-use Rattle.desk.specs.Records.{Record as DeskRecord, P, M, E, F, I, K, S, W, L, C, T, U, grammar, parse}
+use Rattle.desk.specs.Limits.{maxLine, maxNumeral, maxSplitsNumeral, maxSeedNumeral}
+use Rattle.desk.specs.Records.{Record as DeskRecord, P, M, E, F, I, K, S, W, L, C, T, U, X, grammar, parse}
 use Rattle.desk.specs.Replies.{Outcome, refuse, pass, recordOf}
 use Rattle.records.specs.declared.Part.{Part}
 use Rattle.records.specs.declared.Record.{Record}
 use Rattle.records.specs.declared.Record.the-variants.{Open, Pair, Close, Follow, Invert, Power, Same, Route}
-use Rattle.records.specs.declared.Record.the-variants.{List, Empty, Count, Survey, NoRecord}
+use Rattle.records.specs.declared.Record.the-variants.{List, Empty, Count, Survey, Exercise, NoRecord}
 
 -- so many bytes from a place on
 abbrev pub part : ℕ → ℕ → Part
@@ -36,6 +36,7 @@ placed (L a) = List a
 placed (C a) = Empty a
 placed T = Count
 placed U = Survey
+placed (X a n r s seed) = Exercise a n r s seed
 
 -- "Every record: 1, unknown letter, wrong number of fields, a field form, or a line too long": the one refusal of `recordOf`
 abbrev pub placedBy : Outcome DeskRecord → Record
@@ -63,6 +64,7 @@ meant line (List a) = pass (L a)
 meant line (Empty a) = pass (C a)
 meant line Count = pass T
 meant line Survey = pass U
+meant line (Exercise a n r s seed) = pass (X a n r s seed)
 meant line NoRecord = refuse noRecord none
 
 -- a part that can be lent: it stands within the line
@@ -70,7 +72,8 @@ pub record Within (line : Bytes) (p : Part) : Type 0 where
   pub ordered : p .start ≤ p .end
   pub inside : p .end ≤ length line
 
--- the parts stand within the line; "n and r one digit 0 to 9", "k an optional minus and one to four digits"
+-- the parts stand within the line; "n and r one digit 0 to 9", "k an optional minus and one to four digits", "s one or two digits and seed
+-- one to ten"
 abbrev pub InBounds : Bytes → Record → Type 0
 InBounds line (Open a n r) = (n ≤ 9) × (r ≤ 9)
 InBounds line (Pair from to) = Within line from × Within line to
@@ -84,6 +87,7 @@ InBounds line (List a) = Unit {0}
 InBounds line (Empty a) = Unit {0}
 InBounds line Count = Unit {0}
 InBounds line Survey = Unit {0}
+InBounds line (Exercise a n r s seed) = (n ≤ 9) × (r ≤ 9) × (s < 10 ^ maxSplitsNumeral) × (seed < 10 ^ maxSeedNumeral)
 InBounds line NoRecord = Unit {0}
 
 -- What is read of a line means the record that the definitions give, refusal 1 included, and is in bounds.
@@ -91,15 +95,19 @@ pub record ReadExact : Type 0 where
   pub means : (line : Bytes) → meant line (readLine line) ≡ recordOf line
   pub in-bounds : (line : Bytes) → InBounds line (readLine line)
 
--- the numbers of P, the places of M's words, one of them empty, K's number, and the place of W's code
-readLine-example : map (λ l. readLine (bytes l)) ("P\tA\t2\t1" ∷ "M\t11\t" ∷ "K\tA\t-2\tz" ∷ "W\tA\t1122" ∷ "L\tAB" ∷ [])
+-- the numbers of P, the places of M's words, one of them empty, K's number, the place of W's code, the numbers of X, X with a tab at its
+-- end, and a slot of two bytes
+readLine-example : map (λ l. readLine (bytes l))
+    ("P\tA\t2\t1" ∷ "M\t11\t" ∷ "K\tA\t-2\tz" ∷ "W\tA\t1122" ∷ "X\tA\t2\t1\t10\t0" ∷ "X\tA\t2\t1\t1\t7\t" ∷ "L\tAB" ∷ [])
     ≡ Open (byte "A") 2 1
     ∷ Pair (part 2 2) (part 5 0)
     ∷ Power (byte "A") (negsuc 1) (byte "z")
     ∷ Route (byte "A") (part 4 4)
+    ∷ Exercise (byte "A") 2 1 10 0
+    ∷ NoRecord
     ∷ NoRecord
     ∷ []
-unfolding readLine parse grammar maxLine maxNumeral
+unfolding readLine parse grammar maxLine maxNumeral maxSplitsNumeral maxSeedNumeral
 readLine-example = refl
 
 -- "Lines hold at most 1,100 bytes"

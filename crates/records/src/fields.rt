@@ -1,5 +1,6 @@
 // The fields of a line and their forms (document 01, "Field forms"): fields of one byte, which slots and the numbers n and r are; the
-// end of a field; a field that is the last; and the number k. A place in the line may be any number: no field stands behind its end.
+// end of a field; a field that is the last; numbers of several digits; and the number k. A place in the line may be any number: no field
+// stands behind its end.
 ghost use mathlib.Core.Path.{_≡_};
 ghost use Prim.Native.Nat.{_+_, _≤_};
 ghost use lib.ListN.{length, drop};
@@ -14,9 +15,15 @@ pub const TAB: u8 = b'\t';
 // `maxNumeral`: the most digits of k.
 const MAX_NUMERAL: usize = 4;
 
+// `maxSplitsNumeral`: the most digits of X's splits.
+pub const MAX_SPLITS_NUMERAL: usize = 2;
+
+// `maxSeedNumeral`: the most digits of X's seed.
+pub const MAX_SEED_NUMERAL: usize = 10;
+
 // What a number without a sign is read as.
 pub enum Natural {
-    Number(u32),
+    Number(u64),
     NoNumber,
 }
 
@@ -125,23 +132,24 @@ fn no_leading_zero(field: &[u8]) -> bool
     b'1' <= field[0]
 }
 
-// The number that a field spells, if it has at most four digits, nothing else and no leading zero.
-fn number(field: &[u8]) -> Natural
-    ensures { λ r. ⌜ r ≡ naturalOf (numberField maxNumeral (now (field .entry))) ⌝ }
+// The number that a field spells, if it has at most so many digits, nothing else and no leading zero. A number of ten digits fits u64.
+pub fn number(field: &[u8], most: usize) -> Natural
+    requires { ⌜ most ≤ 10 ⌝ }
+    ensures { λ r. ⌜ r ≡ naturalOf (numberField most (now (field .entry))) ⌝ }
 {
-    if MAX_NUMERAL < field.len() {
+    if most < field.len() {
         return Natural::NoNumber;
     }
     if !no_leading_zero(field) {
         return Natural::NoNumber;
     }
-    let mut n: u32 = 0;
+    let mut n: u64 = 0;
     let mut i = 0;
     while i < field.len() {
         if !is_numeral(field[i]) {
             return Natural::NoNumber;
         }
-        n = n * 10 + (field[i] - b'0') as u32;
+        n = n * 10 + (field[i] - b'0') as u64;
         i += 1;
     }
     Natural::Number(n)
@@ -155,7 +163,7 @@ pub fn signed(field: &[u8]) -> Whole
         return Whole::NoNumber;
     }
     if field[0] == b'-' {
-        let Natural::Number(n) = number(&field[1..]) else {
+        let Natural::Number(n) = number(&field[1..], MAX_NUMERAL) else {
             return Whole::NoNumber;
         };
         if n == 0 {
@@ -163,7 +171,7 @@ pub fn signed(field: &[u8]) -> Whole
         }
         return Whole::Number(-(n as i32));
     }
-    let Natural::Number(n) = number(field) else {
+    let Natural::Number(n) = number(field, MAX_NUMERAL) else {
         return Whole::NoNumber;
     };
     Whole::Number(n as i32)

@@ -5,7 +5,7 @@ ghost use mathlib.Core.Path.{_≡_};
 ghost use lib.ListN.{drop};
 ghost use Rattle.higman.specs.Text.{byte};
 ghost use Rattle.records.specs.Reading.{readLine};
-ghost use Rattle.records.specs.Fields.{alone, behindLetter};
+ghost use Rattle.records.specs.Fields.{alone, behindLetter, behindShape};
 
 mod fields;
 
@@ -15,10 +15,12 @@ const MAX_LINE: usize = 1100;
 // Where the first field starts, behind the letter and a tab.
 const FIRST: usize = 2;
 
-// Where the second and the third start, behind fields of one byte.
+// Where the second, the third and the fourth start, behind fields of one byte.
 const SECOND: usize = 4;
 
 const THIRD: usize = 6;
+
+const FOURTH: usize = 8;
 
 // A part of the line, up to but not including its end.
 pub struct Part {
@@ -29,29 +31,65 @@ pub struct Part {
 // A record, by its letter. A slot is the byte that names it, a word or code the part of the line that spells it.
 pub enum Record {
     // P⇥slot⇥n⇥r
-    Open { slot: u8, arity: u8, roots: u8 },
+    Open {
+        slot: u8,
+        arity: u8,
+        roots: u8,
+    },
     // M⇥from⇥to
-    Pair { from: Part, to: Part },
+    Pair {
+        from: Part,
+        to: Part,
+    },
     // E
     Close,
     // F⇥a⇥b⇥c
-    Follow { a: u8, b: u8, c: u8 },
+    Follow {
+        a: u8,
+        b: u8,
+        c: u8,
+    },
     // I⇥a⇥c
-    Invert { a: u8, c: u8 },
+    Invert {
+        a: u8,
+        c: u8,
+    },
     // K⇥a⇥k⇥c
-    Power { a: u8, k: i32, c: u8 },
+    Power {
+        a: u8,
+        k: i32,
+        c: u8,
+    },
     // S⇥a⇥b
-    Same { a: u8, b: u8 },
+    Same {
+        a: u8,
+        b: u8,
+    },
     // W⇥a⇥code
-    Route { a: u8, code: Part },
+    Route {
+        a: u8,
+        code: Part,
+    },
     // L⇥a
-    List { a: u8 },
+    List {
+        a: u8,
+    },
     // C⇥a
-    Empty { a: u8 },
+    Empty {
+        a: u8,
+    },
     // T
     Count,
     // U
     Survey,
+    // X⇥slot⇥n⇥r⇥s⇥seed
+    Exercise {
+        slot: u8,
+        arity: u8,
+        roots: u8,
+        splits: u8,
+        seed: u64,
+    },
     // no record: refusal 1
     NoRecord,
 }
@@ -206,6 +244,58 @@ fn read_empty(line: &[u8]) -> Record
     Record::Empty { a: line[FIRST] }
 }
 
+// X behind its r: a number up to the next tab, and one up to the end of the line. A field with a tab in it is no number.
+fn read_splits_and_seed(line: &[u8], slot: u8, arity: u8, roots: u8) -> Record
+    ensures { λ r. ⌜ r ≡ behindShape slot arity roots (drop 8 (now (line .entry))) ⌝ }
+{
+    let end = fields::field_end(line, FOURTH);
+    if line.len() <= end {
+        return Record::NoRecord;
+    }
+    let fields::Natural::Number(splits) = fields::number(
+        &line[FOURTH..end],
+        fields::MAX_SPLITS_NUMERAL,
+    ) else {
+        return Record::NoRecord;
+    };
+    let behind = end + 1;
+    let fields::Natural::Number(seed) = fields::number(&line[behind..], fields::MAX_SEED_NUMERAL)
+    else {
+        return Record::NoRecord;
+    };
+    Record::Exercise {
+        slot: slot,
+        arity: arity,
+        roots: roots,
+        splits: splits as u8,
+        seed: seed,
+    }
+}
+
+// A slot and two digits, each with a field behind it, and two numbers.
+fn read_exercise(line: &[u8]) -> Record
+    ensures { λ r. ⌜ r ≡ behindLetter (byte "X") (drop 2 (now (line .entry))) ⌝ }
+{
+    if !fields::single_then(line, FIRST) {
+        return Record::NoRecord;
+    }
+    if !fields::single_then(line, SECOND) {
+        return Record::NoRecord;
+    }
+    if !fields::single_then(line, THIRD) {
+        return Record::NoRecord;
+    }
+    let arity = line[SECOND];
+    let roots = line[THIRD];
+    if !fields::is_numeral(arity) {
+        return Record::NoRecord;
+    }
+    if !fields::is_numeral(roots) {
+        return Record::NoRecord;
+    }
+    read_splits_and_seed(line, line[FIRST], arity - b'0', roots - b'0')
+}
+
 // A letter that no field follows.
 fn read_alone(letter: u8) -> Record
     ensures { λ r. ⌜ r ≡ alone letter ⌝ }
@@ -232,6 +322,7 @@ fn read_fields(letter: u8, line: &[u8]) -> Record
         b'W' => read_route(line),
         b'L' => read_list(line),
         b'C' => read_empty(line),
+        b'X' => read_exercise(line),
         _ => Record::NoRecord,
     }
 }

@@ -13,11 +13,14 @@ use lib.IntN.{ℤ, pos, negsuc, natAbs}
 use lib.ListN.{length, getD, drop, drop-of-length-le}
 use lib.Seq.{drop-cons}
 use borrow.Author.Tests.{le-leb, lt-leb, leb-true}
+use Rattle.higman.specs.Words.{spelled}
 use Rattle.higman.specs.Bases.{all}
-use Rattle.higman.specs.Text.{Bytes, byte, isNumeral, numeralValue, spelledOut, noLeadingZero}
+use Rattle.higman.specs.Text.{Bytes, byte, isNumeral, numeralValue, spelledOut, noLeadingZero, decimal}
 use Rattle.higman.proofs.Tests.{passes, so, T-of, and-left, and-right, all-head, all-tail}
-use Rattle.desk.specs.Limits.{maxNumeral}
-use Rattle.desk.specs.Records.{numberField, signedField, positive, negative}
+use Rattle.desk.specs.Limits.{maxNumeral, maxSplitsNumeral}
+use Rattle.desk.specs.Records.{numberField, signedField, positive, negative, noTab}
+use Rattle.desk.proofs.Fields.{word-no-tab}
+use Rattle.desk.proofs.NumberFields.{number-exact}
 
 module _ (m : ℕ) (f : Bytes) where
   abbrev isNumber : Bool
@@ -40,10 +43,18 @@ module _ (m : ℕ) (f : Bytes) where
   pub number-spelled : length f ≤ m → noLeadingZero f ≡ true → all isNumeral f ≡ true → numberField m f ≡ some (spelledOut 0 f)
   number-spelled h z a = rw (a, le-leb (length f) m h, z, numberField)
 
--- `MAX_NUMERAL` of the code
-pub numeral-limit : maxNumeral ≡ 4
+-- a number is its digits, and no digit is a tab
+pub number-no-tab : (m : ℕ) (f : Bytes) (n : ℕ) → numberField m f ≡ some n → noTab f ≡ true
+number-no-tab m f n e = ap noTab (number-exact m .only f n e .own-text) ∙ so (noTab (decimal n)) (word-no-tab (spelled (suc n) n))
+
+-- `MAX_NUMERAL` and `MAX_SPLITS_NUMERAL` of the code
+numeral-limit : maxNumeral ≡ 4
 unfolding maxNumeral
 numeral-limit = refl
+
+splits-limit : maxSplitsNumeral ≡ 2
+unfolding maxSplitsNumeral
+splits-limit = refl
 
 -- a digit's value
 pub numeral-from : (b : ℕ) → isNumeral b ≡ true → 48 ≤ b
@@ -75,6 +86,9 @@ number-below m f n e = by-test (passes (isNumber m f))
 
 pub numeral-below : (f : Bytes) (n : ℕ) → numberField maxNumeral f ≡ some n → n < 10_000
 numeral-below f n e = subst (λ m. n < 10 ^ m) numeral-limit (number-below maxNumeral f n e)
+
+pub splits-below : (f : Bytes) (n : ℕ) → numberField maxSplitsNumeral f ≡ some n → n < 100
+splits-below f n e = subst (λ m. n < 10 ^ m) splits-limit (number-below maxSplitsNumeral f n e)
 
 -- "k an optional minus and one to four digits"
 pub signed-below : (m : ℕ) (f : Bytes) (k : ℤ) → signedField m f ≡ some k → natAbs k < 10 ^ m
@@ -125,10 +139,10 @@ module _ (f : Bytes) where
     pub spelling-breaks : i < length f → isNumeral (getD f i 0) ≡ false → all isNumeral f ≡ false
     spelling-breaks h e = s .numerals-left ∙ rw (digits-from h, e, all)
 
-    pub spelling-fits : i < 4 → n < 1000
+    pub spelling-fits : i < 10 → n < 1_000_000_000
     spelling-fits h =
-        let few : i ≤ 3 = omega arith in
-        let most : 10 ^ i ≤ 10 ^ 3 = pow-le-pow-right (omega arith) few in
+        let few : i ≤ 9 = omega arith in
+        let most : 10 ^ i ≤ 10 ^ 9 = pow-le-pow-right (omega arith) few in
         omega (arith, s .small)
 
     module _ (h : length f ≤ i) where

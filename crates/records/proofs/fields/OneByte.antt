@@ -115,6 +115,12 @@ module _ (line : Bytes) (at : ℕ) (next : ℕ → List Bytes → Option Record)
       → field (numberField 1) next (fields (drop at line)) ≡ none
   not-digit-last t d = ap (field (numberField 1) next) (last-at line at t) ∙ not-digit [] d
 
+-- a field whatever its form, where nothing is made of those behind it
+pub then-nothing : {A : Type 0} (form : Form A) (next : A → List Bytes → Option Record) (line : Bytes) (at : ℕ)
+    → singleThen (drop at line) ≡ true → ((a : A) → next a (fields (drop (at + 2) line)) ≡ none) → field form next (fields (drop at line)) ≡ none
+then-nothing form next line at t nothing =
+    ap (field form next) (then-at line at t) ∙ field-nothing form next (getD line at 0 ∷ []) (fields (drop (at + 2) line)) nothing
+
 -- a form that has a value for fields of one byte alone
 pub record SingleForm {A : Type 0} (form : Form A) : Type 0 where
   pub empty : form [] ≡ none

@@ -54,6 +54,11 @@ returns-9 c =
 
 returns-10 : tie.Need-returns-10
 returns-10 c =
+    let m = c .before in
+    c .read-exercise .ensures ∙ ap (λ b. behindLetter b (drop 2 (m .before .before .args .line .now))) (sym (m .match .keys10))
+
+returns-11 : tie.Need-returns-11
+returns-11 c =
     let a = c .before .before .args in
     other-behind (a .letter) other (drop 2 (a .line .now))
   where
@@ -61,21 +66,23 @@ returns-10 c =
     other =
         let r = c .match .rest in
         record {
-          not-P = r .0 .0 .0 .0 .0 .0 .0 .0 .1;
-          not-M = r .0 .0 .0 .0 .0 .0 .0 .1;
-          not-F = r .0 .0 .0 .0 .0 .0 .1;
-          not-I = r .0 .0 .0 .0 .0 .1;
-          not-K = r .0 .0 .0 .0 .1;
-          not-S = r .0 .0 .0 .1;
-          not-W = r .0 .0 .1;
-          not-L = r .0 .1;
-          not-C = r .1;
+          not-P = r .0 .0 .0 .0 .0 .0 .0 .0 .0 .1;
+          not-M = r .0 .0 .0 .0 .0 .0 .0 .0 .1;
+          not-F = r .0 .0 .0 .0 .0 .0 .0 .1;
+          not-I = r .0 .0 .0 .0 .0 .0 .1;
+          not-K = r .0 .0 .0 .0 .0 .1;
+          not-S = r .0 .0 .0 .0 .1;
+          not-W = r .0 .0 .0 .1;
+          not-L = r .0 .0 .1;
+          not-C = r .0 .1;
+          not-X = r .1;
         }
 
 pub read-fields-spec : {M : Type 1} → statement M
 read-fields-spec =
     tie.close
     (tie.spec
+    (λ c κs. search needs)
     (λ c κs. search needs)
     (λ c κs. search needs)
     (λ c κs. search needs)
@@ -94,4 +101,5 @@ read-fields-spec =
     returns-7
     returns-8
     returns-9
-    returns-10)
+    returns-10
+    returns-11)

@@ -23,6 +23,7 @@ behind-minus : (c : tie.After-number) →
     let field = c .before .before .before .before .before .before .args .field .now in
     (signedField maxNumeral field ≡ negative (numberField maxNumeral (drop 1 field)))
     × (c .number .result ≡ naturalOf (numberField maxNumeral (drop 1 field)))
+unfolding maxNumeral
 behind-minus c =
     let t = c .before .before in
     let field = t .before .before .before .before .args .field .now in
@@ -57,6 +58,7 @@ no-minus c =
 number-plain : (c : tie.After-n2) →
     let field = c .before .before .before .before .before .before .before .args .field .now in
     numberField maxNumeral field ≡ some (c .n2 .given .0 .0)
+unfolding maxNumeral
 number-plain c =
     let m = c .before .before in
     let field = m .before .before .before .before .before .args .field .now in
@@ -99,6 +101,7 @@ returns-4 c =
     ∙ sym (ap wholeOf (behind-minus (n .before .before) .0 ∙ ap negative (number-behind-minus n)))
 
 returns-5 : tie.Need-returns-5
+unfolding maxNumeral
 returns-5 c =
     let m = c .before .before in
     let field = m .before .before .before .before .before .args .field .now in
