@@ -59,7 +59,7 @@ pub fn pair(head: Head, columns: &mut [u64], from: &[u8], to: &[u8]) -> Work
     };
     let n = size.pairs;
     if MAX_PAIRS <= n {
-        return slots::refused(head, numbers::PAIRS_FULL);
+        return slots::refused(head, operations::numbers::PAIRS_FULL);
     }
     let from_at = DRAFT * BLOCK + n;
     let to_at = from_at + MAX_PAIRS;

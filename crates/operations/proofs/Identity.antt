@@ -11,12 +11,12 @@ use Rattle.words.specs.Bytes.{shape}
 use Rattle.words.proofs.Packing.{unpack-zero, unpack-digit}
 use Rattle.columns.specs.Packed.{table, rows}
 
-take-count : (a m r : ℕ) → r ≤ m → take r (count a m) ≡ count a r
+pub take-count : (a m r : ℕ) → r ≤ m → take r (count a m) ≡ count a r
 take-count a m zero h = refl
 take-count a zero (suc r) h = absurd (omega arith)
 take-count a (suc m) (suc r) h = ap (λ l. a ∷ l) (take-count (suc a) m r (omega arith))
 
-one-digit : (i : ℕ) → 1 ≤ i → i < 16 → unpack i ≡ i ∷ []
+pub one-digit : (i : ℕ) → 1 ≤ i → i < 16 → unpack i ≡ i ∷ []
 one-digit i h k =
     let same : 0 * 16 + i ≡ i = omega arith in
     ap unpack (sym same) ∙ unpack-digit 0 i k (omega arith) ∙ ap (λ w. w ++ (i ∷ [])) unpack-zero

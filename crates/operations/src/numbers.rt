@@ -3,6 +3,8 @@
 
 // `badWord`
 pub const BAD_WORD: u8 = 4;
+// `pairsFull`
+pub const PAIRS_FULL: u8 = 5;
 // `wordsOverlap`
 pub const WORDS_OVERLAP: u8 = 6;
 // `rootUncovered`
@@ -21,3 +23,5 @@ pub const CODE_TOO_SHORT: u8 = 13;
 pub const BUFFER_TOO_SHORT: u8 = 14;
 // `invalidValue`
 pub const INVALID_VALUE: u8 = 15;
+// `seedOutside`
+pub const SEED_OUTSIDE: u8 = 17;

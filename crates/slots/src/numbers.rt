@@ -7,8 +7,6 @@ pub const NO_RECORD: u8 = 1;
 pub const WRONG_STATE: u8 = 2;
 // `shapeOutside`
 pub const SHAPE_OUTSIDE: u8 = 3;
-// `pairsFull`
-pub const PAIRS_FULL: u8 = 5;
 // `slotEmpty`
 pub const SLOT_EMPTY: u8 = 9;
 // `countFull`
