@@ -1,17 +1,19 @@
--- The operands of a change: what a slot holds by the value that was read of its block; and the jobs of F, I, K and C, which are refused
--- where a slot is empty and else keep an answer.
+-- The operands of a change: what a slot holds by the value that was read of its block; the jobs of F, I, K and C, which are refused
+-- where a slot is empty and else keep an answer; and the job of X, which has no operand.
 use Prim.Native.Nat.{ℕ, _<_}
 use mathlib.Core.Path.{_≡_, refl, sym, _∙_, ap, subst}
 use mathlib.Core.Bool.{Bool, true, false, not}
 use mathlib.Core.List.{List}
 use mathlib.Core.Option.{none, some}
 use lib.IntN.{ℤ}
-use Rattle.higman.specs.Limits.{Plan as PlanOf, Kept, slotCount, powerInRange}
+use Rattle.higman.specs.Words.{Shape}
+use Rattle.higman.specs.Limits.{Plan as PlanOf, Kept, slotCount, powerInRange, shapeInRange}
 use Rattle.higman.specs.Answers.{followed, inverted, powered}
-use Rattle.higman.specs.Refusals.{slotEmpty, powerOutside}
+use Rattle.higman.specs.Exercises.{exercise}
+use Rattle.higman.specs.Refusals.{shapeOutside, slotEmpty, powerOutside}
 use Rattle.higman.specs.Listing.{isSlot, slotNumber}
 use Rattle.desk.specs.Desk.{Desk, held, changed}
-use Rattle.desk.specs.Records.{F, I, K, C}
+use Rattle.desk.specs.Records.{F, I, K, C, X}
 use Rattle.desk.specs.Replies.{_>>=_, _when_, Outcome, refuse, pass, Effect, ok, job, planIn, ofAnswer, keepIn}
 use Rattle.operations.specs.declared.Plan.{Plan}
 use Rattle.operations.specs.Plans.{planOf, isPlan}
@@ -104,6 +106,21 @@ module _ (d : Desk) (a : ℕ) (k : ℤ) (c : ℕ) where
   pub power-keeps : powerInRange k ≡ true → (p : PlanOf) → held d (slotNumber a) ≡ some p → job d (K a k c) ≡ raising p
   unfolding job _>>=_
   power-keeps r p e = ap within r ∙ ap (λ o. o >>= raising) (some-in d a p e)
+
+module _ (d : Desk) (a : ℕ) (s : Shape) (k seed : ℕ) where
+  abbrev exercising : Outcome Effect
+  exercising = ofAnswer (exercise s k seed) >>= λ p. pass (keepIn d (slotNumber a) p)
+
+  abbrev shaped : Bool → Outcome Effect
+  shaped b = (shapeOutside when not b) >>= λ _. exercising
+
+  pub exercise-outside : shapeInRange s ≡ false → job d (X a (s .arity) (s .roots) k seed) ≡ refuse shapeOutside none
+  unfolding job _>>=_
+  exercise-outside r = ap shaped r
+
+  pub exercise-keeps : shapeInRange s ≡ true → job d (X a (s .arity) (s .roots) k seed) ≡ exercising
+  unfolding job _>>=_
+  exercise-keeps r = ap shaped r
 
 module _ (d : Desk) (a : ℕ) where
   abbrev emptied : Effect

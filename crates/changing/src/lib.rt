@@ -1,9 +1,9 @@
-// The records that keep a plan or empty a slot (document 01, "Records"): "E, F, I, K and C raise the count by one", and each of them is
-// refused where the count is at its limit. "Operands are read before c is written, so letters may repeat."
+// The records that keep a plan or empty a slot (document 01, "Records"): "E, F, I, K and C raise the count by one", and so does X (change
+// request E3). Each of them is refused where the count is at its limit. "Operands are read before c is written, so letters may repeat."
 ghost use mathlib.Core.Path.{_≡_};
 ghost use Prim.Native.Nat.{_<_};
 ghost use Rattle.desk.specs.Limits.{maxChanges};
-ghost use Rattle.desk.specs.Records.{E, F, I, K, C};
+ghost use Rattle.desk.specs.Records.{E, F, I, K, C, X};
 ghost use Rattle.slots.specs.Blocks.{InColumns, put, filledHead};
 ghost use Rattle.slots.specs.Desks.{HoldsDesk};
 ghost use Rattle.slots.specs.Works.{Keepable, DoneKeeping, DoneSilently};
@@ -17,6 +17,7 @@ use operations::answers;
 use operations::closing;
 use operations::following;
 use operations::listing;
+use operations::shapes;
 use slots::DRAFT;
 use slots::Head;
 use slots::Reply;
@@ -194,6 +195,36 @@ pub fn power(head: Head, columns: &mut [u64], a: u8, k: i32, c: u8) -> Work
         columns,
         slots::slot_number(c),
         following::power(plan, k),
+    )
+}
+
+// X: 2, 8, 3, 17, 5, 4, 16.
+pub fn exercise(
+    head: Head,
+    columns: &mut [u64],
+    slot: u8,
+    arity: u8,
+    roots: u8,
+    splits: u8,
+    seed: u64,
+) -> Work
+    requires { ⌜ HoldsDesk head (now columns) ⌝ }
+    ensures { λ r. ⌜ DoneSilently (X slot arity roots splits seed) head (now (columns .entry)) r (now (columns .exit)) ⌝ }
+{
+    if head.is_open {
+        return slots::refused(head, numbers::WRONG_STATE);
+    }
+    if !listing::is_slot(slot) {
+        return slots::refused(head, operations::numbers::SLOT_OUTSIDE);
+    }
+    if !shapes::in_range(arity, roots) {
+        return slots::refused(head, numbers::SHAPE_OUTSIDE);
+    }
+    keep(
+        head,
+        columns,
+        slots::slot_number(slot),
+        exercises::make(arity, roots, splits, seed),
     )
 }
 

@@ -12,7 +12,7 @@ use Rattle.higman.specs.Limits.{maxPairs, slotCount}
 use Rattle.higman.specs.Refusals.{noRecord, invalidValue, Letter, letterByte}
 use Rattle.desk.specs.Limits.{maxChanges, maxLine}
 use Rattle.desk.specs.Desk.{Desk as DeskOf, isDesk, freshDesk, dropped}
-use Rattle.desk.specs.Records.{Record, P, E, F, I, K, S, C, T, parse, grammar, needsOpen, slotsNamed, isChange}
+use Rattle.desk.specs.Records.{Record, P, E, F, I, K, S, C, T, X, parse, grammar, needsOpen, slotsNamed, isChange}
 use Rattle.desk.specs.Replies.{Reply, silent, ok, okNumber, okWord, okBlock, lists, surveys, refuses, Outcome, refuse, pass}
 use Rattle.desk.specs.Replies.{_>>=_, operation, lineOperation}
 use Rattle.desk.specs.Replies.{job as jobOf}
@@ -84,7 +84,14 @@ jobRecord j =
                                         elim (eqb (j .letter) (byte "C")) [
                                           | true ↦ pass (C (j .a))
                                           | false ↦
-                                              elim (eqb (j .letter) (byte "T")) [ true ↦ pass T | false ↦ refuse noRecord none ]
+                                              elim (eqb (j .letter) (byte "T")) [
+                                                | true ↦ pass T
+                                                | false ↦
+                                                    elim (eqb (j .letter) (byte "X")) [
+                                                      | true ↦ pass (X (j .a) (j .b) (j .c) (j .splits) (j .seed))
+                                                      | false ↦ refuse noRecord none
+                                                    ]
+                                              ]
                                         ]
                                   ]
                             ]
@@ -148,10 +155,10 @@ writtenOf-example : map writtenOf (refuse 7 (some Letter.T) ∷ pass 5 ∷ [])
 writtenOf-example = refl
 
 abbrev job : ℕ → Job
-job letter = record { letter = letter; a = 65; b = 66; c = 67; k = pos 2 }
+job letter = record { letter = letter; a = 65; b = 66; c = 67; k = pos 2; seed = 1; splits = 3 }
 
--- K⇥A⇥2⇥B; M is none of them
-jobRecord-example : map (λ b. jobRecord (job b)) (byte "K" ∷ byte "M" ∷ []) ≡ pass (K 65 (pos 2) 66) ∷ refuse 1 none ∷ []
+-- K⇥A⇥2⇥B; X by its numbers; M is none of them
+jobRecord-example : map (λ b. jobRecord (job b)) (byte "K" ∷ byte "X" ∷ byte "M" ∷ []) ≡ pass (K 65 (pos 2) 66) ∷ pass (X 65 66 67 3 1) ∷ refuse 1 none ∷ []
 jobRecord-example = refl
 
 -- T on a fresh desk, with room for its reply and with too little

@@ -11,7 +11,7 @@ use desk_values::Desk;
 
 pub mod serving;
 
-// A record without text: its letter, the bytes of its slots or n and r in their order, and the number of K.
+// A record without text: its letter, the bytes of its slots or n and r in their order, the number of K, and the seed and splits of X.
 #[repr(C)]
 pub struct Job {
     pub letter: u8,
@@ -19,6 +19,8 @@ pub struct Job {
     pub b: u8,
     pub c: u8,
     pub k: i32,
+    pub seed: u64,
+    pub splits: u8,
 }
 
 // How many bytes of reply stand at the front of the buffer, where the number is 0; beside 6 and 7 the letter of the column, F or T.

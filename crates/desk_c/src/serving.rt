@@ -194,6 +194,9 @@ fn perform(head: Head, columns: &mut [u64], job: Job) -> Work
     if letter == b'T' {
         return asking::count(head);
     }
+    if letter == b'X' {
+        return changing::exercise(head, columns, job.a, job.b, job.c, job.splits, job.seed);
+    }
     slots::refused(head, slots::numbers::NO_RECORD)
 }
 

@@ -113,6 +113,13 @@ pub fn perform(head: Head, columns: &mut [u64], line: &[u8], record: Record, out
         Record::Empty { a } => changing::empty(head, columns, a),
         Record::Count => asking::count(head),
         Record::Survey => asking::survey(head, out),
+        Record::Exercise {
+            slot,
+            arity,
+            roots,
+            splits,
+            seed,
+        } => changing::exercise(head, columns, slot, arity, roots, splits, seed),
         Record::NoRecord => slots::refused(head, numbers::NO_RECORD),
     }
 }

@@ -6,7 +6,7 @@ use native.Mathlib.Omega.{arith}
 use lib.IntN.{natAbs}
 use mir.Syntax.{w32}
 use Rattle.desk.specs.Limits.{maxNumeral}
-use Rattle.desk.specs.Records.{P, M, E, F, I, K, S, W, L, C, T, U}
+use Rattle.desk.specs.Records.{P, M, E, F, I, K, S, W, L, C, T, U, X}
 use Rattle.records.specs.declared.Record.{Record}
 use Rattle.records.specs.declared.Record.the-variants.{Open, Pair, Close, Follow, Invert, Power, Same, Route, List, Empty, Count, Survey, NoRecord}
 use Rattle.records.specs.Reading.{Within, InBounds}
@@ -175,6 +175,15 @@ returns-12 c =
 
 returns-13 : tie.Need-returns-13
 returns-13 c =
+    let p = c .before .before in
+    let r = p .before .before .before in
+    let s = start (r .before .before) in
+    let a = s .args in
+    line-done (a .head) (a .columns .now) (a .line .now) (a .«record») (a .out .now) _ _ _ _ _ (r .record10 .given .1) refl
+    (p .exercise .ensures (a .out .now))
+
+returns-14 : tie.Need-returns-14
+returns-14 c =
     let r = c .before in
     let s = start (r .before .before) in
     let a = s .args in
@@ -219,6 +228,8 @@ perform-spec =
     (λ c κs. search needs)
     (λ c. search needs)
     (λ c κs. search needs)
+    (λ c. search needs)
+    (λ c κs. search needs)
     returns
     (λ c. search needs)
     returns-2
@@ -243,4 +254,6 @@ perform-spec =
     returns-11
     (λ c. search needs)
     returns-12
-    returns-13)
+    (λ c. search needs)
+    returns-13
+    returns-14)

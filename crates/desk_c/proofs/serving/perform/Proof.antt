@@ -8,7 +8,7 @@ use borrow.Author.Tests.{eq-eqb, ne-eqb}
 use lib.Dec.{eqb}
 use Rattle.higman.specs.Text.{byte}
 use Rattle.higman.specs.Refusals.{noRecord}
-use Rattle.desk.specs.Records.{Record, P, E, F, I, K, S, C, T}
+use Rattle.desk.specs.Records.{Record, P, E, F, I, K, S, C, T, X}
 use Rattle.desk.specs.Replies.{Outcome, refuse, pass}
 use mathlib.Core.List.{List}
 use mir.Syntax.{w32}
@@ -21,8 +21,14 @@ use Rattle.desk_c.proofs.serving.perform.Statement.{statement}
 use Rattle.desk_c.proofs.serving.perform.Tie as tie
 
 -- the record of a job, behind the letters that were looked for
+abbrev after9 : Job → Outcome Record
+after9 j = refuse noRecord none
+
+abbrev at8 : Job → Bool → Outcome Record
+at8 j b = elim b [ true ↦ pass (X (j .a) (j .b) (j .c) (j .splits) (j .seed)) | false ↦ after9 j ]
+
 abbrev after8 : Job → Outcome Record
-after8 j = refuse noRecord none
+after8 j = at8 j (eqb (j .letter) (byte "X"))
 
 abbrev at7 : Job → Bool → Outcome Record
 at7 j b = elim b [ true ↦ pass T | false ↦ after8 j ]
@@ -101,6 +107,11 @@ rest7 c = let j = c .before .before .before .before .before .before .before .bef
 rest8 : (c : tie.Else8) → let j = c .before .before .before .before .before .before .before .before .before .args .job in jobRecord j ≡ after8 j
 rest8 c = let j = c .before .before .before .before .before .before .before .before .before .args .job in rest7 (c .before)
     ∙ ap (at7 j) (ne-eqb (j .letter) (byte "T") (c .if8 .left))
+
+rest9 : (c : tie.Else9) → let j = c .before .before .before .before .before .before .before .before .before .before .args .job in
+    jobRecord j ≡ after9 j
+rest9 c = let j = c .before .before .before .before .before .before .before .before .before .before .args .job in rest8 (c .before)
+    ∙ ap (at8 j) (ne-eqb (j .letter) (byte "X") (c .if9 .left))
 
 returns : tie.Need-returns
 returns c =
@@ -195,10 +206,21 @@ returns-8 c =
 
 returns-9 : tie.Need-returns-9
 returns-9 c =
-    let e = c .before in
-    let s = e .before .before .before .before .before .before .before .before .before in
+    let q = c .before .before in
+    let t = q .before .before in
+    let s = t .before .before .before .before .before .before .before .before .before .before in
     let a = s .args in
-    no-job (a .job) (a .head) (a .columns .now) (s .pre) (c .refused .result) (rest8 e) (c .refused .ensures)
+    let j = a .job in
+    job-done j (a .head) (a .columns .now) _ _ (X (j .a) (j .b) (j .c) (j .splits) (j .seed)) (rest8 (t .before)
+    ∙ ap (at8 j) (eq-eqb (j .letter) (byte "X") (t .if9 .taken)))
+    (q .exercise .ensures)
+
+returns-10 : tie.Need-returns-10
+returns-10 c =
+    let e = c .before in
+    let s = e .before .before .before .before .before .before .before .before .before .before in
+    let a = s .args in
+    no-job (a .job) (a .head) (a .columns .now) (s .pre) (c .refused .result) (rest9 e) (c .refused .ensures)
 
 pub perform-spec : {M : Type 1} → statement M
 perform-spec =
@@ -227,4 +249,7 @@ perform-spec =
     (λ c κs. search needs)
     returns-8
     (λ c κs. search needs)
-    returns-9)
+    (λ c. search needs)
+    returns-9
+    (λ c κs. search needs)
+    returns-10)
