@@ -33,12 +33,9 @@ impl Session {
         self.keep_exercise(a, shape, splits, seed);
         match self.rng.below(9) {
             0 => self.record(&[b"L", name(a)]),
-            1 => {
-                let belt = plans::random_code(&mut self.rng, shape, 1);
-                self.record(&[b"W", name(a), &belt]);
-            }
-            2 => {
-                let code = plans::random_code(&mut self.rng, shape, 20);
+            // the block of a belt, and mostly an image
+            place @ (1 | 2) => {
+                let code = plans::random_code(&mut self.rng, shape, [1, 20][place - 1]);
                 self.record(&[b"W", name(a), &code]);
             }
             3 => {
