@@ -5,7 +5,7 @@
 use bench::arrays::desk::Desk;
 
 /// The letters of the records that aren't measured.
-const UNKNOWN: &[u8] = b"SLCTU";
+const UNKNOWN: &[u8] = b"SLCTUX";
 
 #[test]
 fn random_sessions() {
