@@ -12,8 +12,8 @@ use crate::paper::lines;
 use crate::prepared::{check, check_on, prepared};
 use crate::random::{shapes, Random};
 
-/// Park and Miller's own check of an implementation: "from seed 1 the 10,000th
-/// draw is 1043618065".
+/// Park and Miller's own check of an implementation: from seed 1 the 10,000th draw
+/// is 1043618065.
 #[test]
 fn the_ten_thousandth_draw() {
     let mut draws = Draws::after(1);
