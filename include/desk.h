@@ -15,11 +15,17 @@
  *     S  whether a and b act alike, 1 or 0                   W  the image of a code under a, or its block
  *     L  lists a as P, M and E records                       C  empties a
  *     T  the count of changes                                U  lists the held slots: slot, n, r, pairs
+ *     X  makes a plan of n ways and r belts from s splits and a seed, and keeps it
  *
  * A block is W's reply to a code that no from-word begins: for each pair whose from-word extends the code, in the order of the
  * from-words, a line of "B", the from-word and the to-word, and last of all "ok" and how many they are.
  *
  * U's lines come with the most pairs first, and equal ones by slot letter; last of all comes "ok" and how many they are.
+ *
+ * X's plan is fixed by n, r, s and the seed alone. A draw is 16807 times the last one modulo 2147483647, and the seed stands before
+ * the first. The from column starts from the r belts; s times a draw modulo the number of words gives a place in digit order, from 0,
+ * and the n parts of the word there take its stead. The to column is made in the same way, drawing on. Then for i from the last place
+ * down to 1, to-words i and draw modulo (i + 1) are swapped. The pairs are reduced and kept at once: X opens no plan.
  *
  * Every answer begins with a number, 0 for a job done and else that of the first refusal that holds (refusals.h). First of all comes
  * REFUSED_VALUE (15): the struct is no desk; then no field of it is changed. Any other refusal drops the open plan, if there is one,
@@ -28,6 +34,7 @@
  *     every record: 1, not a record; 2, M or E with no plan open, or any other record while one is open; and then
  *     P: 8, 3      M: 4, 5      E: 6 and 7 of the from column, 6 and 7 of the to column, 16      F: 8, 9, 10, 11, 16
  *     I: 8, 9, 16  C: 8, 9, 16  K: 8, 12, 9, 11, 16      S: 8, 9, 10      L: 8, 9      W: 8, 9, 4      T, U: no more
+ *     X: 8, 3, 17, 5, 4, 16, of which 5 and 4 are those of the pairs before they are reduced
  *
  * and last of all, in desk_line, 14.
  */
@@ -71,17 +78,20 @@ struct desk_block {
 struct desk {
     struct desk_block blocks[DESK_BLOCKS]; /* slots 'A' to 'H', then the open plan */
     uint8_t opened;                        /* the slot that the open plan is meant for, 'A' to 'H'; 0 if no plan is open */
-    uint32_t changes;                      /* 0 to DESK_MOST_CHANGES; E, F, I, K and C raise it by one */
+    uint32_t changes;                      /* 0 to DESK_MOST_CHANGES; E, F, I, K, X and C raise it by one */
     uint64_t columns[DESK_WORDS];
 };
 
-/* A record without text: its letter, its slots or numbers in the order in which a line has them, and the exponent k of K. */
+/* A record without text: its letter, its slots or numbers in the order in which a line has them, the exponent k of K, and the seed and
+ * the number of splits of X. */
 struct desk_job {
     uint8_t letter;
     uint8_t a;
     uint8_t b;
     uint8_t c;
     int32_t k;
+    uint64_t seed;
+    uint8_t splits;
 };
 
 /* Number 0: `length` bytes of reply stand at the front of the lent buffer. Else the column is 'F' or 'T' for 6 and 7, else 0, and
@@ -131,6 +141,8 @@ struct desk_written desk_line(struct desk *d, const uint8_t *line, size_t line_l
  *     'S'  a, b                                              value: 1 if they act alike, else 0
  *     'C'  a                                                 value 0
  *     'T'                                                    value: the count of changes
+ *     'X'  a slot, b = n, c = r (numbers), splits and        value: the pairs kept
+ *          seed; both may be any numbers
  *
  * Every other letter is refused with 1, those of records with text or a listing (M, W, L, U) too. No 14 here: nothing is written.
  */

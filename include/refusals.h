@@ -10,8 +10,8 @@ enum refusal {
     REFUSED_FORM = 1,           /* a line: unknown letter, wrong number of fields, a field's form, or more than 1,100 bytes */
     REFUSED_TURN = 2,           /* a pair or an end with no plan open, or any other record while one is open */
     REFUSED_SHAPE = 3,          /* n outside 2 to 9, or r outside 1 to 9 */
-    REFUSED_WORD = 4,           /* a word or code that is empty, too long (16 and 1,024 digits) or has a wrong digit */
-    REFUSED_PAIR = 5,           /* a 129th pair */
+    REFUSED_WORD = 4,           /* a word or code that is empty, too long (16 and 1,024 digits) or has a wrong digit; X: too long */
+    REFUSED_PAIR = 5,           /* a 129th pair; X: over 128 pairs before reduction */
     REFUSED_OVERLAP = 6,        /* in a column one word begins or equals another; the answer names the column */
     REFUSED_GAP = 7,            /* in a column a belt isn't covered; the answer names the column */
     REFUSED_SLOT = 8,           /* a slot byte outside 'A' to 'H' */
@@ -22,7 +22,8 @@ enum refusal {
     REFUSED_TOO_SHORT = 13,     /* the code is a proper beginning of a from-word; plans_route alone, a desk has a block for it */
     REFUSED_BUFFER = 14,        /* the lent buffer is shorter than the output; looked for last */
     REFUSED_VALUE = 15,         /* what was handed in is no draft, no plan or no desk; looked for first */
-    REFUSED_COUNT = 16          /* the count of changes is at its limit, 4,000,000,000 */
+    REFUSED_COUNT = 16,         /* the count of changes is at its limit, 4,000,000,000 */
+    REFUSED_SEED = 17           /* a seed outside 1 to 2,147,483,646 */
 };
 
 /* The column that an answer names beside REFUSED_OVERLAP and REFUSED_GAP; 0 beside every other number. */
@@ -53,6 +54,7 @@ static inline const char *refusal_reason(unsigned number)
         "the buffer is too short",
         "not a plan or desk",
         "the count of changes is at its limit",
+        "the seed is out of range",
     };
     return number < sizeof reasons / sizeof reasons[0] ? reasons[number] : "no such refusal";
 }

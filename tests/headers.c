@@ -130,6 +130,56 @@ static void check_survey(struct desk *d)
                                                                && holds_text(out, sizeof out, survey));
 }
 
+/* Whether block i has these words behind its front, and zeros behind them. */
+static bool holds_words(const struct desk *d, size_t block, size_t pairs, const uint64_t *from, const uint64_t *to)
+{
+    const uint64_t *column = d->columns + 2 * DESK_PLACES * block;
+    return d->blocks[block].pairs == pairs && !memcmp(column, from, pairs * sizeof *from) && column[pairs] == 0
+        && !memcmp(column + DESK_PLACES, to, pairs * sizeof *to) && column[DESK_PLACES + pairs] == 0;
+}
+
+/* The two plans of X that tests/cases/README.md works by hand, one by its line and one by number; then its refusals in their order. */
+static void check_exercises(void)
+{
+    static const uint64_t from[] = {0x11, 0x12}, to[] = {0x12, 0x11}, from_b[] = {0x111, 0x112, 0x12}, to_b[] = {0x121, 0x11, 0x122};
+    static const struct {
+        struct desk_job job;
+        uint8_t number;
+    } refused[] = {
+        {{'X', '@', 1, 0, 0, 0, 99}, REFUSED_SLOT},
+        {{'X', 'A', 1, 1, 0, 0, 99}, REFUSED_SHAPE},
+        {{'X', 'A', 9, 9, 0, 0, 255}, REFUSED_SEED},
+        {{'X', 'A', 2, 1, 0, 2147483647u, 2}, REFUSED_SEED},
+        {{'X', 'A', 2, 1, 0, UINT64_MAX, 2}, REFUSED_SEED},
+        {{'X', 'A', 3, 1, 0, 22, 99}, REFUSED_PAIR},
+        {{'X', 'A', 2, 1, 0, 5, 99}, REFUSED_WORD},
+        {{'X', 'A', 2, 1, 0, 1, 2}, REFUSED_COUNT},
+    };
+    uint8_t out[DESK_LONGEST_REPLY];
+    char what[64];
+    struct desk d = desk_fresh();
+    struct desk_job job = {'X', 'B', 2, 1, 0, 2147483646u, 3};
+    struct desk_written written = say(&d, "X\tA\t2\t1\t2\t1", out, sizeof out);
+    struct desk_done done = desk_do(&d, job);
+    size_t i;
+
+    check("desk_job has its members at their places", sizeof(struct desk_job) == 24 && offsetof(struct desk_job, k) == 4
+                                                          && offsetof(struct desk_job, seed) == 8
+                                                          && offsetof(struct desk_job, splits) == 16);
+    check("desk_line makes a plan from a seed", written.number == 0 && holds_text(out, sizeof out, "ok\t2\n")
+                                                    && holds_words(&d, 0, 2, from, to));
+    check("desk_do makes a plan from a seed", done.number == 0 && done.value == 3 && holds_words(&d, 1, 3, from_b, to_b));
+    check("a plan from a seed is a change and opens none", d.changes == 2 && d.opened == 0);
+    written = say(&d, "X\tA\t2\t1\t2\t01", out, sizeof out);
+    check("desk_line refuses the form of a seed", written.number == REFUSED_FORM && holds_text(out, sizeof out, ""));
+    d.changes = DESK_MOST_CHANGES;
+    for (i = 0; i < sizeof refused / sizeof refused[0]; i++) {
+        done = desk_do(&d, refused[i].job);
+        snprintf(what, sizeof what, "desk_do refuses a plan from a seed with %d", refused[i].number);
+        check(what, done.number == refused[i].number && done.column == 0 && done.value == 0 && holds_words(&d, 0, 2, from, to));
+    }
+}
+
 static void check_desk(void)
 {
     static const char block[] = "B\t111\t11\nB\t112\t121\nok\t2\n";
@@ -148,7 +198,7 @@ static void check_desk(void)
     uint8_t out[DESK_LONGEST_REPLY];
     char what[64];
     struct desk d = desk_fresh();
-    struct desk_job job = {'I', 'A', 'H', 0, 0};
+    struct desk_job job = {'I', 'A', 'H', 0, 0, 0, 0};
     struct desk_written written;
     struct desk_done done;
     struct plan p = psi();
@@ -193,8 +243,11 @@ static void check_desk(void)
 
 int main(void)
 {
-    check("refusal_reason", !strcmp(refusal_reason(REFUSED_EMPTY), "the slot is empty") && refusal_reason(99) != NULL);
+    check("refusal_reason", !strcmp(refusal_reason(REFUSED_EMPTY), "the slot is empty")
+                                && !strcmp(refusal_reason(REFUSED_SEED), "the seed is out of range") && refusal_reason(99) != NULL);
+    check("refusal_reason beyond the last", !strcmp(refusal_reason(REFUSED_SEED + 1), refusal_reason(99)));
     check_plans();
     check_desk();
+    check_exercises();
     return failures ? EXIT_FAILURE : EXIT_SUCCESS;
 }

@@ -1,11 +1,11 @@
 //! Inputs of a desk that are measured: eight plans of 128 pairs, typed into the
 //! slots A to H, and then many records of one kind, made from a fixed seed. The
 //! plans permute the words of one basis, so that products and powers of them
-//! stay within the limits.
+//! stay within the limits. X makes plans of its own.
 
 use library::random::bases::{even_basis, splits_within};
 use library::random::{plans, Rng};
-use reference::{Shape, Word};
+use reference::{Plan, Shape, Word};
 
 /// The shape of all plans that are measured: that of binary trees.
 const SHAPE: Shape = Shape { arity: 2, roots: 1 };
@@ -68,7 +68,35 @@ pub fn sessions() -> Vec<Session> {
     all.push(session("W block, 2 to 128 pairs", 20_000, &mut |_| {
         front(rng, &words)
     }));
+    all.extend(exercises(rng, &typed.concat()));
     all
+}
+
+/// X behind the typed plans: with few splits in every shape by turns, and with the
+/// most, where a word of 17 digits comes up by some of the seeds.
+fn exercises(rng: &mut Rng, typed: &str) -> [Session; 2] {
+    let mut record = |shape: Shape, splits: u8, seed: u64| {
+        let (slot, Shape { arity, roots }) = (letter(rng, b'E', 4), shape);
+        let refused = Plan::exercise(shape, splits, seed).is_err();
+        let line = format!("X\t{slot}\t{arity}\t{roots}\t{splits}\t{seed}\n");
+        (line, usize::from(refused))
+    };
+    let mut few = |place: u64| {
+        let (arity, roots) = (2 + place % 8, 1 + place / 8 % 9);
+        let [arity, roots] = [arity, roots].map(|number| number as u8);
+        record(Shape { arity, roots }, 10, place + 1)
+    };
+    let few: Vec<(String, usize)> = (0..20_000).map(&mut few).collect();
+    let many = (0..2_000).map(|place| record(SHAPE, 99, place + 1));
+    let many: Vec<(String, usize)> = many.collect();
+    [("X, 10 splits, every shape", few), ("X, 99 splits", many)].map(|(name, records)| Session {
+        name,
+        records: records.len(),
+        refused: records.iter().map(|(_, refused)| refused).sum(),
+        input: records
+            .iter()
+            .fold(typed.to_string(), |input, (line, _)| input + line),
+    })
 }
 
 /// The records that keep a plan of 128 pairs in each slot, in any order.

@@ -1,6 +1,6 @@
 //! The desk on arrays held to the second implementation, on random sessions
 //! without the records that it doesn't know, whole and cut into pieces; and on
-//! the blocks that are measured.
+//! the blocks and the plans of X that are measured.
 
 use bench::arrays::desk::Desk;
 
@@ -36,6 +36,26 @@ fn measured_blocks() {
     let lines = replies.split(|byte| *byte == b'\n');
     let rows = lines.filter(|line| line.starts_with(b"B\t")).count();
     assert!(rows > 100_000, "{rows}");
+}
+
+#[test]
+fn measured_exercises() {
+    let sessions = bench::sessions::sessions();
+    let measured: Vec<_> = sessions
+        .iter()
+        .filter(|s| s.name.starts_with('X'))
+        .collect();
+    assert_eq!(measured.len(), 2);
+    for session in measured {
+        let (mut expected, mut replies) = (Vec::new(), Vec::new());
+        reference::Desk::new().feed(session.input.as_bytes(), &mut expected);
+        Desk::default().feed(session.input.as_bytes(), &mut replies);
+        assert!(replies == expected, "{}", session.name);
+        let lines = replies.split(|byte| *byte == b'\n');
+        let refused = lines.filter(|line| line.starts_with(b"no\t")).count();
+        assert_eq!(refused, session.refused, "{}", session.name);
+        assert_eq!(refused > 0, session.name.contains("99"));
+    }
 }
 
 /// The lines that don't begin with an unknown letter, each with its byte 10.

@@ -31,6 +31,7 @@ REASONS = [
     "the buffer is too short",
     "not a plan or desk",
     "the count of changes is at its limit",
+    "the seed is out of range",
 ]
 
 LONGEST_REPLY = 4618  # DESK_LONGEST_REPLY of include/desk.h

@@ -11,7 +11,7 @@ use std::process::ExitCode;
 const PLAN: [&str; 5] = ["P\tA\t2\t1", "M\t111\t11", "M\t112\t121", "M\t12\t122", "E"];
 
 /// The reasons of include/refusals.h, by their numbers.
-const REASONS: [&str; 17] = [
+const REASONS: [&str; 18] = [
     "done",
     "not a record",
     "no plan is open, or one is",
@@ -29,6 +29,7 @@ const REASONS: [&str; 17] = [
     "the buffer is too short",
     "not a plan or desk",
     "the count of changes is at its limit",
+    "the seed is out of range",
 ];
 
 /// `struct desk_block` of include/desk.h. All fields stand here for the layout,

@@ -1,4 +1,4 @@
-//! A desk on arrays, for the records that are measured: P, M, E, F, I, K and W,
+//! A desk on arrays, for the records that are measured: P, M, E, F, I, K, W and X,
 //! from the bytes of a line to those of its reply. What stands in a slot is
 //! known to be a plan and isn't checked again. Changes aren't counted, and any
 //! other record is refused with 1.
@@ -8,6 +8,7 @@ use std::io::Write;
 use library::{Plan, PLACES};
 
 use super::columns::{verdict, Column};
+use super::exercise::exercise;
 use super::table::product;
 use super::words::{self, digits, Shape, ROW_BYTES};
 use super::{extending, inverse, kept, matching, power};
@@ -80,7 +81,7 @@ impl Desk {
     }
 
     fn work(&mut self, line: &[u8], out: &mut Vec<u8>) -> Done {
-        let mut fields = [&line[..0]; 5];
+        let mut fields = [&line[..0]; 7];
         let mut parts = line.split(|byte| *byte == b'\t');
         let count = fields
             .iter_mut()
@@ -100,15 +101,32 @@ impl Desk {
             [b"F", &[a], &[b], &[c]] => self.follow([a, b, c], out),
             [b"I", &[a], &[c]] => self.invert([a, c], out),
             [b"K", &[a], k, &[c]] => self.raise([a, c], numeral(k)?, out),
+            [b"X", &[slot], &[n @ b'0'..=b'9'], &[r @ b'0'..=b'9'], s, seed] => {
+                let numbers = (number(s, 2)? as usize, number(seed, 10)?);
+                self.exercise(slot, [n - b'0', r - b'0'], numbers, out)
+            }
             _ => no(NO_RECORD),
+        }
+    }
+
+    fn exercise(
+        &mut self,
+        slot: u8,
+        [arity, roots]: [u8; 2],
+        (splits, seed): (usize, u64),
+        out: &mut Vec<u8>,
+    ) -> Done {
+        let [slot] = self.places([slot])?;
+        in_range(arity, roots)?;
+        match exercise(Shape { arity, roots }, splits, seed) {
+            Err(number) => no(number),
+            Ok(plan) => self.keep(slot, plan, out),
         }
     }
 
     fn start(&mut self, slot: u8, arity: u8, roots: u8) -> Done {
         let [slot] = self.places([slot])?;
-        if !(2..=9).contains(&arity) || !(1..=9).contains(&roots) {
-            return no(WRONG_SHAPE);
-        }
+        in_range(arity, roots)?;
         self.open = Some(slot);
         self.draft = Plan {
             arity,
@@ -229,6 +247,14 @@ impl Desk {
     }
 }
 
+/// Refusal 3, "n or r outside its range".
+fn in_range(arity: u8, roots: u8) -> Done {
+    if !(2..=9).contains(&arity) || !(1..=9).contains(&roots) {
+        return no(WRONG_SHAPE);
+    }
+    Ok(())
+}
+
 fn shape(plan: &Plan) -> Shape {
     Shape {
         arity: plan.arity,
@@ -255,14 +281,19 @@ fn packed(word: &[u8]) -> u64 {
 /// "k an optional minus and one to four digits, no leading zero and no minus
 /// zero".
 fn numeral(field: &[u8]) -> Result<i32, Refusal> {
-    let (sign, size) = match field {
-        [b'-', size @ ..] => (-1, size),
-        size => (1, size),
-    };
-    let digits = matches!(size.len(), 1..=4) && size.iter().all(u8::is_ascii_digit);
-    if !digits || size[0] == b'0' && field.len() > 1 {
+    match field {
+        b"-0" => no(NO_RECORD),
+        [b'-', size @ ..] => Ok(-(number(size, 4)? as i32)),
+        size => Ok(number(size, 4)? as i32),
+    }
+}
+
+/// One digit up to so many, without "a leading zero but for 0 itself".
+fn number(field: &[u8], most: usize) -> Result<u64, Refusal> {
+    let digits = (1..=most).contains(&field.len()) && field.iter().all(u8::is_ascii_digit);
+    if !digits || field[0] == b'0' && field.len() > 1 {
         return no(NO_RECORD);
     }
-    let number = |number, digit: &u8| number * 10 + i32::from(digit - b'0');
-    Ok(sign * size.iter().fold(0, number))
+    let number = |number, digit: &u8| number * 10 + u64::from(digit - b'0');
+    Ok(field.iter().fold(0, number))
 }

@@ -4,6 +4,7 @@
 
 mod columns;
 pub mod desk;
+mod exercise;
 mod table;
 mod words;
 

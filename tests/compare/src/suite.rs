@@ -8,7 +8,7 @@ use crate::judge::{expected, judge, lines, Step};
 use crate::program::{Feeding, Program, Trouble};
 use crate::report::{block, manner, Fault};
 use crate::shrink::{shortest_prefix, shrink, Effort};
-use sessions::{tally, Tally};
+use sessions::{tally, Tally, EXERCISES};
 use std::collections::BTreeMap;
 use std::fs;
 use std::io::{self, Write};
@@ -33,8 +33,7 @@ pub struct Suite<'a> {
     passed: usize,
     failed: usize,
     hung: usize,
-    /// The replies to the records of each letter, over all sessions.
-    replies: BTreeMap<char, Tally>,
+    replies: Replies,
 }
 
 /// Runs everything and writes the report; true if nothing failed.
@@ -89,14 +88,40 @@ fn find_fault(program: &Program, steps: &[Step], feeding: Feeding) -> Option<Fau
     })
 }
 
-/// What the tally of a range of seeds comes to: the replies that never came
-/// up, if any, and whether that is a failure.
-fn verdict(all: &Tally, seeds: u64) -> Option<(bool, String)> {
-    let missing = all.missing();
+/// The replies to the records of each letter, over all sessions.
+type Replies = BTreeMap<char, Tally>;
+
+/// What the replies of a range of seeds come to: those that never came up, if any,
+/// from any record or from X, and whether that is a failure.
+fn verdict(replies: &Replies, seeds: u64) -> Option<(bool, String)> {
+    let mut missing: Vec<String> = total(replies)
+        .missing()
+        .into_iter()
+        .map(Into::into)
+        .collect();
+    let exercises = replies.get(&'X').cloned().unwrap_or_default();
+    let to_x = exercises.missing_of(EXERCISES);
+    missing.extend(to_x.iter().map(|kind| format!("{kind} to X")));
     if missing.is_empty() {
         return None;
     }
     Some((seeds >= FULL_RANGE, missing.join(", ")))
+}
+
+/// The tally of all letters.
+fn total(replies: &Replies) -> Tally {
+    let mut all = Tally::default();
+    replies.values().for_each(|replies| all.add(replies));
+    all
+}
+
+/// Counts the replies to these records under their letters.
+fn count(replies: &mut Replies, steps: &[Step]) {
+    for step in steps {
+        let letter = operation(&step.record);
+        let replies = replies.entry(letter).or_default();
+        replies.add(&tally(&step.reply));
+    }
 }
 
 impl Suite<'_> {
@@ -165,11 +190,7 @@ impl Suite<'_> {
 
     fn seed(&mut self, seed: u64) -> io::Result<()> {
         let steps = expected(&sessions::session(seed));
-        for step in &steps {
-            let letter = operation(&step.record);
-            let replies = self.replies.entry(letter).or_default();
-            replies.add(&tally(&step.reply));
-        }
+        count(&mut self.replies, &steps);
         let feedings = [Feeding::Whole, Feeding::Cuts(seed)];
         self.check(&format!("seed {seed}"), steps, &feedings)
     }
@@ -262,14 +283,12 @@ impl Suite<'_> {
         if self.replies.is_empty() {
             return Ok(());
         }
-        let mut all = Tally::default();
         for (letter, replies) in &self.replies {
             writeln!(self.out, "replies to {letter}: {}", replies.line())?;
-            all.add(replies);
         }
-        write!(self.out, "all replies:\n{all}")?;
+        write!(self.out, "all replies:\n{}", total(&self.replies))?;
         let seeds = self.arguments.seeds.end - self.arguments.seeds.start;
-        match verdict(&all, seeds) {
+        match verdict(&self.replies, seeds) {
             None => Ok(()),
             Some((true, missing)) => {
                 self.failed += 1;
@@ -287,7 +306,7 @@ fn operation(record: &[u8]) -> char {
     let body = record.strip_suffix(b"\n").unwrap_or(record);
     let letter = body.split(|&byte| byte == b'\t').next();
     match letter {
-        Some([letter]) if b"PMEFIKSWLCTU".contains(letter) => *letter as char,
+        Some([letter]) if b"PMEFIKSWLCTUX".contains(letter) => *letter as char,
         _ => '?',
     }
 }
@@ -299,24 +318,31 @@ mod tests {
 
     #[test]
     fn a_reply_that_never_came_up_fails_a_full_range_only() {
-        let few = tally(b"ok\nno\t1\n");
+        let few = Replies::from([('C', tally(b"ok\nno\t1\n")), ('X', tally(b"no\t17\n"))]);
         let (fails, missing) = verdict(&few, FULL_RANGE).unwrap();
         assert!(fails && missing.contains("no 12") && !missing.contains("no 1,"));
+        assert!(missing.contains("no 1 to X") && !missing.contains("no 17"));
         assert!(!verdict(&few, FULL_RANGE - 1).unwrap().0);
     }
 
     #[test]
     fn a_full_range_of_sessions_meets_every_reply() {
-        let mut all = Tally::default();
+        let mut replies = Replies::new();
         for seed in 0..FULL_RANGE {
-            all.add(&tally(&reference::session(&sessions::session(seed))));
+            count(&mut replies, &expected(&sessions::session(seed)));
         }
-        assert_eq!(verdict(&all, FULL_RANGE), None);
+        assert_eq!(verdict(&replies, FULL_RANGE), None);
+        let all = total(&replies);
         assert!(all.count("B line") > 10_000, "{}", all.line());
         for kind in SURVEYS {
             assert!(all.count(kind) > 200, "{}", all.line());
         }
         assert_eq!(all.count("no 13") + all.count("other"), 0);
+        let exercises = &replies[&'X'];
+        assert!(exercises.count("ok value") > 800, "{}", exercises.line());
+        for kind in EXERCISES {
+            assert!(exercises.count(kind) > 15, "{kind}: {}", exercises.line());
+        }
     }
 
     #[test]
@@ -325,6 +351,7 @@ mod tests {
         assert_eq!(operation(b"T"), 'T');
         assert_eq!(operation(b"T\r\n"), '?');
         assert_eq!(operation(b"\n"), '?');
-        assert_eq!(operation(b"X\t1\n"), '?');
+        assert_eq!(operation(b"X\t1\n"), 'X');
+        assert_eq!(operation(b"Y\t1\n"), '?');
     }
 }

@@ -219,6 +219,71 @@ fn a_block_before_a_wrong_digit_is_found() {
     is_found("block-before-wrong-digit");
 }
 
+#[test]
+fn another_multiplier_is_found() {
+    is_found("x-other-multiplier");
+}
+
+#[test]
+fn a_seed_taken_for_a_draw_is_found() {
+    is_found("x-seed-is-a-draw");
+}
+
+#[test]
+fn draws_begun_again_are_found() {
+    is_found("x-draws-restarted");
+}
+
+#[test]
+fn places_from_one_are_found() {
+    is_found("x-place-from-one");
+}
+
+#[test]
+fn swaps_from_the_first_place_up_are_found() {
+    is_found("x-swaps-upwards");
+}
+
+#[test]
+fn swaps_that_never_stay_are_found() {
+    is_found("x-swaps-modulo-i");
+}
+
+#[test]
+fn a_missed_split_is_found() {
+    is_found("x-to-split-missed");
+}
+
+#[test]
+fn long_words_before_many_pairs_are_found() {
+    is_found("x-4-before-5");
+}
+
+#[test]
+fn many_pairs_before_the_seed_are_found() {
+    is_found("x-17-after-5");
+}
+
+#[test]
+fn limits_of_the_reduced_exercise_are_found() {
+    is_found("x-limits-after-reduction");
+}
+
+#[test]
+fn an_exercise_that_is_not_reduced_is_found() {
+    is_found("x-not-reduced");
+}
+
+#[test]
+fn a_seed_of_32_bits_is_found() {
+    is_found("x-narrow-seed");
+}
+
+#[test]
+fn an_exercise_that_is_not_counted_is_found() {
+    is_found("x-not-counted");
+}
+
 /// A directory with this one case in it, and nothing else.
 fn one_case(directory: &str, name: &str) -> PathBuf {
     let target = PathBuf::from(env!("CARGO_TARGET_TMPDIR")).join(directory);

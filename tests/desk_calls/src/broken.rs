@@ -99,6 +99,47 @@ impl Broken {
         &line[..end.unwrap_or(line.len()).min(line.len())]
     }
 
+    /// The job as the faulty reading sees it.
+    fn read_job(&self, mut job: Job) -> Job {
+        let exercise = job.letter == b'X';
+        match self.fault {
+            Fault::TargetThird if matches!(job.letter, b'I' | b'K') => job.b = job.c,
+            Fault::NarrowExponent => job.k = i32::from(job.k as i16),
+            Fault::DigitsInJobs if job.letter == b'P' => digits(&mut job),
+            Fault::DigitsInExercises if exercise => digits(&mut job),
+            Fault::NarrowSeed => job.seed &= 0xffff_ffff,
+            Fault::ExerciseRefused if exercise => job.letter = 0,
+            Fault::TwoDigitSplits if exercise && job.splits > 99 => job.letter = 0,
+            // a survey in its place, which has a number for a value
+            Fault::ListingTaken if job.letter == b'U' => job.letter = b'T',
+            _ => {}
+        }
+        job
+    }
+
+    /// What an X that is done leaves besides a sound desk.
+    fn leave_exercise(&self, desk: &mut Desk) {
+        match self.fault {
+            Fault::UncountedExercise => desk.changes -= 1,
+            Fault::OpenExercise => {
+                desk.opened = b'A';
+                desk.put(OPEN, &desk.value(0));
+            }
+            _ => {}
+        }
+    }
+
+    /// What an answer with this number leaves besides a sound desk.
+    fn leave(&self, before: &Desk, desk: &mut Desk, number: u8, exercise: bool) {
+        if number != 0 {
+            return self.leave_refused(before, desk, number);
+        }
+        self.leave_done(before, desk);
+        if exercise {
+            self.leave_exercise(desk);
+        }
+    }
+
     /// What is left of a desk that was refused with 15.
     fn leave_no_desk(&self, desk: &mut Desk) {
         match self.fault {
@@ -214,6 +255,12 @@ impl Broken {
     }
 }
 
+/// Takes the numbers of a job for digits.
+fn digits(job: &mut Job) {
+    job.b = job.b.wrapping_sub(b'0');
+    job.c = job.c.wrapping_sub(b'0');
+}
+
 /// The number of pairs in a line of U, which is its last field.
 fn pairs(line: &[u8]) -> usize {
     let text = std::str::from_utf8(line).expect("a reply is text");
@@ -262,11 +309,7 @@ impl Calls for Broken {
             }
         }
         *desk = after;
-        if answer.number == 0 {
-            self.leave_done(&before, desk);
-        } else {
-            self.leave_refused(&before, desk, answer.number);
-        }
+        self.leave(&before, desk, answer.number, line.starts_with(b"X"));
         self.spoil_buffer(line, &mut answer, out);
         if self.is(Fault::NoColumn) {
             answer.column = 0;
@@ -276,18 +319,7 @@ impl Calls for Broken {
 
     fn job(&self, desk: &mut Desk, job: Job) -> Done {
         let before = *desk;
-        let mut job = job;
-        match self.fault {
-            Fault::TargetThird if matches!(job.letter, b'I' | b'K') => job.b = job.c,
-            Fault::NarrowExponent => job.k = i32::from(job.k as i16),
-            Fault::DigitsInJobs if job.letter == b'P' => {
-                job.b = job.b.wrapping_sub(b'0');
-                job.c = job.c.wrapping_sub(b'0');
-            }
-            // a survey in its place, which has a number for a value
-            Fault::ListingTaken if job.letter == b'U' => job.letter = b'T',
-            _ => {}
-        }
+        let job = self.read_job(job);
         if !self.is_desk(desk) {
             self.leave_no_desk(desk);
             return Done::refused(15, 0);
@@ -295,11 +327,7 @@ impl Calls for Broken {
         let mut after = self.seen(desk);
         let mut answer = self.second.job(&mut after, job);
         *desk = after;
-        if answer.number == 0 {
-            self.leave_done(&before, desk);
-        } else {
-            self.leave_refused(&before, desk, answer.number);
-        }
+        self.leave(&before, desk, answer.number, job.letter == b'X');
         match self.fault {
             Fault::NoColumn => answer.column = 0,
             Fault::NoValue if job.letter == b'S' => answer.value = 0,

@@ -86,6 +86,18 @@ pub enum Fault {
     DigitsInJobs,
     /// The value of S is left at 0.
     NoValue,
+    /// X is refused as a job.
+    ExerciseRefused,
+    /// Jobs of X read n and r as digits.
+    DigitsInExercises,
+    /// Jobs of X refuse more splits than a line has digits for with 1.
+    TwoDigitSplits,
+    /// The seed is read as 32 bits.
+    NarrowSeed,
+    /// X counts no change.
+    UncountedExercise,
+    /// X leaves its plan as it was made, in an open plan.
+    OpenExercise,
     /// An emptied slot keeps its words.
     WordsAfterClear,
     /// A plan of fewer pairs leaves words of the one before it.
@@ -96,7 +108,7 @@ pub enum Fault {
 type Check = fn(&dyn Calls);
 
 /// Each fault, and a check that has to see it.
-pub const FAULTS: [(Fault, Check); 41] = [
+pub const FAULTS: [(Fault, Check); 47] = [
     (Fault::WorkBeforeShortBuffer, buffers::of_every_length),
     (Fault::OpenAfterShortBuffer, buffers::of_every_length),
     (Fault::CutReply, buffers::of_every_length),
@@ -136,6 +148,12 @@ pub const FAULTS: [(Fault, Check); 41] = [
     (Fault::NarrowExponent, jobs::of_every_number),
     (Fault::DigitsInJobs, jobs::of_every_number),
     (Fault::NoValue, paper::session_in_jobs),
+    (Fault::ExerciseRefused, jobs::beside_lines),
+    (Fault::DigitsInExercises, paper::exercises),
+    (Fault::TwoDigitSplits, jobs::of_every_exercise),
+    (Fault::NarrowSeed, paper::exercises),
+    (Fault::UncountedExercise, paper::exercises),
+    (Fault::OpenExercise, sessions::of_lines),
     (Fault::WordsAfterClear, paper::session_in_jobs),
     (Fault::WordsAfterKeep, sessions::of_lines),
 ];

@@ -147,8 +147,8 @@ pub fn letter(slot: usize) -> u8 {
 /// The record of a job; none for a letter that has text or a listing, or that
 /// no record has.
 fn record(job: Job) -> Option<Record<'static>> {
-    let Job { letter, a, b, c, k } = job;
-    let record = match letter {
+    let Job { a, b, c, .. } = job;
+    let record = match job.letter {
         b'P' => Record::Open {
             slot: a,
             arity: b,
@@ -166,7 +166,7 @@ fn record(job: Job) -> Option<Record<'static>> {
         },
         b'K' => Record::Power {
             operand: a,
-            k: k.into(),
+            k: job.k.into(),
             target: b,
         },
         b'S' => Record::Same {
@@ -174,6 +174,13 @@ fn record(job: Job) -> Option<Record<'static>> {
             second: b,
         },
         b'C' => Record::Clear { operand: a },
+        b'X' => Record::Exercise {
+            slot: a,
+            arity: b,
+            roots: c,
+            splits: job.splits,
+            seed: job.seed,
+        },
         b'T' => Record::Count,
         _ => return None,
     };

@@ -114,7 +114,7 @@ impl fmt::Debug for Desk {
 }
 
 /// A record without text: its letter, its slots or numbers in the order in
-/// which a line has them, and the exponent of K.
+/// which a line has them, the exponent of K, and the seed and the splits of X.
 #[repr(C)]
 #[derive(Clone, Copy, Debug, Default, PartialEq, Eq)]
 pub struct Job {
@@ -123,6 +123,8 @@ pub struct Job {
     pub b: u8,
     pub c: u8,
     pub k: i32,
+    pub seed: u64,
+    pub splits: u8,
 }
 
 /// How many bytes of reply stand at the start of the lent buffer; 0 in a
@@ -177,5 +179,27 @@ impl Done {
             column,
             value: 0,
         }
+    }
+}
+
+#[cfg(test)]
+mod tests {
+    use super::Job;
+    use std::mem::{offset_of, size_of};
+
+    /// The members of a job stand where include/desk.h has them.
+    #[test]
+    fn the_layout_of_a_job() {
+        let offsets = [
+            offset_of!(Job, letter),
+            offset_of!(Job, a),
+            offset_of!(Job, b),
+            offset_of!(Job, c),
+            offset_of!(Job, k),
+            offset_of!(Job, seed),
+            offset_of!(Job, splits),
+        ];
+        assert_eq!(offsets, [0, 1, 2, 3, 4, 8, 16]);
+        assert_eq!(size_of::<Job>(), 24);
     }
 }

@@ -25,6 +25,16 @@ fn the_slots_in_their_order() {
 }
 
 #[test]
+fn exercises_worked_by_hand() {
+    paper::exercises(&Library);
+}
+
+#[test]
+fn exercises_that_are_refused() {
+    paper::exercises_refused(&Library);
+}
+
+#[test]
 fn refusals_of_calls_in_the_paper() {
     paper::refusals_of_calls(&Library);
 }
@@ -72,6 +82,16 @@ fn jobs_in_chains() {
 #[test]
 fn jobs_of_every_number() {
     jobs::of_every_number(&Library);
+}
+
+#[test]
+fn jobs_of_every_exercise() {
+    jobs::of_every_exercise(&Library);
+}
+
+#[test]
+fn exercises_in_lines_and_in_jobs() {
+    jobs::beside_lines(&Library);
 }
 
 #[test]

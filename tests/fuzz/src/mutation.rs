@@ -18,7 +18,7 @@ const BEGINNING: usize = 150;
 
 /// The letters of the records, and D, which the libraries' harnesses take for
 /// damage.
-const LETTERS: &[u8] = b"PMEFIKSWLCTUD";
+const LETTERS: &[u8] = b"PMEFIKSWLCTUXD";
 
 /// Changes the input that stands at the front of the room, and gives its length.
 pub fn mutate(room: &mut [u8], length: usize, seed: u64) -> usize {
@@ -110,6 +110,13 @@ fn record(rng: &mut Rng) -> Vec<u8> {
         b'K' => vec![slot(rng), exponent(rng), slot(rng)],
         b'W' => vec![slot(rng), word(rng)],
         b'L' | b'C' => vec![slot(rng)],
+        b'X' => vec![
+            slot(rng),
+            digits(rng, 1),
+            digits(rng, 1),
+            splits(rng),
+            seed(rng),
+        ],
         b'D' => {
             let place = vec![b'A' + rng.below(9) as u8];
             vec![place, (0..3).map(|_| rng.number() as u8).collect()]
@@ -141,6 +148,24 @@ fn word(rng: &mut Rng) -> Vec<u8> {
     let ways = rng.between(2, 4);
     let digit = |_| b'1' + rng.below(ways) as u8;
     (0..length).map(digit).collect()
+}
+
+/// Splits of X, mostly few enough for a plan.
+fn splits(rng: &mut Rng) -> Vec<u8> {
+    let most = *rng.pick(&[4, 16, 99]);
+    rng.below(most + 1).to_string().into_bytes()
+}
+
+/// A seed of X: in its range, at its ends and just beyond, or one that makes a word
+/// of 17 digits of 99 splits.
+fn seed(rng: &mut Rng) -> Vec<u8> {
+    let known = [0, 1, 5, 19, 22, 2_147_483_646, 2_147_483_647, 4_294_967_297];
+    let seed = match rng.below(4) {
+        0 => *rng.pick(&known),
+        1 => rng.number() % 10_000_000_000,
+        _ => rng.number() % 2_147_483_647,
+    };
+    seed.to_string().into_bytes()
 }
 
 fn exponent(rng: &mut Rng) -> Vec<u8> {

@@ -168,6 +168,13 @@ impl Desk {
             Record::Route { operand, code } => self.route(operand, code),
             Record::List { operand } => self.list(operand),
             Record::Clear { operand } => self.clear(operand),
+            Record::Exercise {
+                slot,
+                arity,
+                roots,
+                splits,
+                seed,
+            } => self.exercise(slot, Shape { arity, roots }, splits, seed),
             Record::Count => Ok(ok_line(self.count)),
             Record::Held => Ok(self.held_slots()),
         }
@@ -256,6 +263,13 @@ impl Desk {
         self.raise_count()?;
         self.slots.remove(&operand);
         Ok(b"ok\n".to_vec())
+    }
+
+    /// X: then 8; 3; 17; 5; 4; 16. It keeps its plan at once and opens none.
+    fn exercise(&mut self, slot: u8, shape: Shape, splits: u8, seed: u64) -> Reply {
+        slots_in_range(&[slot])?;
+        let plan = Plan::exercise(shape, splits, seed)?;
+        self.keep(slot, plan)
     }
 
     /// U: "the lines now come with the most pairs first, and equal ones by slot

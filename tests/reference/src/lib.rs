@@ -2,11 +2,12 @@
 //! It keeps words as strings of digits and plans as ordered maps, and follows
 //! the definitions word by word: it is made to be read and compared with, not
 //! to be fast. Document 01 decides on records and numbers, with change requests
-//! E1 for the blocks of W and E2 for the order of U's lines, and document 004 on
-//! words, bases and maps.
+//! E1 for the blocks of W, E2 for the order of U's lines and E3 for the plans of
+//! X, and document 004 on words, bases and maps.
 
 pub mod basis;
 pub mod desk;
+pub mod exercise;
 pub mod maps;
 pub mod plan;
 pub mod records;

@@ -1,8 +1,9 @@
 //! Kept plans: reduced maps between bases of one shape, held to the limits of
 //! document 01 (128 pairs, words of 16 digits). The operations are those of
-//! the records E, F, I, K, S, W and L, with their refusals.
+//! the records E, F, I, K, S, W, L and X, with their refusals.
 
 use crate::basis::{self, Fault};
+use crate::exercise;
 use crate::maps::{self, Pairs};
 use crate::refusal::Refusal;
 use crate::words::{Shape, Word, CODE_DIGITS, PAIRS, WORD_DIGITS};
@@ -40,6 +41,25 @@ impl Plan {
         }
         Plan::verdict(shape, typed).map_err(Refusal::Column)?;
         let pairs = maps::reduce(shape, typed.iter().cloned().collect());
+        Ok(Plan { shape, pairs })
+    }
+
+    /// The plan of X, reduced: refusal 3, then 17, "then 5 and 4 if the unreduced
+    /// plan breaks those limits".
+    pub fn exercise(shape: Shape, splits: u8, seed: u64) -> Result<Plan, Refusal> {
+        if !shape.in_range() {
+            return Err(Refusal::ShapeRange);
+        }
+        exercise::seed_in_range(seed)?;
+        let unreduced = exercise::unreduced(shape, splits, seed);
+        if unreduced.len() > PAIRS {
+            return Err(Refusal::TooManyPairs);
+        }
+        let too_long = |word: &Word| word.len() > WORD_DIGITS;
+        if unreduced.iter().any(|(f, t)| too_long(f) || too_long(t)) {
+            return Err(Refusal::BadWord);
+        }
+        let pairs = maps::reduce(shape, unreduced.into_iter().collect());
         Ok(Plan { shape, pairs })
     }
 

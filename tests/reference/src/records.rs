@@ -27,6 +27,14 @@ pub enum Record<'a> {
     List { operand: u8 },
     /// C: empties a slot.
     Clear { operand: u8 },
+    /// X: makes a plan from a seed and keeps it.
+    Exercise {
+        slot: u8,
+        arity: u8,
+        roots: u8,
+        splits: u8,
+        seed: u64,
+    },
     /// T: the count.
     Count,
     /// U: the held slots.
@@ -71,6 +79,13 @@ impl<'a> Record<'a> {
             },
             [b"C", operand] => Record::Clear {
                 operand: one_byte(operand)?,
+            },
+            [b"X", slot, arity, roots, splits, seed] => Record::Exercise {
+                slot: one_byte(slot)?,
+                arity: one_digit(arity)?,
+                roots: one_digit(roots)?,
+                splits: number(splits, 2)? as u8,
+                seed: number(seed, 10)?,
             },
             _ => return None,
         };
@@ -119,21 +134,29 @@ fn one_digit(field: &[u8]) -> Option<u8> {
 /// zero". The number 0 itself is written `0`.
 fn exponent(field: &[u8]) -> Option<i64> {
     match field {
-        b"0" => Some(0),
-        [b'-', digits @ ..] => size_of_exponent(digits).map(|size| -size),
-        digits => size_of_exponent(digits),
+        [b'-', digits @ ..] => above_zero(digits, 4).map(|size| -(size as i64)),
+        digits => number(digits, 4).map(|size| size as i64),
     }
 }
 
-/// One to four digits of which the first is no zero.
-fn size_of_exponent(digits: &[u8]) -> Option<i64> {
-    let right_length = (1..=4).contains(&digits.len());
+/// E3: "s one or two digits and seed one to ten, neither with a leading zero but
+/// for 0 itself".
+fn number(field: &[u8], most: usize) -> Option<u64> {
+    match field {
+        b"0" => Some(0),
+        digits => above_zero(digits, most),
+    }
+}
+
+/// One digit up to so many, of which the first is no zero.
+fn above_zero(digits: &[u8], most: usize) -> Option<u64> {
+    let right_length = (1..=most).contains(&digits.len());
     let all_digits = digits.iter().all(u8::is_ascii_digit);
     if !right_length || !all_digits || digits[0] == b'0' {
         return None;
     }
     let number = digits
         .iter()
-        .fold(0, |sum, byte| 10 * sum + i64::from(byte - b'0'));
+        .fold(0, |sum, byte| 10 * sum + u64::from(byte - b'0'));
     Some(number)
 }

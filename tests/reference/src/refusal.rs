@@ -1,7 +1,7 @@
-//! The refusals of the desk and the numbers document 01 gives them. Numbers
-//! 14 and 15 belong to library calls with lent buffers and lent plans; nothing
-//! of that kind is lent here, so they don't occur. 13 is the library's alone
-//! too, since W has a block instead, but a route needs nothing lent.
+//! The refusals of the desk and the numbers that document 01 and E3 give them.
+//! Numbers 14 and 15 belong to library calls with lent buffers and lent plans;
+//! nothing of that kind is lent here, so they don't occur. 13 is the library's
+//! alone too, since W has a block instead, but a route needs nothing lent.
 
 use crate::basis::{Fault, Flaw, Side};
 
@@ -15,9 +15,9 @@ pub enum Refusal {
     Turn,
     /// 3, "n or r outside its range".
     ShapeRange,
-    /// 4, "a word that is empty, too long or has a wrong digit".
+    /// 4, "a word that is empty, too long or has a wrong digit"; of X too long.
     BadWord,
-    /// 5, "a 129th pair".
+    /// 5, "a 129th pair", one at a time or, of X, in its unreduced plan.
     TooManyPairs,
     /// 6 and 7, a column that is no basis.
     Column(Fault),
@@ -35,10 +35,12 @@ pub enum Refusal {
     CodeTooShort,
     /// 16, "the count is at its limit".
     CountLimit,
+    /// 17, "a seed outside 1 to 2147483646".
+    SeedRange,
 }
 
 impl Refusal {
-    /// The number of document 01.
+    /// The number of document 01, or of E3 for 17.
     pub fn number(self) -> u8 {
         match self {
             Refusal::Form => 1,
@@ -54,6 +56,7 @@ impl Refusal {
             Refusal::ExponentRange => 12,
             Refusal::CodeTooShort => 13,
             Refusal::CountLimit => 16,
+            Refusal::SeedRange => 17,
         }
     }
 

@@ -2,7 +2,8 @@
 //! kinds that a long run of sessions has to have met. Refusals 13, 14 and 15
 //! are given by library calls alone, and 16 needs four thousand million
 //! changes, so no session meets them. Of U not only the lines are counted but
-//! also the replies that show something of their order.
+//! also the replies that show something of their order, and X has to meet its own
+//! refusals, some of which other records have too.
 
 use std::collections::BTreeMap;
 use std::fmt;
@@ -10,7 +11,7 @@ use std::fmt;
 /// The refusals that sessions can meet, in the form of the tally.
 const REFUSALS: &[&str] = &[
     "no 1", "no 2", "no 3", "no 4", "no 5", "no 6 F", "no 6 T", "no 7 F", "no 7 T", "no 8", "no 9",
-    "no 10", "no 11", "no 12",
+    "no 10", "no 11", "no 12", "no 17",
 ];
 
 /// The other replies that sessions can meet.
@@ -21,6 +22,11 @@ const GRANTED: &[&str] = &[
 /// The replies to U by which orders of its lines can be told apart: the lines
 /// don't stand by their letters, or two of them have as many pairs.
 pub const SURVEYS: &[&str] = &["U moved", "U tie"];
+
+/// The replies that X alone has to meet.
+pub const EXERCISES: &[&str] = &[
+    "ok value", "no 1", "no 2", "no 3", "no 4", "no 5", "no 8", "no 17",
+];
 
 /// How often each kind of reply came up.
 #[derive(Default, Clone, PartialEq, Eq, Debug)]
@@ -107,13 +113,14 @@ impl Tally {
     /// The kinds that a full range of sessions has to meet and that this
     /// tally has not; each refusal for a column counts on its own.
     pub fn missing(&self) -> Vec<&'static str> {
-        REFUSALS
-            .iter()
-            .chain(GRANTED)
-            .chain(SURVEYS)
-            .copied()
-            .filter(|kind| self.count(kind) == 0)
-            .collect()
+        let known = [REFUSALS, GRANTED, SURVEYS].concat();
+        self.missing_of(&known)
+    }
+
+    /// Those of some kinds that this tally has not.
+    pub fn missing_of(&self, kinds: &[&'static str]) -> Vec<&'static str> {
+        let kinds = kinds.iter().copied();
+        kinds.filter(|kind| self.count(kind) == 0).collect()
     }
 }
 
@@ -164,6 +171,9 @@ mod tests {
             tally.counts.remove(kind);
         }
         assert_eq!(tally.missing(), ["no 6 T", "no 11", "U tie"]);
+        assert!(tally.missing_of(EXERCISES).is_empty());
+        tally.counts.remove("no 17");
+        assert_eq!(tally.missing_of(EXERCISES), ["no 17"]);
     }
 
     /// A reply to U is closed by its number, so that two of them aren't one.

@@ -5,6 +5,7 @@
 
 mod blocks;
 mod case;
+mod exercises;
 mod lines;
 mod plans;
 mod surveys;
@@ -30,6 +31,9 @@ fn all() -> Vec<Case> {
         blocks::of_128_pairs(),
         blocks::of_long_words(),
         surveys::of_large_plans(),
+        exercises::of_every_shape(),
+        exercises::of_every_s(),
+        exercises::at_the_limits(),
     ]
 }
 
@@ -63,4 +67,33 @@ fn the_rules_have_the_sizes_they_speak_of() {
     let deep = blocks::deep_rows();
     assert!(deep.len() == 128 && deep.is_sorted());
     assert_eq!(deep.iter().filter(|row| row.0.len() == 16).count(), 112);
+}
+
+#[test]
+fn the_exercises_break_the_limits_they_speak_of() {
+    let long = |rows: &[case::Row]| {
+        let from = rows.iter().any(|row| row.0.len() > 16);
+        (from, rows.iter().any(|row| row.1.len() > 16))
+    };
+    let broken = exercises::BEYOND.map(|([n, r, s], seed)| {
+        let rows = exercises::made(n, r, s, seed);
+        let joined = exercises::joined(n, rows.clone());
+        let fits = joined.len() <= 128 && !exercises::too_long(&joined);
+        (rows.len(), long(&rows), fits)
+    });
+    let expected = [
+        (100, (true, false), false),
+        (100, (false, true), false),
+        (100, (true, true), false),
+        (100, (true, false), true),
+        (129, (false, false), false),
+        (129, (false, false), true),
+        (199, (false, true), false),
+    ];
+    assert_eq!(broken, expected);
+    let deep = exercises::made(2, 1, 99, 42);
+    let longest = |column: fn(&case::Row) -> usize| deep.iter().map(column).max();
+    assert_eq!(longest(|row| row.0.len()), Some(16));
+    assert_eq!(longest(|row| row.1.len()), Some(16));
+    assert_eq!(exercises::made(9, 8, 15, 1).len(), 128);
 }

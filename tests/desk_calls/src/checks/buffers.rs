@@ -9,31 +9,36 @@ use crate::random::desks::{prepared, with_psi_open};
 use crate::second::Second;
 use crate::values::Desk;
 
+/// Records on the prepared desk.
+const LINES: [&[u8]; 19] = [
+    b"F\tA\tB\tC",
+    b"I\tE\tF",
+    b"K\tA\t14\tA",
+    b"K\tB\t0\tB",
+    b"S\tA\tB",
+    b"W\tA\t1122",
+    b"L\tA",
+    b"L\tE",
+    b"C\tE",
+    b"T",
+    b"U",
+    b"P\tF\t2\t1",
+    b"W\tA\t11",
+    b"W\tD\t1",
+    b"W\tE\t1",
+    b"Y",
+    b"X",
+    b"X\tA\t2\t1\t3\t7",
+    b"X\tF\t9\t8\t15\t1",
+];
+
 pub fn of_every_length(calls: &dyn Calls) {
     let mut both = SideBySide::new(calls, &Desk::FRESH);
     let open = with_psi_open(&prepared(), b'A');
     let deep_image = [b"W\tA\t12", &[b'1'; 1022][..]].concat();
-    let lines: [&[u8]; 17] = [
-        b"F\tA\tB\tC",
-        b"I\tE\tF",
-        b"K\tA\t14\tA",
-        b"K\tB\t0\tB",
-        b"S\tA\tB",
-        b"W\tA\t1122",
-        &deep_image,
-        b"L\tA",
-        b"L\tE",
-        b"C\tE",
-        b"T",
-        b"U",
-        b"P\tF\t2\t1",
-        b"W\tA\t11",
-        b"W\tD\t1",
-        b"W\tE\t1",
-        b"X",
-    ];
     let on_open: [&[u8]; 4] = [b"E", b"M\t1\t1", b"T", b"M\t\t"];
-    let of_closed = lines.iter().map(|line| (prepared(), *line));
+    let lines = LINES.into_iter().chain([&deep_image[..]]);
+    let of_closed = lines.map(|line| (prepared(), line));
     let of_open = on_open.iter().map(|line| (open, *line));
     let of_fresh = [(Desk::FRESH, &b"U"[..]), (Desk::FRESH, b"T")];
     for (desk, line) in of_closed.chain(of_open).chain(of_fresh) {

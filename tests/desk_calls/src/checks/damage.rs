@@ -12,7 +12,7 @@ use crate::random::Rng;
 use crate::values::{Desk, BLOCKS, WORDS};
 
 /// Lines that would be done, refused, or be no record at all.
-const LINES: [&[u8]; 11] = [
+const LINES: [&[u8]; 12] = [
     b"T",
     b"U",
     b"",
@@ -23,6 +23,7 @@ const LINES: [&[u8]; 11] = [
     b"W\tA\t1",
     b"P\tA\t2\t1",
     b"K\tA\t0\tB",
+    b"X\tA\t2\t1\t3\t7",
     &[b'1'; 1101],
 ];
 

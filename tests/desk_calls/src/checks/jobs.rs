@@ -1,10 +1,10 @@
-//! Records without text: every letter, every number in the fields of P, and
+//! Records without text: every letter, every number in the fields of P and X, and
 //! long chains of jobs.
 
 use super::side_by_side::SideBySide;
 use crate::calls::Calls;
 use crate::random::desks::{prepared, some_desk, with_psi_open};
-use crate::random::jobs::{any_job, some_job, EXPONENTS};
+use crate::random::jobs::{any_job, some_job, EXPONENTS, SEEDS};
 use crate::random::Rng;
 use crate::values::{Desk, Job};
 
@@ -42,8 +42,22 @@ pub fn in_chains(calls: &dyn Calls) {
         }
     }
     both.tally
-        .demand(10, &["0", "2", "3", "8", "9", "10", "11", "12", "16"]);
+        .demand(10, &["0", "2", "3", "8", "9", "10", "11", "12", "16", "17"]);
+    both.tally
+        .demand(10, &["X 0", "X 3", "X 5", "X 16", "X 17"]);
     both.tally.demand(2, &["7F"]);
+}
+
+/// K of these; a field that it doesn't have names a slot too.
+fn power(a: u8, k: i32, b: u8) -> Job {
+    Job {
+        letter: b'K',
+        a,
+        b,
+        c: b'G',
+        k,
+        ..Job::default()
+    }
 }
 
 /// Every n and every r for P, and exponents at all limits, also of slots that
@@ -56,7 +70,7 @@ pub fn of_every_number(calls: &dyn Calls) {
         a,
         b,
         c,
-        k: 0,
+        ..Job::default()
     };
     for number in 0..=255 {
         for job in [
@@ -78,16 +92,87 @@ pub fn of_every_number(calls: &dyn Calls) {
         for operand in *b"ABCDFZ" {
             for target in *b"AFZ" {
                 both.start(&desk);
-                // a field that K doesn't have names a slot too
-                both.job(Job {
-                    letter: b'K',
-                    a: operand,
-                    b: target,
-                    c: b'G',
-                    k,
-                });
+                both.job(power(operand, k, target));
             }
         }
     }
     both.tally.demand(10, &["0", "3", "8", "9", "11", "12"]);
+}
+
+/// X of these numbers in this slot.
+fn exercise(a: u8, [n, r, splits]: [u8; 3], seed: u64) -> Job {
+    Job {
+        letter: b'X',
+        a,
+        b: n,
+        c: r,
+        // a field that X doesn't have
+        k: 1001,
+        seed,
+        splits,
+    }
+}
+
+/// Every slot, n, r and number of splits for X, more than a line has digits for
+/// too, and seeds at all limits; on desks at the limit of the count and not, and
+/// with a plan open.
+pub fn of_every_exercise(calls: &dyn Calls) {
+    let mut both = SideBySide::new(calls, &Desk::FRESH);
+    let mut full = prepared();
+    full.changes = 4_000_000_000;
+    for desk in [prepared(), full] {
+        for number in 0..=255 {
+            for job in [
+                exercise(b'A', [number, 1, 3], 7),
+                exercise(b'F', [2, number, 3], 7),
+                exercise(number, [2, 1, 3], 7),
+                exercise(b'E', [number, number, 200], 0),
+                exercise(b'A', [2, 1, number], 5),
+                exercise(b'G', [2, 9, number], 1246),
+                exercise(b'A', [3, 1, number], 22),
+                exercise(b'H', [9, 9, number], 2_147_483_646),
+                exercise(b'A', [9, 9, number], 0),
+            ] {
+                both.start(&desk);
+                both.job(job);
+            }
+        }
+        for seed in SEEDS {
+            for fields in [[2, 1, 3], [2, 1, 99], [3, 2, 100], [1, 1, 3], [9, 9, 255]] {
+                both.start(&desk);
+                both.job(exercise(b'B', fields, seed));
+                both.start(&with_psi_open(&desk, b'B'));
+                both.job(exercise(b'B', fields, seed));
+            }
+        }
+    }
+    both.tally.demand(
+        10,
+        &["X 0", "X 2", "X 3", "X 4", "X 5", "X 8", "X 16", "X 17"],
+    );
+}
+
+/// X in a line and by number, with the same fields: one answer and one desk.
+pub fn beside_lines(calls: &dyn Calls) {
+    let mut rng = Rng::new(403);
+    let mut both = SideBySide::new(calls, &Desk::FRESH);
+    for turn in 0..600 {
+        let desk = prepared();
+        let n = rng.between(1, 9) as u8;
+        let r = rng.between(if turn % 20 == 0 { 0 } else { 1 }, 9) as u8;
+        let splits = *rng.pick(&[0, 1, 2, 3, 5, 8, 13, 15, 99]);
+        let seed = match turn % 8 {
+            0 => *rng.pick(&[0, 1, 2_147_483_646, 2_147_483_647, 9_999_999_999]),
+            _ => 1 + rng.number() % 2_147_483_646,
+        };
+        both.start(&desk);
+        let line = format!("X\tC\t{n}\t{r}\t{splits}\t{seed}");
+        let said = both.line(line.as_bytes());
+        let after = *both.desk();
+        both.start(&desk);
+        let done = both.job(exercise(b'C', [n, r, splits], seed));
+        assert_eq!((said.number, said.column), (done.number, done.column));
+        assert_eq!(after, *both.desk(), "after {line}");
+    }
+    both.tally.demand(10, &["X 0", "X 3", "X 5", "X 17"]);
 }

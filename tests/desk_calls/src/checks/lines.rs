@@ -8,7 +8,7 @@ use crate::random::Rng;
 use crate::values::Desk;
 
 /// Records that are done on the prepared desk, and then one for an open plan.
-const RECORDS: [&[u8]; 14] = [
+const RECORDS: [&[u8]; 16] = [
     b"P\tF\t2\t1",
     b"F\tA\tB\tF",
     b"I\tA\tF",
@@ -21,6 +21,8 @@ const RECORDS: [&[u8]; 14] = [
     b"C\tA",
     b"T",
     b"U",
+    b"X\tF\t2\t1\t3\t7",
+    b"X\tA\t3\t2\t10\t2147483646",
     b"M\t1211\t2",
     b"E",
 ];
@@ -49,8 +51,10 @@ pub fn of_any_bytes(calls: &dyn Calls) {
             }
         }
     }
-    both.tally
-        .demand(10, &["0", "1", "2", "4", "8", "9", "a block"]);
+    both.tally.demand(
+        10,
+        &["0", "1", "2", "4", "8", "9", "a block", "X 0", "X 1", "X 8"],
+    );
 }
 
 /// The record with bytes 10, 0, 9, 13 and another put in at each place or
@@ -109,7 +113,7 @@ pub fn for_every_slot(calls: &dyn Calls) {
     let mut both = SideBySide::new(calls, &Desk::FRESH);
     let desk = prepared();
     for byte in 0..=255 {
-        let lines: [&[u8]; 13] = [
+        let lines: [&[u8]; 14] = [
             &[b'C', 9, byte],
             &[b'L', 9, byte],
             &[b'I', 9, byte, 9, b'F'],
@@ -123,6 +127,7 @@ pub fn for_every_slot(calls: &dyn Calls) {
             &[b'K', 9, b'B', 9, b'2', 9, byte],
             &[b'W', 9, byte, 9, b'1', b'2', b'1', b'1'],
             &[b'W', 9, byte, 9, b'1'],
+            &[b'X', 9, byte, 9, b'2', 9, b'1', 9, b'3', 9, b'7'],
         ];
         for line in lines {
             both.start(&desk);

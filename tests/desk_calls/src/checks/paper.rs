@@ -1,7 +1,7 @@
 //! The session of document 01 in full, with the replies that it and E1 give, in
-//! lines and as far as that goes in jobs; the slots of U in the order of E2; and
-//! what only calls refuse, in so many words. Nothing here asks the second
-//! implementation.
+//! lines and as far as that goes in jobs; the slots of U in the order of E2; two
+//! plans of X (E3) that were worked by hand, in tests/cases/README.md; and what only
+//! calls refuse, in so many words. Nothing here asks the second implementation.
 
 use crate::calls::Calls;
 use crate::values::{Desk, Done, Job, Written};
@@ -51,7 +51,14 @@ pub fn session(calls: &dyn Calls) {
 }
 
 pub fn session_in_jobs(calls: &dyn Calls) {
-    let job = |letter, a, b, c, k| Job { letter, a, b, c, k };
+    let job = |letter, a, b, c, k| Job {
+        letter,
+        a,
+        b,
+        c,
+        k,
+        ..Job::default()
+    };
     let mut desk = calls.fresh();
     let opened = calls.job(&mut desk, job(b'P', b'A', 2, 1, 0));
     assert_eq!(opened, Done::value(0));
@@ -133,6 +140,84 @@ pub fn survey(calls: &dyn Calls) {
     ] {
         reply(calls, &mut desk, line, said);
     }
+}
+
+/// The numbers of an X: n, r, s and the seed.
+type Exercise = (u8, u8, u8, u64);
+
+fn exercise_job(slot: u8, (n, r, splits, seed): Exercise) -> Job {
+    Job {
+        letter: b'X',
+        a: slot,
+        b: n,
+        c: r,
+        k: 0,
+        seed,
+        splits,
+    }
+}
+
+/// The plans that were worked by hand, by lines and by jobs, word by word; the
+/// refusals "17, .. after 8 and 3; then 5 and 4 ..; 16 last", in that order.
+pub fn exercises(calls: &dyn Calls) {
+    let mut desk = calls.fresh();
+    reply(calls, &mut desk, "X\tA\t2\t1\t2\t1", "ok\t2\n");
+    reply(calls, &mut desk, "X\tB\t2\t1\t3\t2147483646", "ok\t3\n");
+    assert_eq!(desk.columns[..3], [0x11, 0x12, 0]);
+    assert_eq!(desk.columns[128..131], [0x12, 0x11, 0]);
+    assert_eq!(desk.columns[256..260], [0x111, 0x112, 0x12, 0]);
+    assert_eq!(desk.columns[384..388], [0x121, 0x11, 0x122, 0]);
+    assert_eq!((desk.opened, desk.changes), (0, 2));
+    let mut again = calls.fresh();
+    for (slot, numbers, pairs) in [(b'A', (2, 1, 2, 1), 2), (b'B', (2, 1, 3, 2_147_483_646), 3)] {
+        let done = calls.job(&mut again, exercise_job(slot, numbers));
+        assert_eq!(done, Done::value(pairs));
+    }
+    assert_eq!(again, desk);
+    for (slot, numbers, number) in [
+        (b'@', (1, 1, 99, 0), 8),
+        (b'A', (1, 1, 99, 0), 3),
+        (b'A', (2, 10, 3, 1), 3),
+        (b'A', (9, 9, 255, 0), 17),
+        (b'A', (2, 1, 2, 2_147_483_647), 17),
+        (b'A', (2, 1, 2, (1 << 32) + 1), 17),
+        (b'A', (2, 1, 2, u64::MAX), 17),
+        (b'A', (3, 1, 99, 22), 5),
+        (b'A', (2, 1, 128, 1), 5),
+        (b'A', (2, 1, 99, 5), 4),
+        (b'A', (2, 1, 99, 19), 4),
+        (b'A', (2, 1, 2, 1), 16),
+    ] {
+        let mut full = desk;
+        full.changes = 4_000_000_000;
+        let before = full;
+        let done = calls.job(&mut full, exercise_job(slot, numbers));
+        assert_eq!(done, Done::refused(number, 0), "to {numbers:?}");
+        assert_eq!(full, before, "after {numbers:?}");
+    }
+}
+
+/// 2 for X in an open plan, which is dropped; 15 before all; 14 last, and the plan
+/// isn't kept then.
+pub fn exercises_refused(calls: &dyn Calls) {
+    let line = b"X\tB\t2\t1\t2\t1";
+    let mut open = calls.fresh();
+    reply(calls, &mut open, PLAN[0], "");
+    let mut out = [b'.'; 9];
+    let answer = calls.line(&mut open, line, &mut out);
+    assert_eq!((answer, open), (Written::refused(2, 0), Desk::FRESH));
+    for room in 0..5 {
+        let answer = calls.line(&mut open, line, &mut out[..room]);
+        assert_eq!((answer, open), (Written::refused(14, 0), Desk::FRESH));
+    }
+    let refused = calls.line(&mut open, b"X\tB\t2\t1\t2\t0", &mut []);
+    assert_eq!((refused, open), (Written::refused(17, 0), Desk::FRESH));
+    let mut no_desk = open;
+    no_desk.changes = 4_000_000_001;
+    let before = no_desk;
+    let done = calls.job(&mut no_desk, exercise_job(b'@', (0, 0, 255, 0)));
+    assert_eq!((done, no_desk), (Done::refused(15, 0), before));
+    assert_eq!(out, [b'.'; 9]);
 }
 
 /// "Library calls put 15 before all these"; "such a desk has no open plan to

@@ -9,8 +9,9 @@ use crate::random::desks::{prepared, with_psi_open};
 use crate::values::{Desk, Job};
 
 /// Refused on the prepared desk, or with a plan open there.
-const LINES: [&[u8]; 32] = [
+const LINES: [&[u8]; 41] = [
     b"",
+    b"Y",
     b"X",
     b"E\t",
     b"M\t1",
@@ -42,6 +43,14 @@ const LINES: [&[u8]; 32] = [
     b"W\tA\t11",
     b"W\tA\t13",
     b"W\tA\t",
+    b"X\tA\t2\t1\t3\t7",
+    b"X\tZ\t0\t0\t99\t0",
+    b"X\tA\t1\t1\t3\t0",
+    b"X\tA\t9\t9\t99\t0",
+    b"X\tA\t3\t1\t99\t22",
+    b"X\tA\t2\t1\t99\t5",
+    b"X\tA\t2\t1\t99\t19",
+    b"X\tA\t2\t1\t3\t07",
 ];
 
 pub fn one_after_another(calls: &dyn Calls) {
@@ -70,7 +79,8 @@ pub fn one_after_another(calls: &dyn Calls) {
     both.tally.demand(
         1,
         &[
-            "0", "1", "2", "3", "4", "5", "6F", "7F", "8", "9", "10", "11", "12", "16",
+            "0", "1", "2", "3", "4", "5", "6F", "7F", "8", "9", "10", "11", "12", "16", "17",
+            "X 1", "X 2", "X 3", "X 4", "X 5", "X 8", "X 16", "X 17",
         ],
     );
 }

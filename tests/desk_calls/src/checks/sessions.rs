@@ -14,9 +14,14 @@ use crate::random::Rng;
 use crate::values::Desk;
 
 /// Every answer that a sound desk can get, and blocks of W.
-const ANSWERS: [&str; 18] = [
+const ANSWERS: [&str; 19] = [
     "0", "1", "2", "3", "4", "5", "6F", "6T", "7F", "7T", "8", "9", "10", "11", "12", "14", "16",
-    "a block",
+    "17", "a block",
+];
+
+/// The answers to X alone.
+const EXERCISES: [&str; 9] = [
+    "X 0", "X 1", "X 2", "X 3", "X 4", "X 5", "X 8", "X 16", "X 17",
 ];
 
 pub fn of_lines(calls: &dyn Calls) {
@@ -25,6 +30,7 @@ pub fn of_lines(calls: &dyn Calls) {
         run(calls, seed, 0, &mut tally);
     }
     tally.demand(10, &ANSWERS);
+    tally.demand(5, &EXERCISES);
     tally.demand(10, SURVEYS);
 }
 
@@ -34,6 +40,7 @@ pub fn with_jobs(calls: &dyn Calls) {
         run(calls, seed, 25, &mut tally);
     }
     tally.demand(10, &ANSWERS);
+    tally.demand(5, &EXERCISES);
     tally.demand(10, SURVEYS);
 }
 

@@ -101,6 +101,7 @@ impl<'a> SideBySide<'a> {
             self.expected
         );
         self.count_lines(line, &room[GUARD..GUARD + answer.length]);
+        self.count_exercise(line.starts_with(b"X\t"), answer.number);
         self.count(answer.number, answer.column);
         answer
     }
@@ -117,8 +118,14 @@ impl<'a> SideBySide<'a> {
             self.desk,
             self.expected
         );
+        self.count_exercise(job.letter == b'X', answer.number);
         self.count(answer.number, answer.column);
         answer
+    }
+
+    /// Counts an answer to X by itself: most of its numbers others have too.
+    fn count_exercise(&mut self, is: bool, number: u8) {
+        self.tally.count_if(is, &format!("X {number}"));
     }
 
     /// Counts what the lines of a reply show: a block of W, slots of U that don't

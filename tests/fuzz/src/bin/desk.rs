@@ -7,7 +7,7 @@
 
 use desk_calls::checks::side_by_side::{SideBySide, AMPLE};
 use desk_calls::{Calls, Desk, Job, Library, Second};
-use fuzz::{exponent, harness, lines};
+use fuzz::{exponent, harness, lines, sum};
 use reference::COUNT_LIMIT;
 
 harness!(tried);
@@ -28,7 +28,7 @@ fn tried(input: &[u8]) {
 /// Whether a line is handed over as a job: one in four of those that have one.
 /// Of the others few are, since a job that is refused drops the open plan.
 fn is_job(line: &[u8], chance: usize) -> bool {
-    let has_job = matches!(line, [letter, ..] if b"PEFIKSCT".contains(letter));
+    let has_job = matches!(line, [letter, ..] if b"PEFIKSCTX".contains(letter));
     chance % if has_job { 4 } else { 256 } == 0
 }
 
@@ -50,17 +50,29 @@ fn room(rehearsal: &Second, both: &SideBySide, line: &[u8], chance: usize) -> us
 }
 
 /// The job that a line says, whatever it says: its letter, and the first byte of
-/// each field, of the numbers of P their value.
+/// each field, of the numbers of P and X their value.
 fn job(line: &[u8]) -> Job {
     let fields: Vec<&[u8]> = line.split(|byte| *byte == b'\t').collect();
     let field = |place: usize| fields.get(place).copied().unwrap_or(b"");
     let [letter, a, b, c] = [0, 1, 2, 3].map(|place| field(place).first().copied().unwrap_or(0));
     let (b, c, k) = match letter {
-        b'P' => (b.wrapping_sub(b'0'), c.wrapping_sub(b'0'), 0),
+        b'P' | b'X' => (b.wrapping_sub(b'0'), c.wrapping_sub(b'0'), 0),
         b'K' => (c, 0, exponent(field(2))),
         _ => (b, c, 0),
     };
-    Job { letter, a, b, c, k }
+    let number = |field: &[u8]| -> u64 {
+        let said = std::str::from_utf8(field).ok().and_then(|n| n.parse().ok());
+        said.unwrap_or(sum(field))
+    };
+    Job {
+        letter,
+        a,
+        b,
+        c,
+        k,
+        seed: number(field(5)),
+        splits: number(field(4)) as u8,
+    }
 }
 
 /// Changes to a slot of the desk, or to its open plan, three bytes for each:

@@ -5,7 +5,7 @@
 use crate::prepared::{check, check_on, prepared};
 
 /// Letters that no record has; the first two lines have an empty one.
-const UNKNOWN_LETTERS: &[&str] = &["", " ", "X", "p A 2 1", "PP A 2 1", "\r", "T\r", "\0", "tt"];
+const UNKNOWN_LETTERS: &[&str] = &["", " ", "Y", "p A 2 1", "PP A 2 1", "\r", "T\r", "\0", "tt"];
 
 /// Records with a field too few or too many.
 const WRONG_NUMBERS_OF_FIELDS: &[&str] = &[
@@ -34,6 +34,8 @@ const WRONG_NUMBERS_OF_FIELDS: &[&str] = &[
     "T T",
     "U ",
     "U A",
+    "X",
+    "X A 2 1 3",
 ];
 
 /// Slot fields of no byte or of two.

@@ -1,9 +1,10 @@
 //! The checks of the second implementation: the paper's own cases, every
 //! refusal in its order, the mathematics on random plans of all shapes, the
-//! order of U's lines, and the reading of input in pieces.
+//! order of U's lines, the plans of X, and the reading of input in pieces.
 
 mod bases;
 mod blocks;
+mod exercises;
 mod following;
 mod forms;
 mod group;

@@ -21,7 +21,7 @@ fn some_record(session: &mut Session) -> Vec<Vec<u8>> {
     let a = name(session.held_slot());
     let b = name(session.held_slot());
     let c = name(session.some_slot());
-    let fields: Vec<&[u8]> = match session.rng.below(12) {
+    let fields: Vec<&[u8]> = match session.rng.below(13) {
         0 => vec![b"P", a, b"2", b"1"],
         1 => vec![b"M", b"11", b"12"],
         2 => vec![b"E"],
@@ -33,6 +33,7 @@ fn some_record(session: &mut Session) -> Vec<Vec<u8>> {
         8 => vec![b"L", a],
         9 => vec![b"C", c],
         10 => vec![b"T"],
+        11 => vec![b"X", c, b"2", b"1", b"3", b"7"],
         _ => vec![b"U"],
     };
     fields.into_iter().map(<[u8]>::to_vec).collect()
@@ -70,7 +71,7 @@ pub fn wrong_form(session: &mut Session) {
     let bad = *session.rng.pick(BAD_NUMBERS);
     let bad_power = *session.rng.pick(BAD_POWERS);
     let wide = *session.rng.pick(WIDE_SLOTS);
-    match session.rng.below(9) {
+    match session.rng.below(12) {
         0 | 1 => session.record(&[b"K", letter, bad_power, letter]),
         2 => session.record(&[b"P", letter, bad, b"1"]),
         3 => session.record(&[b"P", letter, b"2", bad]),
@@ -78,8 +79,11 @@ pub fn wrong_form(session: &mut Session) {
         5 => session.record(&[b"I", wide, letter]),
         6 => session.record(&[b"K", wide, b"1001", letter]),
         7 => session.record(&[b"W", wide, b""]),
+        8 => session.record(&[b"X", letter, bad, b"1", b"3", b"7"]),
+        9 => session.record(&[b"X", letter, b"2", bad, b"3", b"0"]),
+        10 => session.record(&[b"X", wide, b"2", b"1", b"99", b"5"]),
         _ => {
-            let unknown = *session.rng.pick(b"ABDGHJNOQRVXYZptu0 ");
+            let unknown = *session.rng.pick(b"ABDGHJNOQRVYZptux0 ");
             session.record(&[&[unknown], letter]);
         }
     }

@@ -1,8 +1,10 @@
 //! The records that a desk has to refuse, or nearly: plans spoiled a little
 //! and records in the middle of an open plan stand here, the limits and the
 //! first value beyond each in `limits`, wrong forms of records in `forms`, and
-//! wrong values of a right form in `values`.
+//! wrong values of a right form in `values`, and what is wrong with an X in
+//! `exercises`.
 
+mod exercises;
 mod forms;
 mod limits;
 mod values;
@@ -17,7 +19,7 @@ const BAD_SLOTS: &[&[u8]] = &[
 
 /// One record or a few that are wrong in some way.
 pub fn step(session: &mut Session) {
-    match session.rng.below(12) {
+    match session.rng.below(14) {
         0 | 1 => interrupted_plan(session),
         2 => limits::boundary(session),
         3 => limits::long_line(session),
@@ -27,6 +29,7 @@ pub fn step(session: &mut Session) {
         8 => values::wrong_slots(session),
         9 => values::wrong_code(session),
         10 => values::empty_slots(session),
+        11 | 12 => exercises::step(session),
         _ => values::wrong_opening(session),
     }
 }
@@ -68,7 +71,7 @@ fn short_plan(session: &mut Session, shape: Shape) -> Vec<Row> {
 
 fn interruption(session: &mut Session, slot: usize) {
     let letter = name(slot);
-    match session.rng.below(14) {
+    match session.rng.below(16) {
         0 => session.record(&[b"T"]),
         1 => session.record(&[b"U"]),
         2 => session.record(&[b"L", letter]),
@@ -82,6 +85,7 @@ fn interruption(session: &mut Session, slot: usize) {
         10 => session.record(&[b"M", b"", b"1"]),
         11 => session.record(&[b"E"]),
         12 => session.record(&[b""]),
+        13 | 14 => exercises::interrupting(session, letter),
         _ => forms::wrong_form(session),
     }
 }

@@ -15,7 +15,8 @@ pub use bases::{basis, some_splits};
 pub use kinds::{any_plan, deep_plan, padded, permutation, rings};
 pub use near_miss::near_miss;
 pub use turning::{turning_plan, turning_splits, Blocks};
-pub use words::{digit, random_code, wrong_digit, Row, Shape, Word, MOST_PAIRS};
+pub use words::{any_shape, digit, random_code, wrong_digit};
+pub use words::{Row, Shape, Word, MOST_EXERCISED, MOST_PAIRS};
 
 use crate::rng::Rng;
 use kinds::{growing_plan, identity, twisted};

@@ -10,6 +10,8 @@ pub type Row = (Word, Word);
 
 /// The most pairs a plan holds.
 pub const MOST_PAIRS: usize = 128;
+/// The most splits that X has two digits for.
+pub const MOST_EXERCISED: usize = 99;
 /// The most digits a word of a plan has.
 pub const MOST_DIGITS: usize = 16;
 
@@ -28,6 +30,14 @@ impl Shape {
 
     pub fn belts(self) -> Vec<Word> {
         (1..=self.r).map(|belt| vec![digit(belt)]).collect()
+    }
+}
+
+/// Any of the shapes.
+pub fn any_shape(rng: &mut Rng) -> Shape {
+    Shape {
+        n: rng.between(2, 9),
+        r: rng.between(1, 9),
     }
 }
 

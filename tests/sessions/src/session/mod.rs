@@ -1,9 +1,10 @@
 //! The course of a session: it loads a few plans and then takes steps, chosen
-//! by weight, that load plans (`loading`), work on them and ask about them
-//! (`operations`), or bring what a desk has to refuse (`mischief`). A book
-//! (`book`) says what the slots are thought to hold.
+//! by weight, that load plans (`loading`) or have X make them (`exercises`), work
+//! on them and ask about them (`operations`), or bring what a desk has to refuse
+//! (`mischief`). A book (`book`) says what the slots are thought to hold.
 
 mod book;
+mod exercises;
 mod loading;
 mod operations;
 #[cfg(test)]
@@ -85,7 +86,7 @@ impl Session {
 
     /// One step of the session, chosen by weight.
     fn step(&mut self) {
-        match self.rng.below(100) {
+        match self.rng.below(106) {
             0..=12 => self.load_some_plan(),
             13..=20 => mischief::load_near_miss(self),
             21..=34 => self.follow(),
@@ -100,6 +101,7 @@ impl Session {
             74 => self.turn_round(),
             75..=76 => self.survey(),
             77..=78 => self.record(&[b"T"]),
+            79..=84 => self.exercise(),
             _ => mischief::step(self),
         }
     }

@@ -101,7 +101,7 @@ impl Session {
     /// and with a wrong digit in one of them; sometimes of a plan that is loaded
     /// for the length of its words.
     pub(super) fn fronts(&mut self) {
-        let a = match self.rng.chance(20) {
+        let a = match self.rng.chance(30) {
             true => self.load_deep_plan(),
             false => self.held_slot(),
         };

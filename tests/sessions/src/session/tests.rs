@@ -23,7 +23,7 @@ fn a_seed_decides_its_session() {
 #[test]
 fn every_operation_and_every_shape_comes_up() {
     let lines = all_lines(0..72);
-    for letter in b"PMEFIKSWLCTU" {
+    for letter in b"PMEFIKSWLCTUX" {
         let found = lines.iter().any(|line| line.first() == Some(letter));
         assert!(found, "no record {}", *letter as char);
     }
@@ -92,6 +92,46 @@ fn surveys_come_up_behind_changes() {
         let behind = |pair: &&[Vec<u8>]| pair[0].first() == Some(&letter) && pair[1] == b"U";
         let found = lines.windows(2).filter(behind).count();
         assert!(found > 20, "{found} times U behind {}", letter as char);
+    }
+}
+
+/// X of every shape, with s and the seed at their ends and beyond, and records that
+/// use its plans.
+#[test]
+fn exercises_come_up() {
+    let lines = all_lines(0..200);
+    let fields = |line: &Vec<u8>| -> Vec<String> {
+        let fields = line.split(|&byte| byte == b'\t');
+        let text = |field: &[u8]| String::from_utf8_lossy(field).into_owned();
+        fields.map(text).collect()
+    };
+    let all: Vec<Vec<String>> = lines.iter().map(fields).collect();
+    let made: Vec<&Vec<String>> = all.iter().filter(|x| x[0] == "X" && x.len() == 6).collect();
+    for (n, r) in (2..=9).flat_map(|n| (1..=9).map(move |r| (n, r))) {
+        let shape = [n.to_string(), r.to_string()];
+        let found = made.iter().filter(|x| x[2..4] == shape).count();
+        assert!(found > 2, "{found} of shape {n}, {r}");
+    }
+    for splits in ["0", "1", "9", "10", "15", "99", "00", "07", "100", ""] {
+        assert!(made.iter().any(|x| x[4] == splits), "no s {splits}");
+    }
+    for seed in [
+        "0",
+        "1",
+        "2147483646",
+        "2147483647",
+        "4294967297",
+        "9999999999",
+        "00",
+        "10000000000",
+        "",
+    ] {
+        assert!(made.iter().any(|x| x[5] == seed), "no seed {seed}");
+    }
+    for letter in ["L", "W", "I", "F", "K", "S", "U", "T"] {
+        let behind = |pair: &&[Vec<String>]| pair[0][0] == "X" && pair[1][0] == letter;
+        let found = all.windows(2).filter(behind).count();
+        assert!(found > 20, "{found} times {letter} behind X");
     }
 }
 
