@@ -1,5 +1,5 @@
--- Demand 2: what E, F, I, K, W and S do when they are not refused, by higman's theorems; the other records are in Replies.antt. From
--- what an operation passed it is read off which steps it took.
+-- Demand 2: what E, F, I, K, W and S do when they are not refused, by higman's theorems; X is in Exercises.antt, and the other records are
+-- in Replies.antt. From what an operation passed it is read off which steps it took.
 use Prim.Native.Nat.{ℕ, _<_}
 use mathlib.Core.Path.{_≡_, refl, sym, _∙_, ap, subst}
 use mathlib.Core.Logic.{_⊎_, inl, inr, _↔_}

@@ -22,6 +22,6 @@ demands =
       group = plans-are-automorphisms;
       results = results-reduced;
       minimal = minimal-expansion;
-      exercises = exercises-exact;
+      plans-by-numbers = exercises-exact;
       sessions = session-exact;
     }

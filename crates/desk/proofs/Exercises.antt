@@ -18,13 +18,14 @@ use Rattle.higman.proofs.KeptPlans.{in-range, arity-of-range}
 use Rattle.higman.proofs.Statements.{normal-form}
 use Rattle.higman.proofs.Exercises.{exercise-cases, exercises-exact}
 use Rattle.desk.specs.Limits.{maxChanges}
-use Rattle.desk.specs.Desk.{Desk, countOf, held, IsDesk}
-use Rattle.desk.specs.Records.{X, writing, slotsNamed}
-use Rattle.desk.specs.Replies.{pass, Effect, ofAnswer, keepIn, job, operation}
+use Rattle.desk.specs.Desk.{Desk, countOf, held, IsDesk, changed, withDraft}
+use Rattle.desk.specs.Records.{E, X, writing, slotsNamed, isChange}
+use Rattle.desk.specs.Replies.{pass, Effect, atLimit, ofAnswer, keepIn, job, operation}
 use Rattle.desk.specs.Conditions.{Condition, outsideOf, conditions, firstOf, refusalOf, _if_}
-use Rattle.desk.specs.Demands.{Ready, ExerciseKept, ExercisesFixed}
+use Rattle.desk.specs.Demands.{Ready, withExercise, ExerciseKept, ExercisesFixed}
 use Rattle.desk.proofs.Outcomes.{Passes, stops, passes, passes-then, passed, test-held, passes-operation}
 use Rattle.desk.proofs.Stays.{slot-of-record}
+use Rattle.desk.proofs.OpenPlans.{close-pass}
 use Rattle.desk.proofs.Replies.{desk-parts}
 use Rattle.desk.proofs.Conditions.{first-condition}
 
@@ -43,10 +44,11 @@ record Exercised (d : Desk) (a : ℕ) (s : Shape) (k seed : ℕ) (e : Effect) : 
   granted : exercise s k seed ≡ Granted (exercisePlan s k seed)
   effect : e ≡ keepIn d (slotNumber a) (exercisePlan s k seed)
   slot : slotNumber a < slotCount
+  room : atLimit d ≡ false
 
 exercise-steps : (d : Desk) (a : ℕ) (s : Shape) (k seed : ℕ)
     → Passes (Exercised d a s k seed) (operation d (X a (s .arity) (s .roots) k seed))
-unfolding job slotsNamed
+unfolding job slotsNamed isChange
 exercise-steps d a s k seed =
     passes-operation d (X a (s .arity) (s .roots) k seed) (λ t. passes-then (test-held shapeOutside (shapeInRange s)) (λ _ y. passes-then
     (answer-granted (exercise s k seed))
@@ -58,7 +60,15 @@ exercise-steps d a s k seed =
       granted = g ∙ ap Granted u;
       effect = ap (keepIn d (slotNumber a)) u;
       slot = slot-of-record d (X a (s .arity) (s .roots) k seed) t (writing a) (List·Memᴰ·head refl);
+      room = t .room;
     }))))
+
+-- E on the same pairs: it accepts them, keeps the same plan and counts the same change, whatever was open
+as-typed : (d : Desk) (a : ℕ) (s : Shape) (k seed : ℕ) (e : Effect) → Exercised d a s k seed e → operation (withExercise d a s k seed) E ≡ pass e
+unfolding withDraft changed
+as-typed d a s k seed e x =
+    let accepted = exercises-exact .accepted s (arity-of-range s (x .in-range)) (in-range s (x .in-range) .roots-low) k seed in
+    close-pass (withExercise d a s k seed) _ refl accepted (x .room) ∙ ap pass (sym (x .effect))
 
 pub exercises : (d : Desk) (a : ℕ) (s : Shape) (k seed : ℕ) (e : Effect) → IsDesk d → operation d (X a (s .arity) (s .roots) k seed) ≡ pass e
     → ExerciseKept d a s k seed e
@@ -73,6 +83,7 @@ exercises d a s k seed e h o =
         kept = exercises-exact .kept s (x .in-range) k seed (exercisePlan s k seed) (x .granted);
       };
       acts = normal-form .acts s ways (exercised s k seed) bases;
+      as-typed = as-typed d a s k seed e x;
     }
 
 same-reply : (d c : Desk) (a n r s seed : ℕ) (e f : Effect) → operation d (X a n r s seed) ≡ pass e → operation c (X a n r s seed) ≡ pass f

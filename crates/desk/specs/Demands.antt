@@ -141,12 +141,7 @@ pub record KeptAsTyped (d : Desk) (o : Draft) (e : Effect) : Type 0 where
   pub kept : Kept (closed o)
   pub acts : (w v : Word) → T (isWord (o .shape) w) → image (o .rows) w ≡ some v → image (closed o .rows) w ≡ some v
 
--- no plan is open, and the count is below its limit
-pub record Ready (d : Desk) : Type 0 where
-  pub none-open : d .draft ≡ none
-  pub room : countOf d < maxChanges
-
--- F, I, K and X: the plan that is kept in slot c, from what the slots held before
+-- F, I, K and X: the plan that is kept in slot c, of F, I and K from what the slots held before
 pub record KeptIn (d : Desk) (c : ℕ) (e : Effect) (p : Plan) : Type 0 where
   pub effect : e ≡ (changed d (slotNumber c) (some p), okNumber (length (p .rows)))
   pub there : held (e .0) (slotNumber c) ≡ some p
@@ -158,10 +153,21 @@ RoutedBy p w d e =
     ((v : Word) × (image (p .rows) w ≡ some v) × (e ≡ (d, okWord v)))
     ⊎ ((image (p .rows) w ≡ none) × (e ≡ (d, okBlock (block (p .rows) w))))
 
--- X: the plan of its numbers is kept, and acts as the pairs that were made
+-- the desk with the pairs that X makes typed in for its slot, and not yet closed
+abbrev pub withExercise : Desk → ℕ → Shape → ℕ → ℕ → Desk
+withExercise d a s k seed = withDraft d (record { slot = slotNumber a; shape = s; rows = exercised s k seed })
+
+-- X: the plan of its numbers is kept and acts as the pairs that were made; and desk and reply are those of E, had the pairs been typed
 pub record ExerciseKept (d : Desk) (a : ℕ) (s : Shape) (k seed : ℕ) (e : Effect) : Type 0 where
   pub plan : KeptIn d a e (exercisePlan s k seed)
-  pub acts : (w v : Word) → T (isWord s w) → image (exercised s k seed) w ≡ some v → image (exercisePlan s k seed .rows) w ≡ some v
+  pub acts : (w v : Word) → T (isWord s w) → image (exercised s k seed) w ≡ some v
+      → image (exercisePlan s k seed .rows) w ≡ some v
+  pub as-typed : operation (withExercise d a s k seed) E ≡ pass e
+
+-- no plan is open, and the count is below its limit
+pub record Ready (d : Desk) : Type 0 where
+  pub none-open : d .draft ≡ none
+  pub room : countOf d < maxChanges
 
 -- "The plan is fixed by the five fields alone": where X is done on two desks, its reply is the same and it keeps the same in its slot;
 -- and where both are ready for a change, it is done on both or refused on both, with the same number.
@@ -225,5 +231,5 @@ pub record Demands : Type 1 where
   pub group : PlansAreAutomorphisms
   pub results : ResultsReduced
   pub minimal : MinimalExpansion
-  pub exercises : ExercisesExact
+  pub plans-by-numbers : ExercisesExact
   pub sessions : SessionExact

@@ -55,7 +55,7 @@ pub record IsDesk (d : Desk) : Type 0 where
   pub drafted : (o : Draft) → d .draft ≡ some o → IsDraft o
   pub counted : countOf d ≤ maxChanges
 
--- A change: what one slot holds from now on. No plan is open afterwards, and "E, F, I, K and C raise the count by one".
+-- A change: what one slot holds from now on. No plan is open afterwards, and "E, F, I, K and C raise the count by one", as X does.
 unfoldable pub changed : Desk → ℕ → Option Plan → Desk
 changed d i content = record { slots = set (d .slots) i content; draft = none; changes = countOf d + 1 }
 

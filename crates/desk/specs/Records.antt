@@ -281,7 +281,8 @@ unfolding parse grammar maxNumeral
 parse-example = refl
 
 -- s and the seed: 0 itself, the most digits, a digit too many and a leading zero
-parse-exercise-example : map parse (bytes "X\tA\t2\t1\t0\t9999999999" ∷ bytes "X\tA\t2\t1\t99\t0" ∷ bytes "X\tA\t2\t1\t100\t1" ∷ bytes "X\tA\t2\t1\t07\t1" ∷ bytes "X\tA\t2\t1\t7\t00" ∷ bytes "X\tA\t2\t1\t7\t10000000000" ∷ [])
+parse-exercise-example : map (λ l. parse (bytes "X\tA\t2\t1\t" ++ bytes l))
+    ("0\t9999999999" ∷ "99\t0" ∷ "100\t1" ∷ "07\t1" ∷ "7\t00" ∷ "7\t10000000000" ∷ [])
     ≡ some (X (byte "A") 2 1 0 9_999_999_999) ∷ some (X (byte "A") 2 1 99 0) ∷ none ∷ none ∷ none ∷ none ∷ []
 unfolding parse grammar maxNumeral maxSplitsNumeral maxSeedNumeral
 parse-exercise-example = refl

@@ -279,14 +279,16 @@ unfolding parse grammar maxLine
 recordOf-example = refl
 
 -- with a plan open: any record but M and E is refused with 2
-open-example : map (λ r. respond (withDraft freshDesk (newDraft (byte "A") (record { arity = 2; roots = 1 }))) r .1) (T ∷ U ∷ P (byte "A") 2 1 ∷ L (byte "A") ∷ M (bytes "1") (bytes "1") ∷ E ∷ [])
-    ≡ refuses 2 none ∷ refuses 2 none ∷ refuses 2 none ∷ refuses 2 none ∷ silent ∷ refuses 7 (some Letter.F) ∷ []
+open-example : map (λ r. respond (withDraft freshDesk (newDraft (byte "A") (record { arity = 2; roots = 1 }))) r .1) (T ∷ U ∷ P (byte "A") 2 1 ∷ L (byte "A") ∷ X (byte "I") 2 1 2 1 ∷ M (bytes "1") (bytes "1") ∷ E ∷ [])
+    ≡ refuses 2 none ∷ refuses 2 none ∷ refuses 2 none ∷ refuses 2 none ∷ refuses 2 none ∷ silent ∷ refuses 7 (some Letter.F) ∷ []
 unfolding _>>=_ respond operation job needsOpen slotsNamed isChange freshDesk withDraft slotCount isPlanWord maxPairs maxDigits verdict
     digitOf
 open-example = refl
 
--- X on a fresh desk: two pairs kept; a slot outside, a shape outside, a seed outside and 129 pairs, each before what follows it
-exercise-example : map (λ r. respond freshDesk r .1) (X (byte "A") 2 1 2 1 ∷ X (byte "I") 1 1 99 0 ∷ X (byte "A") 1 1 99 0 ∷ X (byte "A") 9 9 15 0 ∷ X (byte "A") 9 9 15 1 ∷ [])
+-- X on a fresh desk: two pairs kept; a slot outside, a shape outside, a seed outside and 199 pairs, of which one has a word of 17 digits,
+-- each before what follows it
+exercise-example : map (λ r. respond freshDesk r .1)
+    (X (byte "A") 2 1 2 1 ∷ X (byte "I") 1 1 99 0 ∷ X (byte "A") 1 1 99 0 ∷ X (byte "A") 3 1 99 0 ∷ X (byte "A") 3 1 99 22 ∷ [])
     ≡ okNumber 2 ∷ refuses 8 none ∷ refuses 3 none ∷ refuses 17 none ∷ refuses 5 none ∷ []
 unfolding _>>=_ respond operation job needsOpen slotsNamed isChange freshDesk changed slotCount shapeInRange seedInRange maxPairs maxDigits
     maxChanges exercise exercised grown shuffled drawn nextDraw keep normalForm normal joined
@@ -298,6 +300,12 @@ respondLine-example : map (λ l. respondLine freshDesk (bytes l) .1) ("" ∷ "T 
 unfolding _>>=_ respondLine lineOperation operation job needsOpen slotsNamed isChange parse grammar freshDesk slotCount maxLine
 respondLine-example = refl
 
+-- and 100 pairs with a word of 17 digits in the from column; that it is the only one is compared with the second implementation
+exercise-word-example : respond freshDesk (X (byte "A") 2 1 99 5) .1 ≡ refuses 4 none
+unfolding _>>=_ respond operation job needsOpen slotsNamed isChange freshDesk slotCount shapeInRange seedInRange maxPairs maxDigits
+    exercise exercised grown shuffled drawn nextDraw
+exercise-word-example = refl
+
 -- plans of shape (2,1), for examples
 abbrev plan21 : Table → Plan
 plan21 t = record { shape = record { arity = 2; roots = 1 }; rows = t }
@@ -306,10 +314,11 @@ plan21 t = record { shape = record { arity = 2; roots = 1 }; rows = t }
 abbrev fullCount : Desk
 fullCount = atCount (changed freshDesk 0 (some (plan21 ψ))) maxChanges
 
-full-count-example : map (λ r. respond fullCount r .1) (T ∷ C (byte "A") ∷ C (byte "B") ∷ I (byte "A") (byte "B") ∷ K (byte "A") (pos 1001) (byte "B") ∷ W (byte "A") (bytes "12") ∷ [])
-    ≡ okNumber 4_000_000_000 ∷ refuses 16 none ∷ refuses 9 none ∷ refuses 16 none ∷ refuses 12 none ∷ okWord (spell 122) ∷ []
+full-count-example : map (λ r. respond fullCount r .1) (T ∷ C (byte "A") ∷ C (byte "B") ∷ I (byte "A") (byte "B") ∷ K (byte "A") (pos 1001) (byte "B") ∷ X (byte "B") 2 1 2 1 ∷ X (byte "B") 2 1 2 0 ∷ W (byte "A") (bytes "12") ∷ [])
+    ≡ okNumber 4_000_000_000 ∷ refuses 16 none ∷ refuses 9 none ∷ refuses 16 none ∷ refuses 12 none ∷ refuses 16 none ∷ refuses 17 none ∷ okWord (spell 122) ∷ []
 unfolding _>>=_ respond operation job needsOpen slotsNamed isChange freshDesk changed slotCount maxChanges maxPower inverted inverse keep
-    normalForm normal joined routed isCode maxCode digitOf
+    normalForm normal joined routed isCode maxCode digitOf shapeInRange seedInRange maxPairs maxDigits exercise exercised grown shuffled drawn
+    nextDraw
 full-count-example = refl
 
 -- ψ in slot A and φ in slot B

@@ -158,7 +158,8 @@ abbrev job : ℕ → Job
 job letter = record { letter = letter; a = 65; b = 66; c = 67; k = pos 2; seed = 1; splits = 3 }
 
 -- K⇥A⇥2⇥B; X by its numbers; M is none of them
-jobRecord-example : map (λ b. jobRecord (job b)) (byte "K" ∷ byte "X" ∷ byte "M" ∷ []) ≡ pass (K 65 (pos 2) 66) ∷ pass (X 65 66 67 3 1) ∷ refuse 1 none ∷ []
+jobRecord-example : map (λ b. jobRecord (job b)) (byte "K" ∷ byte "X" ∷ byte "M" ∷ [])
+    ≡ pass (K 65 (pos 2) 66) ∷ pass (X 65 66 67 3 1) ∷ refuse 1 none ∷ []
 jobRecord-example = refl
 
 -- T on a fresh desk, with room for its reply and with too little

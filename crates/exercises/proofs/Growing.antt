@@ -10,7 +10,7 @@ use lib.Seq.{split-at}
 use Rattle.higman.specs.Words.{Shape, Word, count, child, children}
 use Rattle.higman.specs.Bases.{rootWords, all, longest}
 use Rattle.higman.specs.Limits.{maxDigits, fits}
-use Rattle.higman.specs.Exercises.{nextDraw, drawn, splitAt, grown}
+use Rattle.higman.specs.Exercises.{nextDraw, drawn, expandedAt, grown}
 use Rattle.higman.proofs.Tests.{so, T-of}
 use Rattle.higman.proofs.Columns.{fails}
 use Rattle.higman.proofs.Lengths.{longest-of-fits, fits-of-longest}
@@ -35,17 +35,17 @@ module _ (n : ℕ) (c : List Word) (place : ℕ) where
   abbrev there : Word
   there = getD c place []
 
-  split-lengths : longest (splitAt n c place) ≡ max (max (longest (take place c)) (longest (children n there))) (longest (drop (suc place) c))
+  split-lengths : longest (expandedAt n c place) ≡ max (max (longest (take place c)) (longest (children n there))) (longest (drop (suc place) c))
   split-lengths =
       let front = take place c ++ children n there in
       omega (arith, longest-append front (drop (suc place) c), longest-append (take place c) (children n there))
 
-  split-short : place < length c → longest (splitAt n c place) ≤ max (longest c) (suc (length there))
+  split-short : place < length c → longest (expandedAt n c place) ≤ max (longest c) (suc (length there))
   split-short h =
       let whole : longest c ≡ longest (take place c ++ there ∷ drop (suc place) c) = ap longest (split-at c place [] h) in
       omega (arith, split-lengths, whole, longest-append (take place c) (there ∷ drop (suc place) c), parts-short there 1 n)
 
-  split-long : 1 ≤ n → suc (length there) ≤ longest (splitAt n c place)
+  split-long : 1 ≤ n → suc (length there) ≤ longest (expandedAt n c place)
   split-long h = omega (arith, split-lengths, parts-long there n h)
 
 -- the belts fit
@@ -59,9 +59,9 @@ belts-fit s x = omega (arith, limit, belts-short 1 (s .roots))
 
 module _ (s : Shape) (n : 1 ≤ s .arity) (r : 1 ≤ s .roots) (x k : ℕ) where
   -- the place of the next split, where y is the next draw
-  pub next-column : (y : ℕ) → y ≡ nextDraw (drawn x k) → grown s x (suc k) ≡ splitAt (s .arity) (grown s x k) (y % length (grown s x k))
+  pub next-column : (y : ℕ) → y ≡ nextDraw (drawn x k) → grown s x (suc k) ≡ expandedAt (s .arity) (grown s x k) (y % length (grown s x k))
   unfolding grown drawn
-  next-column y e = ap (λ z. splitAt (s .arity) (grown s x k) (z % length (grown s x k))) (sym e)
+  next-column y e = ap (λ z. expandedAt (s .arity) (grown s x k) (z % length (grown s x k))) (sym e)
 
   pub next-draw : (y : ℕ) → y ≡ nextDraw (drawn x k) → y ≡ drawn x (suc k)
   unfolding drawn

@@ -2,26 +2,25 @@
 -- words of each column, and by the columns that are left at the end.
 use Prim.Native.Nat.{ℕ, _+_, _*_, _-_, _≤_, _<_}
 use mathlib.Core.Path.{_≡_, refl, sym, _∙_, ap, ap₂, subst}
-use mathlib.Core.Bool.{Bool, true, false}
+use mathlib.Core.Bool.{true, false}
 use mathlib.Core.List.{List, [], _∷_}
 use native.Mathlib.Omega.{arith}
-use borrow.Author.Tests.{le-leb, lt-leb}
-use lib.Dec.{T, leb}
+use lib.Dec.{T}
 use lib.ListN.{length, length-map}
-use Rattle.higman.specs.Words.{Shape, Word}
-use Rattle.higman.specs.Bases.{all, longest}
+use Rattle.higman.specs.Words.{Shape}
+use Rattle.higman.specs.Bases.{all}
 use Rattle.higman.specs.Tables.{froms, tos}
 use Rattle.higman.specs.Normal.{ordered}
-use Rattle.higman.specs.Limits.{shapeInRange, seedInRange, pairFits, fits, maxPairs, maxDigits}
-use Rattle.higman.specs.Answers.{Answer, Granted, Refused, SeedOutside, TooManyPairs, WordTooLong}
+use Rattle.higman.specs.Limits.{shapeInRange, seedInRange, pairFits, fits, maxPairs}
 use Rattle.higman.specs.Refusals.{badWord, pairsFull, seedOutside}
-use Rattle.higman.specs.Exercises.{grown, fromColumn, splitBelts, toColumn, paired, exercised, exercisePlan, exercise}
-use Rattle.higman.proofs.Tests.{so, T-of, clash}
+use Rattle.higman.specs.Exercises.{grown, fromColumn, unshuffled, toColumn, paired, exercised, exercisePlan, exercise}
+use Rattle.higman.proofs.Tests.{T-of, clash}
 use Rattle.higman.proofs.Columns.{fails, column-is-basis}
 use Rattle.higman.proofs.KeptPlans.{in-range, arity-of-range}
-use Rattle.higman.proofs.Lengths.{longest-of-fits, fits-of-longest}
+use Rattle.higman.proofs.Lengths.{longest-of-fits}
 use Rattle.higman.proofs.Splits.{grown-size, grown-ordered}
-use Rattle.higman.proofs.Exercises.{columns-alike, exercised-froms, exercised-tos, exercised-size, exercised-bases, exercised-fits, fits-of-columns}
+use Rattle.higman.proofs.Exercises.{columns-alike, exercised-froms, exercised-bases, exercised-fits, fits-of-columns}
+use Rattle.higman.proofs.Exercises.{seed-first, then-pairs, then-words, else-granted}
 use Rattle.words.specs.Packed.{unpack}
 use Rattle.columns.specs.Packed.{wordsOf, table}
 use Rattle.tables.specs.Reduction.{Reducible}
@@ -43,63 +42,34 @@ module _ (s : Shape) (range : T (shapeInRange s)) (k seed : ℕ) where
   belts : 1 ≤ s .roots
   belts = in-range s range .roots-low
 
-  -- the answer by what its three tests find
-  answerBy : Bool → Bool → Bool → Answer
-  answerBy a b c =
-      elim a [
-        | false ↦ Refused SeedOutside
-        | true ↦ elim b [ false ↦ Refused TooManyPairs | true ↦ elim c [ false ↦ Refused WordTooLong | true ↦ Granted (exercisePlan s k seed) ] ]
-      ]
-
-  by-tests : (a b c : Bool) → seedInRange seed ≡ a → leb (length (exercised s k seed)) maxPairs ≡ b → all pairFits (exercised s k seed) ≡ c
-      → exercise s k seed ≡ answerBy a b c
-  unfolding exercise answerBy
-  by-tests a b c e f g =
-      let many = leb (length (exercised s k seed)) maxPairs in
-      let long = all pairFits (exercised s k seed) in
-      ap (λ x. answerBy x many long) e ∙ ap (λ x. answerBy a x long) f ∙ ap (answerBy a b) g
-
   pub refused-seed : seedInRange seed ≡ false → making (exercise s k seed) ≡ refusing seedOutside
-  unfolding answerBy
-  refused-seed e = ap making (by-tests false _ _ e refl refl)
+  refused-seed e = ap making (seed-first s k seed e)
 
-  module _ (e : seedInRange seed ≡ true) where
+  module _ (e : T (seedInRange seed)) where
     pub refused-pairs : maxPairs < s .roots + k * (s .arity - 1) → making (exercise s k seed) ≡ refusing pairsFull
-    unfolding answerBy
-    refused-pairs h =
-        let many = lt-leb (length (exercised s k seed)) maxPairs (omega (arith, exercised-size s ways belts k seed)) in
-        ap making (by-tests true false _ e many refl)
+    refused-pairs h = ap making (then-pairs s ways belts k seed e h)
 
     module _ (h : s .roots + k * (s .arity - 1) ≤ maxPairs) where
-      few : leb (length (exercised s k seed)) maxPairs ≡ true
-      few = le-leb (length (exercised s k seed)) maxPairs (omega (arith, exercised-size s ways belts k seed))
-
       -- a column that is grown has room
       pub grown-room : (x : ℕ) → length (grown s x k) ≤ maxPairs
       grown-room x = omega (arith, grown-size s ways belts x k)
 
-      refused-words : all pairFits (exercised s k seed) ≡ false → making (exercise s k seed) ≡ refusing badWord
-      unfolding answerBy
-      refused-words g = ap making (by-tests true true false e few g)
+      refused-words : (T (all pairFits (exercised s k seed)) → ⊥) → making (exercise s k seed) ≡ refusing badWord
+      refused-words g =
+          ap making (then-words s ways belts k seed e h (fails (all pairFits (exercised s k seed)) (λ t. g (T-of t))))
 
       pub refused-from : all fits (fromColumn s k seed) ≡ false → making (exercise s k seed) ≡ refusing badWord
-      refused-from g =
-          refused-words (fails (all pairFits (exercised s k seed)) (λ t. clash
-          (fitting (fromColumn s k seed) (exercised-fits s ways belts k seed (T-of t) .0)) g))
+      refused-from g = refused-words (λ t. clash (fitting (fromColumn s k seed) (exercised-fits s ways belts k seed t .0)) g)
 
-      pub refused-to : all fits (splitBelts s k seed) ≡ false → making (exercise s k seed) ≡ refusing badWord
-      refused-to g =
-          refused-words (fails (all pairFits (exercised s k seed)) (λ t. clash
-          (fitting (splitBelts s k seed) (exercised-fits s ways belts k seed (T-of t) .1)) g))
+      pub refused-to : all fits (unshuffled s k seed) ≡ false → making (exercise s k seed) ≡ refusing badWord
+      refused-to g = refused-words (λ t. clash (fitting (unshuffled s k seed) (exercised-fits s ways belts k seed t .1)) g)
 
-      pub made : all fits (fromColumn s k seed) ≡ true → all fits (splitBelts s k seed) ≡ true
+      pub made : all fits (fromColumn s k seed) ≡ true → all fits (unshuffled s k seed) ≡ true
           → making (exercise s k seed) ≡ granting (packed (exercisePlan s k seed))
-      unfolding answerBy
       made f g =
           let from = longest-of-fits (fromColumn s k seed) (T-of f) in
-          let to = longest-of-fits (splitBelts s k seed) (T-of g) in
-          let all-fit = so (all pairFits (exercised s k seed)) (fits-of-columns s ways belts k seed from to) in
-          ap making (by-tests true true true e few all-fit)
+          let to = longest-of-fits (unshuffled s k seed) (T-of g) in
+          ap making (else-granted s ways belts k seed e h (fits-of-columns s ways belts k seed from to))
 
   -- the columns at the end
   module _ (keys values : List ℕ) (from : wordsOf keys ≡ fromColumn s k seed) (to : wordsOf values ≡ toColumn s k seed) where

@@ -6,7 +6,7 @@ use native.Mathlib.Omega.{arith}
 use lib.ListN.{length, getD, take, drop, length-append, length-take, length-drop, List·getD-map}
 use lib.Seq.{paste, take-at, drop-at, take-append-le, drop-append-le, length-take-le, take-take, take-add, getD-take}
 use Rattle.higman.specs.Words.{Word, count, child, children}
-use Rattle.higman.specs.Exercises.{splitAt}
+use Rattle.higman.specs.Exercises.{expandedAt}
 use Rattle.words.specs.Packed.{unpack}
 use Rattle.words.proofs.Packing.{unpack-zero}
 use Rattle.columns.specs.Packed.{wordsOf}
@@ -50,7 +50,7 @@ module _ (column parts : List ℕ) (words place n : ℕ) (listed : place < words
 
   pub split-words : wordsOf (take (place + n) parts) ≡ wordsOf (take place moved) ++ children n (wordAt column place)
       → drop (place + n) parts ≡ drop (place + n) moved
-      → wordsOf (take (words + (n - 1)) parts) ≡ splitAt n (wordsOf (take words column)) place
+      → wordsOf (take (words + (n - 1)) parts) ≡ expandedAt n (wordsOf (take words column)) place
   unfolding left
   split-words front back =
       let size : words + (n - 1) ≡ (place + n) + left = omega arith in

@@ -11,7 +11,7 @@ use lib.ListN.{length, getD, take}
 use Rattle.higman.specs.Words.{Shape}
 use Rattle.higman.specs.Bases.{all, longest}
 use Rattle.higman.specs.Limits.{maxDigits, fits, shapeInRange}
-use Rattle.higman.specs.Exercises.{nextDraw, drawn, splitAt, grown}
+use Rattle.higman.specs.Exercises.{nextDraw, drawn, expandedAt, grown}
 use Rattle.higman.proofs.KeptPlans.{in-range, arity-of-range}
 use Rattle.higman.proofs.Splits.{grown-nonempty}
 use Rattle.columns.specs.Packed.{wordsOf}
@@ -59,13 +59,13 @@ module _ (s : Shape) (range : T (shapeInRange s)) (x : ℕ) (column : List ℕ) 
 
     -- it is split
     pub grown-on : length (wordAt column (y % words)) < maxDigits → (column′ : List ℕ)
-        → wordsOf (take (words + (s .arity - 1)) column′) ≡ splitAt (s .arity) (wordsOf (take words column)) (y % words)
+        → wordsOf (take (words + (s .arity - 1)) column′) ≡ expandedAt (s .arity) (wordsOf (take words column)) (y % words)
         → Growing s x column′ (words + (s .arity - 1)) y (k + 1)
     grown-on h column′ split =
         let after : Growing s x column′ (words + (s .arity - 1)) y (suc k) = record {
           counted = ap (λ n. n + (s .arity - 1)) (g .counted) ∙ sym (next-size s ways belts x k);
           draws = next-draw s ways belts x k y drawn-next;
-          holds = split ∙ ap₂ (λ c n. splitAt (s .arity) c (y % n)) (g .holds) (g .counted) ∙ sym (next-column s ways belts x k y drawn-next);
+          holds = split ∙ ap₂ (λ c n. expandedAt (s .arity) c (y % n)) (g .holds) (g .counted) ∙ sym (next-column s ways belts x k y drawn-next);
           short = next-fit s ways belts x k y drawn-next (g .short) (omega (arith, ap length same-word));
         } in
         subst (Growing s x column′ (words + (s .arity - 1)) y) (sym (add-one k)) after

@@ -1,5 +1,5 @@
 -- What is asked of a column of words that is split, grown or shuffled, and what comes of growing one. What is right is said by higman's
--- Exercises.antt: `splitAt`, `grown` and `shuffled`.
+-- Exercises.antt: `expandedAt`, `grown` and `shuffled`.
 use Prim.Native.Nat.{ℕ, _+_, _-_, _≤_, _<_}
 use mathlib.Core.Path.{_≡_}
 use mathlib.Core.Bool.{true}

@@ -5,7 +5,7 @@ ghost use Prim.Native.Nat.{_+_, _-_, _≤_};
 ghost use lib.ListN.{take, drop};
 ghost use lib.Seq.{paste};
 ghost use Rattle.higman.specs.Bases.{rootWords};
-ghost use Rattle.higman.specs.Exercises.{splitAt};
+ghost use Rattle.higman.specs.Exercises.{expandedAt};
 ghost use Rattle.words.specs.Bytes.{shape};
 ghost use Rattle.columns.specs.Packed.{wordsOf};
 ghost use Rattle.exercises.specs.Growing.{Moved, Splittable, Growable, GrownBy};
@@ -14,7 +14,8 @@ use operations::MAX_PAIRS;
 use operations::following;
 use words::MAX_DIGITS;
 
-// A column, the last draw that went into it, and whether its words are short enough for a plan; if not, neither is what it should be.
+// A column, the last draw that went into it, and whether its words are short enough for a plan; if not, both are as they were where a word
+// outgrew it.
 pub struct Grown {
     pub words: [u64; MAX_PAIRS],
     pub last: u64,
@@ -39,7 +40,7 @@ fn move_up(column: [u64; MAX_PAIRS], behind: usize, count: usize, to: usize) -> 
 // The word at a place split: its parts in its stead, and the words behind it moved up.
 fn split(column: [u64; MAX_PAIRS], count: usize, place: usize, arity: u8) -> [u64; MAX_PAIRS]
     requires { ⌜ Splittable column count place arity ⌝ }
-    ensures { λ r. ⌜ wordsOf (take (count + (arity - 1)) r) ≡ splitAt arity (wordsOf (take count column)) place ⌝ }
+    ensures { λ r. ⌜ wordsOf (take (count + (arity - 1)) r) ≡ expandedAt arity (wordsOf (take count column)) place ⌝ }
 {
     let w = column[place];
     let mut parts = move_up(column, place + 1, count, place + arity as usize);
@@ -51,8 +52,8 @@ fn split(column: [u64; MAX_PAIRS], count: usize, place: usize, arity: u8) -> [u6
     parts
 }
 
-// The belts, each a word of one digit.
-fn belts(roots: u8) -> [u64; MAX_PAIRS]
+// The roots, each a word of one digit.
+fn root_words(roots: u8) -> [u64; MAX_PAIRS]
     requires { ⌜ roots ≤ 9 ⌝ }
     ensures { λ r. ⌜ wordsOf (take roots r) ≡ rootWords (shape 0 roots) ⌝ }
 {
@@ -65,7 +66,7 @@ pub fn grow(arity: u8, roots: u8, splits: u8, draw: u64) -> Grown
     requires { ⌜ Growable (shape arity roots) draw splits ⌝ }
     ensures { λ r. ⌜ GrownBy (shape arity roots) draw splits r ⌝ }
 {
-    let mut column = belts(roots);
+    let mut column = root_words(roots);
     let mut count = roots as usize;
     let mut last = draw;
     let mut done: u8 = 0;

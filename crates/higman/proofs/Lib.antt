@@ -37,6 +37,7 @@ pub mod Draws
 pub mod Splits
 pub mod Shuffles
 pub mod Lengths
+pub mod Determined
 pub mod Exercises
 pub mod Codes
 pub mod Algebras

@@ -12,7 +12,7 @@ use lib.ListN.{length, getD, set, length-set}
 use lib.Seq.{getD-set-same, getD-set-other, lt-length-set}
 use borrow.Author.Tests.{eqb-true, eq-eqb}
 use Rattle.higman.specs.Words.{Word}
-use Rattle.higman.specs.Exercises.{nextDraw, exchanged, shuffled, Swapped, Shuffle, done, swap}
+use Rattle.higman.specs.Exercises.{nextDraw, exchanged, shuffled, Swapped, Shuffle, no-swap, swap}
 use Rattle.higman.proofs.Tests.{passes, clash}
 
 -- an exchange keeps the length
@@ -78,7 +78,7 @@ shuffled-permutes x c (suc i) h =
 
 pub shuffled-made : (x : ℕ) (c : List Word) (i : ℕ) → i < length c → Shuffle x c i (shuffled x c i)
 unfolding shuffled nextDraw
-shuffled-made x c zero h = done
+shuffled-made x c zero h = no-swap
 shuffled-made x c (suc i) h =
     let j = nextDraw x % (suc i + 1) in
     swap

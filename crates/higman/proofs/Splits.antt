@@ -14,7 +14,7 @@ use lib.Seq.{split-at, length-take-le}
 use Rattle.higman.specs.Words.{Shape, Word, count, digits, child, children}
 use Rattle.higman.specs.Bases.{rootWords, Expansion, longest}
 use Rattle.higman.specs.Normal.{ordered}
-use Rattle.higman.specs.Exercises.{nextDraw, drawn, splitAt, grown, drawAfter, Splits, none, split}
+use Rattle.higman.specs.Exercises.{nextDraw, drawn, expandedAt, grown, drawAfter, Splits, no-split, split}
 use Rattle.higman.proofs.Tests.{count-bounds}
 use Rattle.higman.proofs.Expansions.{length-of-expansion}
 use Rattle.higman.proofs.Ordered.{Before, BeforeAll, Sorted, test-of-sorted}
@@ -88,8 +88,8 @@ longest-split n h (v ∷ front) w back = omega (arith, longest-split n h front w
 
 -- one more split, behind those that are made
 split-on : {n x k y : ℕ} {c e : List Word} → Splits n x c k y e → (place : ℕ) → place < length e → ordered e ≡ true
-    → place ≡ drawAfter y % length e → Splits n x c (suc k) (drawAfter y) (splitAt n e place)
-split-on {n} {x} {c} none place h o p =
+    → place ≡ drawAfter y % length e → Splits n x c (suc k) (drawAfter y) (expandedAt n e place)
+split-on {n} {x} {c} no-split place h o p =
     let front = take place c in
     let w = getD c place [] in
     let back = drop (suc place) c in
@@ -97,7 +97,7 @@ split-on {n} {x} {c} none place h o p =
     subst
     (λ z. Splits n x z 1 (drawAfter x) (front ++ children n w ++ back))
     (sym e)
-    (split front w back (rw (← e) o) (length-take-le place c (omega arith) ∙ p ∙ ap (λ z. drawAfter x % length z) e) none)
+    (split front w back (rw (← e) o) (length-take-le place c (omega arith) ∙ p ∙ ap (λ z. drawAfter x % length z) e) no-split)
 split-on (split front w back o′ p′ rest) place h o p = split front w back o′ p′ (split-on rest place h o p)
 
 module _ (s : Shape) (n : 1 ≤ s .arity) (r : 1 ≤ s .roots) where
@@ -167,5 +167,5 @@ module _ (s : Shape) (n : 1 ≤ s .arity) (r : 1 ≤ s .roots) where
 
   pub grown-splits : (x k : ℕ) → Splits (s .arity) x (rootWords s) k (drawn x k) (grown s x k)
   unfolding grown drawn nextDraw
-  grown-splits x zero = none
+  grown-splits x zero = no-split
   grown-splits x (suc k) = split-on (grown-splits x k) (place x k) (place-inside x k (drawn x (suc k))) (grown-ordered x k) refl

@@ -24,15 +24,15 @@ unfoldable pub drawn : ℕ → ℕ → ℕ
 drawn seed zero = seed
 drawn seed (suc i) = nextDraw (drawn seed i)
 
--- the word at a place, "counted from zero", and "that word's n parts in its stead"
-abbrev pub splitAt : ℕ → List Word → ℕ → List Word
-splitAt n c place = take place c ++ children n (getD c place []) ++ drop (suc place) c
+-- A simple expansion: of the word at a place, "counted from zero", and "that word's n parts in its stead".
+abbrev pub expandedAt : ℕ → List Word → ℕ → List Word
+expandedAt n c place = take place c ++ children n (getD c place []) ++ drop (suc place) c
 
 -- "Start from the r belts. Do s splits: draw, take the draw modulo the number of words as a place": the column after s splits, by the
 -- draws that follow x
 unfoldable pub grown : Shape → ℕ → ℕ → List Word
 grown s x zero = rootWords s
-grown s x (suc k) = splitAt (s .arity) (grown s x k) (drawn x (suc k) % length (grown s x k))
+grown s x (suc k) = expandedAt (s .arity) (grown s x k) (drawn x (suc k) % length (grown s x k))
 
 -- a column with the words at two places swapped
 abbrev pub exchanged : List Word → ℕ → ℕ → List Word
@@ -44,15 +44,15 @@ unfoldable pub shuffled : ℕ → List Word → ℕ → List Word
 shuffled x c zero = c
 shuffled x c (suc i) = shuffled (nextDraw x) (exchanged c (suc i) (nextDraw x % (suc i + 1))) i
 
--- "Make the from column so, then the to column, drawing on."
+-- "Make the from column so, then the to column, drawing on." The to column is shuffled after that.
 abbrev pub fromColumn : Shape → ℕ → ℕ → List Word
 fromColumn s k seed = grown s seed k
 
-abbrev pub splitBelts : Shape → ℕ → ℕ → List Word
-splitBelts s k seed = grown s (drawn seed k) k
+abbrev pub unshuffled : Shape → ℕ → ℕ → List Word
+unshuffled s k seed = grown s (drawn seed k) k
 
 abbrev pub toColumn : Shape → ℕ → ℕ → List Word
-toColumn s k seed = shuffled (drawn seed (k + k)) (splitBelts s k seed) (length (splitBelts s k seed) - 1)
+toColumn s k seed = shuffled (drawn seed (k + k)) (unshuffled s k seed) (length (unshuffled s k seed) - 1)
 
 -- two columns, place by place
 abbrev pub paired : List Word → List Word → Table
@@ -87,7 +87,7 @@ exercise s k seed =
           ]
     ]
 
--- the draw that follows x, in the request's numbers
+-- the draw that follows x, once more in the request's numbers, so that what follows rests on none of the definitions above
 abbrev pub drawAfter : ℕ → ℕ
 drawAfter x = 16_807 * x % 2_147_483_647
 
@@ -95,7 +95,7 @@ drawAfter x = 16_807 * x % 2_147_483_647
 -- and the column behind them. "draw, take the draw modulo the number of words as a place in digit order counted from zero, and put that
 -- word's n parts in its stead"
 pub data Splits (n : ℕ) : ℕ → List Word → ℕ → ℕ → List Word → Type 0 where
-  none : {x : ℕ} {c : List Word} → Splits n x c 0 x c
+  no-split : {x : ℕ} {c : List Word} → Splits n x c 0 x c
   split : {x y k : ℕ} {c : List Word} (front : List Word) (w : Word) (back : List Word)
       → ordered (front ++ w ∷ back) ≡ true
       → length front ≡ drawAfter x % length (front ++ w ∷ back)
@@ -111,25 +111,26 @@ pub record Swapped (i j : ℕ) (c e : List Word) : Type 0 where
 
 -- "Then for i from the last place down to 1, draw and swap to-words i and draw modulo (i+1)."
 pub data Shuffle : ℕ → List Word → ℕ → List Word → Type 0 where
-  done : {x : ℕ} {c : List Word} → Shuffle x c 0 c
+  no-swap : {x : ℕ} {c : List Word} → Shuffle x c 0 c
   swap : {x i : ℕ} {c e f : List Word}
       → Swapped (suc i) (drawAfter x % (suc i + 1)) c e → Shuffle (drawAfter x) e i f → Shuffle x c (suc i) f
 
 -- A table is made as the request says: the from column, then the to column with the draws that follow, and then its shuffle.
 pub record ExerciseMade (s : Shape) (k seed : ℕ) (t : Table) : Type 0 where
-  pub second : ℕ
-  pub third : ℕ
-  pub column : List Word
-  pub from-column : Splits (s .arity) seed (rootWords s) k second (froms t)
-  pub to-column : Splits (s .arity) second (rootWords s) k third column
-  pub last-place : length column ≡ length (tos t)
-  pub shuffle : Shuffle third column (length column - 1) (tos t)
+  -- the last draw for the from column and the last for the to column, and the to-words before their shuffle
+  pub from-draw : ℕ
+  pub to-draw : ℕ
+  pub to-words : List Word
+  pub from-column : Splits (s .arity) seed (rootWords s) k from-draw (froms t)
+  pub to-column : Splits (s .arity) from-draw (rootWords s) k to-draw to-words
+  pub shuffle : Shuffle to-draw to-words (length to-words - 1) (tos t)
 
 pub record ExercisesExact : Type 0 where
   -- every draw is a seed in range again, for a seed in range
   pub draws : (seed : ℕ) → T (seedInRange seed) → (i : ℕ) → T (seedInRange (drawn seed i))
-  -- the plan is made as the request says
+  -- the plan is made as the request says, and no other table is
   pub made : (s : Shape) → 1 ≤ s .arity → 1 ≤ s .roots → (k seed : ℕ) → ExerciseMade s k seed (exercised s k seed)
+  pub determined : (s : Shape) (k seed : ℕ) (t u : Table) → ExerciseMade s k seed t → ExerciseMade s k seed u → t ≡ u
   -- a column has r + s(n−1) words, in digit order, and is an expansion of the belts; so both columns are bases
   pub size : (s : Shape) → 1 ≤ s .arity → 1 ≤ s .roots → (x k : ℕ) → length (grown s x k) ≡ s .roots + k * (s .arity - 1)
   pub in-order : (s : Shape) → 1 ≤ s .arity → 1 ≤ s .roots → (x k : ℕ) → ordered (grown s x k) ≡ true
@@ -142,7 +143,18 @@ pub record ExercisesExact : Type 0 where
   -- a shuffle is a permutation
   pub permutes : (x : ℕ) (c : List Word) (i : ℕ) → i < length c → List·Permᴰ (shuffled x c i) c
   -- a word that is too long stays so, or has parts that are, whatever is split after it
-  pub outgrown : (s : Shape) → 1 ≤ s .arity → 1 ≤ s .roots → (x k j : ℕ) → longest (grown s x k) ≤ longest (grown s x (k + j))
+  pub outgrown : (s : Shape) → 1 ≤ s .arity → 1 ≤ s .roots → (x k j : ℕ)
+      → longest (grown s x k) ≤ longest (grown s x (k + j))
+  -- 17 before all; then 5, by the number of pairs alone; then 4; and the plan where none of them is given
+  pub seed-first : (s : Shape) (k seed : ℕ) → seedInRange seed ≡ false → exercise s k seed ≡ Refused SeedOutside
+  pub then-pairs : (s : Shape) → 1 ≤ s .arity → 1 ≤ s .roots → (k seed : ℕ) → T (seedInRange seed)
+      → maxPairs < s .roots + k * (s .arity - 1) → exercise s k seed ≡ Refused TooManyPairs
+  pub then-words : (s : Shape) → 1 ≤ s .arity → 1 ≤ s .roots → (k seed : ℕ) → T (seedInRange seed)
+      → s .roots + k * (s .arity - 1) ≤ maxPairs → all pairFits (exercised s k seed) ≡ false
+      → exercise s k seed ≡ Refused WordTooLong
+  pub else-granted : (s : Shape) → 1 ≤ s .arity → 1 ≤ s .roots → (k seed : ℕ) → T (seedInRange seed)
+      → s .roots + k * (s .arity - 1) ≤ maxPairs → T (all pairFits (exercised s k seed))
+      → exercise s k seed ≡ Granted (exercisePlan s k seed)
   -- what is granted is a kept plan
   pub kept : (s : Shape) → T (shapeInRange s) → (k seed : ℕ) (p : Plan) → exercise s k seed ≡ Granted p → Kept p
 
@@ -152,8 +164,16 @@ unfolding drawn nextDraw
 drawn-example = refl
 
 -- the place 1 of 11 and 12
-splitAt-example : splitAt 2 (spell 11 ∷ spell 12 ∷ []) 1 ≡ spell 11 ∷ spell 121 ∷ spell 122 ∷ []
-splitAt-example = refl
+expandedAt-example : expandedAt 2 (spell 11 ∷ spell 12 ∷ []) 1 ≡ spell 11 ∷ spell 121 ∷ spell 122 ∷ []
+expandedAt-example = refl
+
+exchanged-example : exchanged (spell 1 ∷ spell 2 ∷ spell 3 ∷ []) 2 0 ≡ spell 3 ∷ spell 2 ∷ spell 1 ∷ []
+exchanged-example = refl
+
+-- 16807 leaves 1 modulo 3, and 282475249 leaves 1 modulo 2: the places 2 and 1 are swapped, and 1 with itself
+shuffled-example : shuffled 1 (spell 1 ∷ spell 2 ∷ spell 3 ∷ []) 2 ≡ spell 1 ∷ spell 3 ∷ spell 2 ∷ []
+unfolding shuffled nextDraw
+shuffled-example = refl
 
 -- Two splits at the shape (2,1) by the seed 1. From-words: 16807 takes 1 apart, and 282475249, odd, the second of 11 and 12. To-words:
 -- 1622650073 takes 1 apart, and 984943658, even, the first of 11 and 12. Then 1144108930, which leaves 1 modulo 3, swaps the places 2 and
@@ -167,11 +187,8 @@ exercise-example : exercise (record { arity = 2; roots = 1 }) 2 1
 unfolding exercise exercised grown shuffled drawn nextDraw seedInRange maxPairs maxDigits keep normalForm normal joined
 exercise-example = refl
 
--- seeds outside, and 129 pairs before reduction
+-- 129 pairs before reduction, behind seeds outside and behind one in range
 exercise-refused-example : map (λ seed. exercise (record { arity = 9; roots = 9 }) 15 seed) (0 ∷ 2_147_483_647 ∷ 1 ∷ [])
     ≡ Refused SeedOutside ∷ Refused SeedOutside ∷ Refused TooManyPairs ∷ []
 unfolding exercise exercised grown shuffled drawn nextDraw seedInRange maxPairs
 exercise-refused-example = refl
-
-exchanged-example : exchanged (spell 1 ∷ spell 2 ∷ spell 3 ∷ []) 2 0 ≡ spell 3 ∷ spell 2 ∷ spell 1 ∷ []
-exchanged-example = refl

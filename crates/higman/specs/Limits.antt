@@ -1,5 +1,5 @@
--- The limits of document 01, named in this one place, and the plans that keep to them. Everything before and after speaks of the
--- names; only here are they numbers. Read Refusals.antt next.
+-- The limits of document 01 and of change request E3, named in this one place, and the plans that keep to them. Everything before and
+-- after speaks of the names; only here are they numbers. Read Refusals.antt next.
 use Prim.Native.Nat.{ℕ}
 use mathlib.Core.Path.{_≡_, refl}
 use mathlib.Core.Bool.{Bool, true, false, _&&_}
@@ -36,8 +36,11 @@ abbrev pub powerInRange : ℤ → Bool
 powerInRange k = leb (natAbs k) maxPower
 
 -- "17, a seed outside 1 to 2147483646" (change request E3)
+abbrev pub maxSeed : ℕ
+maxSeed = 2_147_483_646
+
 unfoldable pub seedInRange : ℕ → Bool
-seedInRange x = leb 1 x && leb x 2_147_483_646
+seedInRange x = leb 1 x && leb x maxSeed
 
 -- "The desk has slots A to H"
 unfoldable pub slotCount : ℕ
@@ -53,7 +56,7 @@ isPlanWord s w = isWord s w && fits w
 abbrev pub pairFits : Pair → Bool
 pairFits p = fits (p .from) && fits (p .to)
 
--- "Only the reduced result is held to 128 pairs and 15 ways."
+-- "Only the reduced result is held to 128 pairs and 15 ways." X's pairs are held to the same before they are reduced.
 unfoldable pub granted : Table → Bool
 granted t = leb (length t) maxPairs && all pairFits t
 

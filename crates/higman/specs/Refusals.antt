@@ -1,5 +1,5 @@
--- The numbers of document 01's refusals, each named in this one place beside its condition in the paper's words, and the letters of
--- the two columns. Definitions, promises and code speak of the names. Read Answers.antt next.
+-- The numbers of the refusals, each named in this one place beside its condition in the words of document 01 or of a change request, and
+-- the letters of the two columns. Definitions, promises and code speak of the names. Read Answers.antt next.
 use Prim.Native.Nat.{ℕ}
 use mathlib.Core.Path.{_≡_, refl}
 use mathlib.Core.List.{[], _∷_, map}
@@ -90,6 +90,10 @@ numbers-example : noRecord ∷ wrongState ∷ shapeOutside ∷ badWord ∷ pairs
     ≡ 1 ∷ 2 ∷ 3 ∷ 4 ∷ 5 ∷ 6 ∷ 7 ∷ 8 ∷ 9 ∷ []
 numbers-example = refl
 
-later-numbers-example : shapesDiffer ∷ limitBroken ∷ powerOutside ∷ codeTooShort ∷ bufferTooShort ∷ invalidValue ∷ countFull ∷ seedOutside ∷ []
-    ≡ 10 ∷ 11 ∷ 12 ∷ 13 ∷ 14 ∷ 15 ∷ 16 ∷ 17 ∷ []
+later-numbers-example : shapesDiffer ∷ limitBroken ∷ powerOutside ∷ codeTooShort ∷ bufferTooShort ∷ invalidValue ∷ countFull ∷ []
+    ≡ 10 ∷ 11 ∷ 12 ∷ 13 ∷ 14 ∷ 15 ∷ 16 ∷ []
 later-numbers-example = refl
+
+-- change request E3's
+seedOutside-example : seedOutside ≡ 17
+seedOutside-example = refl

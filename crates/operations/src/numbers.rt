@@ -1,4 +1,5 @@
-// The numbers of the refusals that the calls give, under the names that higman's Refusals.antt has for them beside document 01's words.
+// The numbers of the refusals that the calls give, and of those that making a plan by numbers gives, under the names that higman's
+// Refusals.antt has for them beside the papers' words.
 // The promises of the calls speak of those names, so that each of these is the right number is proved with them.
 
 // `badWord`

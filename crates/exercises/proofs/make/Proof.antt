@@ -14,7 +14,7 @@ use Rattle.higman.specs.Words.{Shape, Word}
 use Rattle.higman.specs.Bases.{all}
 use Rattle.higman.specs.Limits.{seedInRange, fits, maxPairs}
 use Rattle.higman.specs.Normal.{keep}
-use Rattle.higman.specs.Exercises.{drawn, grown, fromColumn, splitBelts, toColumn, shuffled}
+use Rattle.higman.specs.Exercises.{drawn, grown, fromColumn, unshuffled, toColumn, shuffled}
 use Rattle.higman.proofs.Tests.{T-of}
 use Rattle.higman.proofs.Draws.{draws-in-range, drawn-on}
 use Rattle.higman.proofs.KeptPlans.{in-range, arity-of-range}
@@ -44,8 +44,8 @@ few-ways z =
     (omega (arith, in-range (shapeAt z) (z .pre) .arity-high))
 
 -- the seed, once it is tested, and the pairs
-seed-at : (c : tie.Else1) → seedInRange (c .before .before .args .seed) ≡ true
-seed-at c = sym (c .before .is-seed .ensures) ∙ not-false (c .before .is-seed .result) (c .if1 .left)
+seed-at : (c : tie.Else1) → T (seedInRange (c .before .before .args .seed))
+seed-at c = T-of (sym (c .before .is-seed .ensures) ∙ not-false (c .before .is-seed .result) (c .if1 .left))
 
 few-at : (c : tie.Else2) → pairs (c .before .before .before) ≤ maxPairs
 few-at c = omega (arith, pair-limit)
@@ -70,7 +70,7 @@ grow-requires c κs =
     let z = c .before .before .before in
     record {
       in-range = z .pre;
-      seed = T-of (seed-at (c .before));
+      seed = seed-at (c .before);
       room = grown-room (shapeAt z) (z .pre) (z .args .splits) (z .args .seed) (seed-at (c .before)) (few-at c) (z .args .seed);
     }
 
@@ -103,7 +103,7 @@ from-words c =
     ∙ g .ensures .column (from-fits c)
 
 -- what the tests before have found
-seed-there : (c : tie.Else3) → seedInRange (entry c .args .seed) ≡ true
+seed-there : (c : tie.Else3) → T (seedInRange (entry c .args .seed))
 seed-there c = seed-at (c .before .before .before .before)
 
 few-there : (c : tie.Else3) → pairs (entry c) ≤ maxPairs
@@ -115,7 +115,7 @@ grow-requires-2 c κs =
     let last = c .before .before .grow .result .last in
     record {
       in-range = z .pre;
-      seed = subst (λ x. T (seedInRange x)) (sym (from-last c)) (draws-in-range (z .args .seed) (T-of (seed-there c)) (z .args .splits));
+      seed = subst (λ x. T (seedInRange x)) (sym (from-last c)) (draws-in-range (z .args .seed) (seed-there c) (z .args .splits));
       room = grown-room (shapeAt z) (z .pre) (z .args .splits) (z .args .seed) (seed-there c) (few-there c) last;
     }
 
@@ -145,7 +145,7 @@ to-last c =
     ∙ drawn-on (z .args .seed) (z .args .splits) (z .args .splits)
 
 to-words : (c : tie.Else4) → let z = entry (second c .before) in
-    wordsOf (take (pairs z) (second c .grow2 .result .words)) ≡ splitBelts (shapeAt z) (z .args .splits) (z .args .seed)
+    wordsOf (take (pairs z) (second c .grow2 .result .words)) ≡ unshuffled (shapeAt z) (z .args .splits) (z .args .seed)
 to-words c =
     let e = second c .before in
     let z = entry e in
@@ -166,7 +166,7 @@ shuffle-requires c κs =
     record {
       some-word = omega (arith, in-range (shapeAt z) (z .pre) .roots-low);
       room = few-there e;
-      seed = subst (λ x. T (seedInRange x)) (sym (to-last f)) (draws-in-range (z .args .seed) (T-of (seed-there e)) (k + k));
+      seed = subst (λ x. T (seedInRange x)) (sym (to-last f)) (draws-in-range (z .args .seed) (seed-there e) (k + k));
     }
 
 -- and shuffled
@@ -183,7 +183,7 @@ shuffled-words c =
     let size = grown-size s (arity-of-range s (z .pre)) (in-range s (z .pre) .roots-low) (drawn (z .args .seed) k) k in
     c .shuffle .ensures
     ∙ ap₂ (λ x w. shuffled x w (pairs z - 1)) (to-last (tested c)) (to-words (tested c))
-    ∙ ap (λ n. shuffled (drawn (z .args .seed) (k + k)) (splitBelts s k (z .args .seed)) (n - 1)) (sym size)
+    ∙ ap (λ n. shuffled (drawn (z .args .seed) (k + k)) (unshuffled s k (z .args .seed)) (n - 1)) (sym size)
 
 -- a column has the words that were found in it
 front-inside : (column : List ℕ) (n : ℕ) (c : List Word) → wordsOf (take n column) ≡ c → length c ≡ n → n ≤ length column

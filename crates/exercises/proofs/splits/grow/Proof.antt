@@ -66,8 +66,8 @@ place-there c =
     place-below (shapeAt (entry l)) (range l) (entry l .args .draw) (l .loop .column) (l .loop .count) (l .loop .last) (l .loop .done) (grows l)
     (c .next .result)
 
-belts-requires : tie.Need-belts-requires Inv-loop μ-loop
-belts-requires c κs = in-range (shapeAt c) (c .pre .in-range) .roots-high
+root-words-requires : tie.Need-root-words-requires Inv-loop μ-loop
+root-words-requires c κs = in-range (shapeAt c) (c .pre .in-range) .roots-high
 
 loop-holds : tie.Need-loop-holds Inv-loop μ-loop
 unfolding grown drawn
@@ -77,7 +77,7 @@ loop-holds c =
       record {
         counted = sym (length-map (digits (a .roots)) (λ i. i ∷ []) ∙ length-count 1 (a .roots));
         draws = refl;
-        holds = c .belts .ensures;
+        holds = c .root-words .ensures;
         short = belts-fit (shape (a .arity) (a .roots)) (a .draw);
       },
     )
@@ -141,7 +141,7 @@ grow-spec =
     (tie.spec
     Inv-loop
     μ-loop
-    belts-requires
+    root-words-requires
     loop-holds
     next-requires
     (λ c. words-there (c .before .before))

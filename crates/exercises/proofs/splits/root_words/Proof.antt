@@ -1,4 +1,4 @@
--- `exercises::splits::belts` meets its contract: each of the digits packs a belt.
+-- `exercises::splits::root_words` meets its contract: each of the digits packs a belt.
 use Prim.Native.Nat.{ℕ, zero, suc, _+_, _≤_}
 use mathlib.Core.Path.{_≡_, refl, _∙_, ap, ap₂}
 use mathlib.Core.List.{[], _∷_, map}
@@ -10,8 +10,8 @@ use Rattle.higman.specs.Words.{count}
 use Rattle.columns.specs.Packed.{wordsOf}
 use Rattle.operations.proofs.KeptValues.{pair-limit}
 use Rattle.operations.proofs.Identity.{take-count, one-digit}
-use Rattle.exercises.proofs.splits.belts.Statement.{statement}
-use Rattle.exercises.proofs.splits.belts.Tie as tie
+use Rattle.exercises.proofs.splits.root_words.Statement.{statement}
+use Rattle.exercises.proofs.splits.root_words.Tie as tie
 
 belt-words : (a m : ℕ) → 1 ≤ a → a + m ≤ 16 → wordsOf (count a m) ≡ map (λ i. i ∷ []) (count a m)
 belt-words a zero h k = refl
@@ -28,5 +28,5 @@ returns c =
     ∙ ap wordsOf (take-at (take r (count 1 9)) _ r (length-take-le r (count 1 9) few) ∙ take-count 1 9 r few)
     ∙ belt-words 1 r (omega arith) (omega arith)
 
-pub belts-spec : {M : Type 1} → statement M
-belts-spec = tie.close (tie.spec (λ c. search needs) padded-requires returns)
+pub root-words-spec : {M : Type 1} → statement M
+root-words-spec = tie.close (tie.spec (λ c. search needs) padded-requires returns)
