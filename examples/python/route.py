@@ -18,7 +18,7 @@ REASONS = [
     "not a record",
     "no plan is open, or one is",
     "n or r is out of range",
-    "not a word of the plan's shape",
+    "a word or code is empty, too long or has a wrong digit",
     "a plan has at most 128 pairs",
     "one word begins another",
     "a belt is not covered",
