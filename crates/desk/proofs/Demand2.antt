@@ -14,7 +14,7 @@ use Rattle.higman.specs.Words.{Word, isWord}
 use Rattle.higman.specs.Tables.{Table, image, sameTable}
 use Rattle.higman.specs.Normal.{andThen, power}
 use Rattle.higman.specs.Limits.{Plan, Bases, Kept, slotCount}
-use Rattle.higman.specs.Answers.{Accepted, verdict, Answer, Granted, Refused, followed, inverted, powered, Comparison, Alike, NotCompared}
+use Rattle.higman.specs.Answers.{Accepted, verdict, Granted, followed, inverted, powered, Comparison, Alike, NotCompared}
 use Rattle.higman.specs.Answers.{same, sameShape, Route, Image, TooShort, NotRouted, ShapesDiffer, routed}
 use Rattle.higman.specs.Theorems.{ActAlike}
 use Rattle.higman.specs.Fronts.{block, BlockOf, SendsInTurn}
@@ -29,7 +29,7 @@ use Rattle.desk.specs.Limits.{maxChanges}
 use Rattle.desk.specs.Desk.{Draft, Desk, countOf, held, IsDesk}
 use Rattle.desk.specs.Records.{E, F, I, K, S, W, writing, slotsNamed}
 use Rattle.higman.specs.Listing.{slotNumber}
-use Rattle.desk.specs.Replies.{pass, Effect, Reply, silent, ok, okNumber, okWord, okBlock, lists, surveys, refuses, bit, ofAnswer}
+use Rattle.desk.specs.Replies.{pass, Effect, Reply, silent, ok, okNumber, okWord, okBlock, lists, surveys, refuses, bit}
 use Rattle.desk.specs.Replies.{ofComparison, ofRoute, keepIn, closed, job, operation}
 use Rattle.desk.specs.Theorems.{BlockReplied}
 use Rattle.desk.specs.Demands.{KeptAsTyped, KeptIn, RoutedBy, Demand2}

@@ -18,7 +18,7 @@ use Rattle.higman.specs.Normal.{compose, power}
 use Rattle.higman.specs.Limits.{Plan, shapeInRange, granted, isCode, maxPairs, maxPower, slotCount, isPlanWord, powerInRange}
 use Rattle.higman.specs.Limits.{seedInRange, pairFits}
 use Rattle.higman.specs.Answers.{sameShape}
-use Rattle.higman.specs.Exercises.{nextDraw, drawn, grown, shuffled, exercised}
+use Rattle.higman.specs.Exercises.{exercised}
 use Rattle.higman.specs.Refusals.{wrongState, shapeOutside, badWord, pairsFull, wordsOverlap, rootUncovered, slotOutside, slotEmpty}
 use Rattle.higman.specs.Refusals.{shapesDiffer, limitBroken, powerOutside, countFull, seedOutside, Letter}
 use Rattle.higman.specs.Text.{byte, wordOf}

@@ -1,6 +1,6 @@
 -- A column that is grown split by split: its next split, how many words it then has, and how long they are.
-use Prim.Native.Nat.{ℕ, zero, suc, _+_, _*_, _-_, _%_, _≤_, _<_, max}
-use mathlib.Core.Path.{_≡_, refl, sym, _∙_, ap}
+use Prim.Native.Nat.{ℕ, zero, suc, _+_, _-_, _%_, _≤_, _<_, max}
+use mathlib.Core.Path.{_≡_, sym, ap}
 use mathlib.Core.Bool.{true, false}
 use mathlib.Core.List.{List, [], _∷_, _++_, map}
 use native.Mathlib.Nat.{suc-mul}
@@ -8,7 +8,7 @@ use native.Mathlib.Omega.{arith}
 use lib.ListN.{length, getD, take, drop, length-append}
 use lib.Seq.{split-at}
 use Rattle.higman.specs.Words.{Shape, Word, count, child, children}
-use Rattle.higman.specs.Bases.{rootWords, all, longest}
+use Rattle.higman.specs.Bases.{all, longest}
 use Rattle.higman.specs.Limits.{maxDigits, fits}
 use Rattle.higman.specs.Exercises.{nextDraw, drawn, expandedAt, grown}
 use Rattle.higman.proofs.Tests.{so, T-of}

@@ -1,11 +1,11 @@
 -- A word of a packed column split: the words before it stay, its parts stand in its stead, and the words behind it are moved up.
 use Prim.Native.Nat.{ℕ, suc, _+_, _-_, _≤_, _<_}
-use mathlib.Core.Path.{_≡_, refl, sym, _∙_, ap, ap₂}
-use mathlib.Core.List.{List, [], _∷_, _++_, map, map-append}
+use mathlib.Core.Path.{_≡_, sym, _∙_, ap, ap₂}
+use mathlib.Core.List.{List, [], _++_, map-append}
 use native.Mathlib.Omega.{arith}
-use lib.ListN.{length, getD, take, drop, length-append, length-take, length-drop, List·getD-map}
+use lib.ListN.{length, getD, take, drop, length-append, length-drop, List·getD-map}
 use lib.Seq.{paste, take-at, drop-at, take-append-le, drop-append-le, length-take-le, take-take, take-add, getD-take}
-use Rattle.higman.specs.Words.{Word, count, child, children}
+use Rattle.higman.specs.Words.{children}
 use Rattle.higman.specs.Exercises.{expandedAt}
 use Rattle.words.specs.Packed.{unpack}
 use Rattle.words.proofs.Packing.{unpack-zero}

@@ -5,7 +5,7 @@ use mathlib.Core.Path.{_≡_}
 use mathlib.Core.Bool.{true}
 use mathlib.Core.List.{List}
 use lib.Dec.{T}
-use lib.ListN.{length, getD, take}
+use lib.ListN.{length, take}
 use Rattle.higman.specs.Words.{Shape}
 use Rattle.higman.specs.Bases.{all}
 use Rattle.higman.specs.Limits.{shapeInRange, seedInRange, fits, maxPairs, maxDigits}

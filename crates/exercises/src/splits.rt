@@ -52,7 +52,7 @@ fn split(column: [u64; MAX_PAIRS], count: usize, place: usize, arity: u8) -> [u6
     parts
 }
 
-// The roots, each a word of one digit.
+// The roots, each a word of one digit, whatever the number of ways.
 fn root_words(roots: u8) -> [u64; MAX_PAIRS]
     requires { ⌜ roots ≤ 9 ⌝ }
     ensures { λ r. ⌜ wordsOf (take roots r) ≡ rootWords (shape 0 roots) ⌝ }

@@ -12,7 +12,7 @@ use Rattle.higman.specs.Bases.{rootWords, all, longest}
 use Rattle.higman.specs.Tables.{Table, froms, tos}
 use Rattle.higman.specs.Limits.{Plan, Bases, Kept, shapeInRange, seedInRange, granted, pairFits, maxPairs, maxDigits}
 use Rattle.higman.specs.Answers.{verdict, Accepted, Answer, Granted, Refused, SeedOutside, TooManyPairs, WordTooLong}
-use Rattle.higman.specs.Exercises.{drawn, grown, fromColumn, unshuffled, toColumn, paired, exercised, exercisePlan, exercise}
+use Rattle.higman.specs.Exercises.{drawn, fromColumn, unshuffled, toColumn, paired, exercised, exercisePlan, exercise}
 use Rattle.higman.specs.Exercises.{Splits, ExerciseMade, ExercisesExact}
 use Rattle.higman.proofs.Tests.{so, T-of, and-intro}
 use Rattle.higman.proofs.Columns.{column-is-basis}

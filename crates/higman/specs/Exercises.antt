@@ -4,11 +4,11 @@
 -- that the two agree, that both columns are bases, and that E would accept them. Read Algebras.antt next.
 use Prim.Native.Nat.{ℕ, zero, suc, _+_, _*_, _-_, _%_, _≤_, _<_}
 use mathlib.Core.Path.{_≡_, refl}
-use mathlib.Core.Bool.{Bool, true, false}
+use mathlib.Core.Bool.{true, false}
 use mathlib.Core.List.{List, [], _∷_, _++_, map, List·Permᴰ}
 use lib.Dec.{T, leb}
 use lib.ListN.{length, getD, take, drop, set}
-use Rattle.higman.specs.Words.{Shape, Word, digits, children, spell}
+use Rattle.higman.specs.Words.{Shape, Word, children, spell}
 use Rattle.higman.specs.Bases.{rootWords, Expansion, all, longest}
 use Rattle.higman.specs.Tables.{Table, froms, tos, row}
 use Rattle.higman.specs.Normal.{joined, normal, normalForm, keep, ordered}

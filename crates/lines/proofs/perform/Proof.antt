@@ -6,7 +6,7 @@ use native.Mathlib.Omega.{arith}
 use lib.IntN.{natAbs}
 use mir.Syntax.{w32}
 use Rattle.desk.specs.Limits.{maxNumeral}
-use Rattle.desk.specs.Records.{P, M, E, F, I, K, S, W, L, C, T, U, X}
+use Rattle.desk.specs.Records.{P, M, E, F, I, K, S, W, L, C, T, U}
 use Rattle.records.specs.declared.Record.{Record}
 use Rattle.records.specs.declared.Record.the-variants.{Open, Pair, Close, Follow, Invert, Power, Same, Route, List, Empty, Count, Survey, NoRecord}
 use Rattle.records.specs.Reading.{Within, InBounds}

@@ -1,12 +1,11 @@
 -- `exercises::shuffles::shuffle` meets its contract. The invariant: what is left to swap makes of the words what all swaps make of the
 -- first ones. The measure is the place.
-use Prim.Native.Nat.{suc, _+_, _-_, _%_, _≤_, _<_}
-use mathlib.Core.Path.{_≡_, refl, sym, _∙_, ap, ap₂, subst}
-use borrow.Author.Needs.{needs}
+use Prim.Native.Nat.{_+_, _-_, _%_, _<_}
+use mathlib.Core.Path.{_≡_, refl, sym, _∙_, ap, subst}
 use native.Mathlib.Nat.{mod-lt}
 use native.Mathlib.Omega.{arith}
 use lib.Dec.{T}
-use lib.ListN.{length, take}
+use lib.ListN.{take}
 use Rattle.higman.specs.Limits.{seedInRange}
 use Rattle.higman.specs.Exercises.{nextDraw, shuffled}
 use Rattle.higman.proofs.Draws.{seed-of-test, test-of-seed, next-seed}
