@@ -15,7 +15,7 @@
  *     S  whether a and b act alike, 1 or 0                   W  the image of a code under a, or its block
  *     L  lists a as P, M and E records                       C  empties a
  *     T  the count of changes                                U  lists the held slots: slot, n, r, pairs
- *     X  makes a plan of n ways and r belts from s splits and a seed, and keeps it
+ *     X  makes a plan of n ways and r belts from s splits and a seed, and keeps it in a slot
  *
  * A block is W's reply to a code that no from-word begins: for each pair whose from-word extends the code, in the order of the
  * from-words, a line of "B", the from-word and the to-word, and last of all "ok" and how many they are.
