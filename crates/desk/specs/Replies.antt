@@ -285,7 +285,7 @@ unfolding _>>=_ respond operation job needsOpen slotsNamed isChange freshDesk wi
     digitOf
 open-example = refl
 
--- X on a fresh desk: two pairs kept; a slot outside, a shape outside, a seed outside and 199 pairs, of which one has a word of 17 digits,
+-- X on a fresh desk: two pairs kept; a slot outside, a shape outside, a seed outside and 199 pairs, some of whose words have 17 digits,
 -- each before what follows it
 exercise-example : map (λ r. respond freshDesk r .1)
     (X (byte "A") 2 1 2 1 ∷ X (byte "I") 1 1 99 0 ∷ X (byte "A") 1 1 99 0 ∷ X (byte "A") 3 1 99 0 ∷ X (byte "A") 3 1 99 22 ∷ [])
@@ -300,7 +300,7 @@ respondLine-example : map (λ l. respondLine freshDesk (bytes l) .1) ("" ∷ "T 
 unfolding _>>=_ respondLine lineOperation operation job needsOpen slotsNamed isChange parse grammar freshDesk slotCount maxLine
 respondLine-example = refl
 
--- and 100 pairs with a word of 17 digits in the from column; that it is the only one is compared with the second implementation
+-- 100 pairs, and two from-words of 17 digits among them
 exercise-word-example : respond freshDesk (X (byte "A") 2 1 99 5) .1 ≡ refuses 4 none
 unfolding _>>=_ respond operation job needsOpen slotsNamed isChange freshDesk slotCount shapeInRange seedInRange maxPairs maxDigits
     exercise exercised grown shuffled drawn nextDraw
