@@ -20,7 +20,8 @@ use Rattle.higman.specs.Refusals.{noRecord, wrongState, shapeOutside, badWord, 
 use Rattle.higman.specs.Refusals.{Letter}
 use Rattle.higman.specs.Answers as Answers
 use Rattle.higman.specs.Answers.{Overlap, Gap, Verdict, Accepted, InFrom, InTo, verdict, Refusal, BadCode, ShapesDiffer, LimitBroken}
-use Rattle.higman.specs.Answers.{PowerOutside, SeedOutside, TooManyPairs, WordTooLong, refusalNumber, Answer, Granted, followed, inverted, powered, Comparison, Alike}
+use Rattle.higman.specs.Answers.{PowerOutside, SeedOutside, TooManyPairs, WordTooLong, refusalNumber, Answer, Granted, followed, inverted}
+use Rattle.higman.specs.Answers.{powered, Comparison, Alike}
 use Rattle.higman.specs.Answers.{NotCompared, same, Route, Image, TooShort, NotRouted, routed}
 use Rattle.higman.specs.Listing.{slotNumber}
 use Rattle.higman.specs.Exercises.{exercise}

@@ -1,27 +1,25 @@
 -- X on a desk: what it keeps and replies, and that both are fixed by its fields. With it what all records that keep an answer share.
 use Prim.Native.Nat.{ℕ, _<_}
-use mathlib.Core.Path.{_≡_, refl, sym, _∙_, ap, ap₂, subst}
-use mathlib.Core.Bool.{Bool, false, not}
-use mathlib.Core.List.{List, [], _∷_, List·Memᴰ·head}
+use mathlib.Core.Path.{_≡_, refl, sym, _∙_, ap, subst}
+use mathlib.Core.Bool.{false}
+use mathlib.Core.List.{List·Memᴰ·head}
 use mathlib.Core.Option.{some}
-use lib.Dec.{T, leb}
-use lib.ListN.{length}
+use lib.Dec.{T}
 use borrow.Author.Tests.{lt-leb}
 use Rattle.higman.specs.Words.{Shape, given}
-use Rattle.higman.specs.Bases.{all}
-use Rattle.higman.specs.Limits.{Plan, slotCount, maxPairs, shapeInRange, seedInRange, pairFits}
+use Rattle.higman.specs.Limits.{Plan, slotCount, shapeInRange}
 use Rattle.higman.specs.Answers.{Answer, Granted, Refused}
 use Rattle.higman.specs.Exercises.{exercised, exercisePlan, exercise}
 use Rattle.higman.specs.Listing.{slotNumber}
-use Rattle.higman.specs.Refusals.{wrongState, slotOutside, shapeOutside, seedOutside, pairsFull, badWord, countFull}
+use Rattle.higman.specs.Refusals.{shapeOutside}
 use Rattle.higman.proofs.KeptPlans.{in-range, arity-of-range}
 use Rattle.higman.proofs.Statements.{normal-form}
 use Rattle.higman.proofs.Exercises.{exercise-cases, exercises-exact}
 use Rattle.desk.specs.Limits.{maxChanges}
 use Rattle.desk.specs.Desk.{Desk, countOf, held, IsDesk, changed, withDraft}
 use Rattle.desk.specs.Records.{E, X, writing, slotsNamed, isChange}
-use Rattle.desk.specs.Replies.{pass, Effect, atLimit, ofAnswer, keepIn, job, operation}
-use Rattle.desk.specs.Conditions.{Condition, outsideOf, conditions, firstOf, refusalOf, _if_}
+use Rattle.desk.specs.Replies.{pass, Effect, isOpen, atLimit, ofAnswer, keepIn, job, operation}
+use Rattle.desk.specs.Conditions.{conditions, firstOf, refusalOf}
 use Rattle.desk.specs.Demands.{Ready, withExercise, ExerciseKept, ExercisesFixed}
 use Rattle.desk.proofs.Outcomes.{Passes, stops, passes, passes-then, passed, test-held, passes-operation}
 use Rattle.desk.proofs.Stays.{slot-of-record}
@@ -99,28 +97,19 @@ same-plan d c a n r s seed e f D C o q =
     let shape : Shape = record { arity = n; roots = r } in
     exercises d a shape s seed e D o .plan .there ∙ sym (exercises c a shape s seed f C q .plan .there)
 
--- the conditions of X by what they ask of the desk: whether a plan is open, and whether the count is at its limit
-conditionsBy : Bool → Bool → ℕ → ℕ → ℕ → ℕ → ℕ → List Condition
-conditionsBy begun full a n r s seed =
-    (wrongState if begun) ∷
-    (slotOutside if outsideOf (a ∷ [])) ∷
-    (shapeOutside if not (shapeInRange (record { arity = n; roots = r }))) ∷
-    (seedOutside if not (seedInRange seed)) ∷
-    (pairsFull if not (leb (length (exercised (record { arity = n; roots = r }) s seed)) maxPairs)) ∷
-    (badWord if not (all pairFits (exercised (record { arity = n; roots = r }) s seed))) ∷
-    (countFull if full) ∷
-    []
-
-ready-conditions : (d : Desk) (a n r s seed : ℕ) → Ready d → conditions d (X a n r s seed) ≡ conditionsBy false false a n r s seed
-unfolding conditions conditionsBy
-ready-conditions d a n r s seed h =
-    ap₂ (λ begun full. conditionsBy begun full a n r s seed) (ap given (h .none-open)) (lt-leb maxChanges (countOf d) (h .room))
+-- two desks that are ready have the same conditions of X: of a desk these ask only whether a plan is open and the count is at its limit
+ready-conditions : (d c : Desk) (a n r s seed : ℕ) → Ready d → Ready c → conditions d (X a n r s seed) ≡ conditions c (X a n r s seed)
+unfolding conditions
+ready-conditions d c a n r s seed R Q =
+    let begun : isOpen d ≡ isOpen c = ap given (R .none-open ∙ sym (Q .none-open)) in
+    let full : atLimit d ≡ atLimit c = lt-leb maxChanges (countOf d) (R .room) ∙ sym (lt-leb maxChanges (countOf c) (Q .room)) in
+    cc
 
 same-refusal : (d c : Desk) (a n r s seed : ℕ) → IsDesk d → IsDesk c → Ready d → Ready c
     → refusalOf (operation d (X a n r s seed)) ≡ refusalOf (operation c (X a n r s seed))
 same-refusal d c a n r s seed D C R Q =
     first-condition d D (X a n r s seed)
-    ∙ ap firstOf (ready-conditions d a n r s seed R ∙ sym (ready-conditions c a n r s seed Q))
+    ∙ ap firstOf (ready-conditions d c a n r s seed R Q)
     ∙ sym (first-condition c C (X a n r s seed))
 
 pub exercises-fixed : ExercisesFixed
