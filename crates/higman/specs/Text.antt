@@ -1,12 +1,13 @@
--- Text as bytes: the letters and lines of document 01 written as they are read, and words as the digits that spell them. Every
--- text here is plain ASCII, where a character's code is its byte. Read Bases.antt next.
+-- Text as bytes: the letters and lines of document 01 written as they are read, and words as the digits that spell them, with the
+-- statement that a digit's byte is read as by cases. Every text here is plain ASCII, where a character's code is its byte. Read
+-- Bases.antt next.
 use Prim.Native.Nat.{ℕ, suc, _+_, _*_, _-_}
 use Prim.Native.Char.{Char, code}
 use Prim.Native.String.{String, [] as empty, _∷_ as _before_}
 use mathlib.Core.Path.{_≡_, refl}
 use mathlib.Core.Bool.{Bool, true, false, _&&_}
 use mathlib.Core.List.{List, [], _∷_, _++_, map}
-use lib.Dec.{leb}
+use lib.Dec.{leb, eqb}
 use Rattle.higman.specs.Words.{Word, spelled, spell}
 
 abbrev pub Bytes : Type 0
@@ -64,6 +65,33 @@ noLeadingZero (b ∷ c ∷ l) = leb (byte "1") b
 unfoldable pub digitOf : ℕ → ℕ
 digitOf b = elim (leb 49 b && leb b 57) [ true ↦ b - 48 | false ↦ 0 ]
 
+-- the byte at a column and row of the ISO 646 table: 3/1 is '1'
+abbrev pub iso646 : ℕ → ℕ → ℕ
+iso646 column row = column * 16 + row
+
+-- The digits of a code "as nine cases, each readable beside its row of the table" (E4): bytes and their values.
+abbrev pub digitCases : List (ℕ × ℕ)
+digitCases =
+    (iso646 3 1, 1)
+    ∷ (iso646 3 2, 2)
+    ∷ (iso646 3 3, 3)
+    ∷ (iso646 3 4, 4)
+    ∷ (iso646 3 5, 5)
+    ∷ (iso646 3 6, 6)
+    ∷ (iso646 3 7, 7)
+    ∷ (iso646 3 8, 8)
+    ∷ (iso646 3 9, 9)
+    ∷ []
+
+-- the value of a byte by such cases, and 0 in the remaining one
+abbrev pub valueBy : List (ℕ × ℕ) → ℕ → ℕ
+valueBy [] b = 0
+valueBy ((c, d) ∷ cases) b = elim (eqb b c) [ true ↦ d | false ↦ valueBy cases b ]
+
+-- the range and the cases agree on every number, and so on all 256 bytes
+abbrev pub DigitsByCases : Type 0
+DigitsByCases = (b : ℕ) → digitOf b ≡ valueBy digitCases b
+
 -- the word that bytes spell
 abbrev pub wordOf : Bytes → Word
 wordOf code = map digitOf code
@@ -85,6 +113,9 @@ spelledOut-example = refl
 
 noLeadingZero-example : map noLeadingZero (bytes "0" ∷ bytes "10" ∷ bytes "01" ∷ bytes "" ∷ []) ≡ true ∷ true ∷ false ∷ false ∷ []
 noLeadingZero-example = refl
+
+digitCases-example : map (valueBy digitCases) (bytes "/0123456789:") ≡ 0 ∷ 0 ∷ 1 ∷ 2 ∷ 3 ∷ 4 ∷ 5 ∷ 6 ∷ 7 ∷ 8 ∷ 9 ∷ 0 ∷ []
+digitCases-example = refl
 
 -- bytes that are no digits from 1 to 9 give 0, a digit of no word
 wordOf-example : wordOf (bytes "1290/:A\t") ≡ 1 ∷ 2 ∷ 9 ∷ 0 ∷ 0 ∷ 0 ∷ 0 ∷ 0 ∷ []
