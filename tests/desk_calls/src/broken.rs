@@ -3,6 +3,7 @@
 //! shows what an agreement of the proved desk with the second implementation is
 //! worth.
 
+use std::borrow::Cow;
 use std::cmp::Reverse;
 
 use library::{packed, Plan};
@@ -11,6 +12,7 @@ use reference::COUNT_LIMIT;
 use crate::calls::Calls;
 use crate::checks::side_by_side::AMPLE;
 use crate::faults::Fault;
+use crate::misread::{self, Text};
 use crate::second::Second;
 use crate::values::{Desk, Done, Job, Written, OPEN, SLOTS};
 
@@ -89,14 +91,15 @@ impl Broken {
     }
 
     /// The line as the faulty reading sees it.
-    fn read<'a>(&self, line: &'a [u8]) -> &'a [u8] {
+    fn read<'a>(&self, line: &'a [u8]) -> Cow<'a, [u8]> {
         let end = match self.fault {
+            Fault::Misread(text, step) => return misread::line(text, step, line).into(),
             Fault::LongLineCut => Some(1100),
             Fault::LineEndsAtTen => line.iter().position(|byte| *byte == 10),
             Fault::LineEndsAtZero => line.iter().position(|byte| *byte == 0),
             _ => None,
         };
-        &line[..end.unwrap_or(line.len()).min(line.len())]
+        line[..end.unwrap_or(line.len()).min(line.len())].into()
     }
 
     /// The job as the faulty reading sees it.
@@ -285,7 +288,8 @@ impl Calls for Broken {
 
     fn line(&self, desk: &mut Desk, line: &[u8], out: &mut [u8]) -> Written {
         let before = *desk;
-        let line = self.read(line);
+        let came = line;
+        let line = &*self.read(came);
         if !self.is_desk(desk) {
             self.leave_no_desk(desk);
             let form = line.is_empty() && self.is(Fault::FormBeforeNoDesk);
@@ -311,6 +315,9 @@ impl Calls for Broken {
         *desk = after;
         self.leave(&before, desk, answer.number, line.starts_with(b"X"));
         self.spoil_buffer(line, &mut answer, out);
+        if let Fault::Misread(Text::Code, _) = self.fault {
+            misread::keep_tail(&before, came, line, &mut out[..answer.length]);
+        }
         if self.is(Fault::NoColumn) {
             answer.column = 0;
         }

@@ -1,8 +1,11 @@
 //! What may be wrong with a desk: one fault for each broken copy, and the check
 //! that is there for it.
 
+use library::misread::{Step, STEPS};
+
 use crate::calls::Calls;
-use crate::checks::{buffers, damage, jobs, lines, paper, refusals, sessions};
+use crate::checks::{buffers, bytes, damage, jobs, lines, paper, refusals, sessions};
+use crate::misread::{Text, TEXTS};
 
 /// What is wrong.
 #[derive(Clone, Copy, Debug, PartialEq, Eq)]
@@ -102,6 +105,8 @@ pub enum Fault {
     WordsAfterClear,
     /// A plan of fewer pairs leaves words of the one before it.
     WordsAfterKeep,
+    /// The digits of a text are read by a wrong step.
+    Misread(Text, Step),
 }
 
 /// A check of the calls.
@@ -157,3 +162,22 @@ pub const FAULTS: [(Fault, Check); 47] = [
     (Fault::WordsAfterClear, paper::session_in_jobs),
     (Fault::WordsAfterKeep, sessions::of_lines),
 ];
+
+/// Each wrong step from byte to value (E4) in each text, and a check that has to
+/// see it. Plans are typed in digits alone.
+pub fn misreadings() -> Vec<(Fault, Check)> {
+    let mut faults: Vec<(Fault, Check)> = Vec::new();
+    for text in TEXTS {
+        let check = match text {
+            Text::From | Text::To => bytes::in_words,
+            Text::Code => bytes::in_codes,
+        };
+        for step in STEPS {
+            faults.push((Fault::Misread(text, step), check));
+        }
+        for step in [Step::ThreeAndFour, Step::NineMissing] {
+            faults.push((Fault::Misread(text, step), bytes::digits_in_plans));
+        }
+    }
+    faults
+}

@@ -1,7 +1,7 @@
 //! The proved desk on the session of document 01, and against the second
 //! implementation.
 
-use desk_calls::checks::{buffers, damage, jobs, lines, paper, refusals, sessions};
+use desk_calls::checks::{buffers, bytes, damage, jobs, lines, paper, refusals, sessions};
 use desk_calls::Library;
 
 #[test]
@@ -67,6 +67,21 @@ fn lines_at_the_limit() {
 #[test]
 fn lines_for_every_slot() {
     lines::for_every_slot(&Library);
+}
+
+#[test]
+fn every_byte_in_words() {
+    bytes::in_words(&Library);
+}
+
+#[test]
+fn every_byte_in_codes() {
+    bytes::in_codes(&Library);
+}
+
+#[test]
+fn every_digit_in_plans() {
+    bytes::digits_in_plans(&Library);
 }
 
 #[test]

@@ -1,14 +1,19 @@
 //! The library of plans compared with the second implementation. `values` and
 //! `bindings` are the C interface, `second` answers the same calls by the reference,
 //! `random` makes inputs, and `checks` compares any offer of the calls with the
-//! second implementation; `tests/` runs the checks on the proved library.
+//! second implementation; `tests/` runs the checks on the proved library. For the
+//! bytes of codes, `table` says what each is, a `comb` shows what it was read as,
+//! and `misread` has copies of the second implementation that read one wrongly.
 
 pub mod bindings;
 pub mod calls;
 pub mod checks;
+pub mod comb;
+pub mod misread;
 pub mod packed;
 pub mod random;
 pub mod second;
+pub mod table;
 pub mod values;
 
 pub use bindings::Library;

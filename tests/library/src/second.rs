@@ -78,14 +78,7 @@ impl Calls for Second {
     }
 
     fn unmatched(&self, plan: &Plan, code: &[u8]) -> usize {
-        let Some(plan) = kept(plan) else {
-            return code.len();
-        };
-        if code.len() > CODE_DIGITS || !plan.shape().is_code(code) {
-            return code.len();
-        }
-        let matched = maps::pair_beginning(plan.pairs(), code);
-        code.len() - matched.map_or(0, |(from, _)| from.len())
+        kept(plan).map_or(code.len(), |plan| unmatched(&plan, code))
     }
 
     fn route(&self, plan: &Plan, code: &[u8], out: &mut [u8]) -> Written {
@@ -103,6 +96,16 @@ impl Calls for Second {
             Some(plan) => write(&plan.list(slot), out),
         }
     }
+}
+
+/// "Where no from-word begins the code, or 15 or 4 applies, that part is the
+/// whole code."
+pub fn unmatched(plan: &reference::Plan, code: &[u8]) -> usize {
+    if code.len() > CODE_DIGITS || !plan.shape().is_code(code) {
+        return code.len();
+    }
+    let matched = maps::pair_beginning(plan.pairs(), code);
+    code.len() - matched.map_or(0, |(from, _)| from.len())
 }
 
 fn fault_verdict(fault: Fault) -> Verdict {
@@ -123,7 +126,7 @@ fn made(plan: Result<reference::Plan, Refusal>) -> Made {
 }
 
 /// "On success only the bytes of the output change."
-fn write(bytes: &[u8], out: &mut [u8]) -> Written {
+pub fn write(bytes: &[u8], out: &mut [u8]) -> Written {
     match out.get_mut(..bytes.len()) {
         None => Written::refused(SHORT_BUFFER),
         Some(room) => {

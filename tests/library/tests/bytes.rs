@@ -1,7 +1,7 @@
 //! The proved library against the second implementation: the calls that read a
 //! lent code or write into a lent buffer.
 
-use library::checks::{listings, routes};
+use library::checks::{bytes, listings, routes};
 use library::Library;
 
 #[test]
@@ -22,6 +22,21 @@ fn routes_by_damaged_values() {
 #[test]
 fn routes_of_every_byte() {
     routes::of_bytes(&Library);
+}
+
+#[test]
+fn every_byte_at_every_place() {
+    bytes::at_every_place(&Library);
+}
+
+#[test]
+fn every_byte_in_long_codes() {
+    bytes::in_long_codes(&Library);
+}
+
+#[test]
+fn several_bytes_at_once() {
+    bytes::several_at_once(&Library);
 }
 
 #[test]

@@ -3,6 +3,7 @@
 //! of the calls, so that broken copies can be held to the same.
 
 pub mod buffers;
+pub mod bytes;
 pub mod damage;
 pub mod jobs;
 pub mod lines;
@@ -17,7 +18,7 @@ use crate::calls::Calls;
 pub type Check = (&'static str, fn(&dyn Calls));
 
 /// Every check, those that take long behind the others.
-pub const ALL: [Check; 23] = [
+pub const ALL: [Check; 26] = [
     ("paper::session", paper::session),
     ("paper::session_in_jobs", paper::session_in_jobs),
     ("paper::block_without_room", paper::block_without_room),
@@ -28,6 +29,9 @@ pub const ALL: [Check; 23] = [
     ("lines::of_any_bytes", lines::of_any_bytes),
     ("lines::at_the_limit", lines::at_the_limit),
     ("lines::for_every_slot", lines::for_every_slot),
+    ("bytes::in_words", bytes::in_words),
+    ("bytes::in_codes", bytes::in_codes),
+    ("bytes::digits_in_plans", bytes::digits_in_plans),
     ("jobs::of_every_letter", jobs::of_every_letter),
     ("jobs::in_chains", jobs::in_chains),
     ("jobs::of_every_number", jobs::of_every_number),

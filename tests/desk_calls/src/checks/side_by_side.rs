@@ -24,6 +24,8 @@ pub struct SideBySide<'a> {
     second: Second,
     desk: Box<Desk>,
     expected: Desk,
+    /// What the last line wrote.
+    reply: Vec<u8>,
     /// The calls made, which vary the pattern of the room.
     made: usize,
     pub tally: Tally,
@@ -36,6 +38,7 @@ impl<'a> SideBySide<'a> {
             second: Second::default(),
             desk: placed(desk, 0),
             expected: *desk,
+            reply: Vec::new(),
             made: 0,
             tally: Tally::default(),
         }
@@ -50,6 +53,11 @@ impl<'a> SideBySide<'a> {
 
     pub fn desk(&self) -> &Desk {
         &self.expected
+    }
+
+    /// What the last line wrote, nothing where it was refused.
+    pub fn reply(&self) -> &[u8] {
+        &self.reply
     }
 
     pub fn is_desk(&mut self) -> bool {
@@ -82,8 +90,8 @@ impl<'a> SideBySide<'a> {
             .second
             .line(&mut self.expected, line, &mut expected_room[lent]);
         let asked = || {
-            let line = String::from_utf8_lossy(line).into_owned();
-            format!("{line:?} with a buffer of {length} bytes on {before:?}")
+            let line = line.escape_ascii();
+            format!("\"{line}\" with a buffer of {length} bytes on {before:?}")
         };
         assert_eq!(answer, expected, "to {}", asked());
         assert!(read == line, "the line is changed by {}", asked());
@@ -100,7 +108,8 @@ impl<'a> SideBySide<'a> {
             self.desk,
             self.expected
         );
-        self.count_lines(line, &room[GUARD..GUARD + answer.length]);
+        self.reply = room[GUARD..GUARD + answer.length].to_vec();
+        self.count_lines(line);
         self.count_exercise(line.starts_with(b"X\t"), answer.number);
         self.count(answer.number, answer.column);
         answer
@@ -130,11 +139,11 @@ impl<'a> SideBySide<'a> {
 
     /// Counts what the lines of a reply show: a block of W, slots of U that don't
     /// stand by their letters, and slots of U with as many pairs.
-    fn count_lines(&mut self, line: &[u8], written: &[u8]) {
-        let block = line.starts_with(b"W") && written.starts_with(b"B\t");
+    fn count_lines(&mut self, line: &[u8]) {
+        let block = line.starts_with(b"W") && self.reply.starts_with(b"B\t");
         self.tally.count_if(block, "a block");
         if line == b"U" {
-            let seen = sessions::tally(written);
+            let seen = sessions::tally(&self.reply);
             for kind in SURVEYS {
                 self.tally.count_if(seen.count(kind) > 0, kind);
             }

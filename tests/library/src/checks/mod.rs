@@ -3,6 +3,7 @@
 //! of the calls, so that a version written for speed is held to the same.
 
 pub mod buffers;
+pub mod bytes;
 pub mod drafts;
 pub mod laws;
 pub mod listings;
