@@ -2,7 +2,7 @@
 //! must give the same answers, refusals included.
 
 use bench::arrays::Arrays;
-use library::checks::{drafts, laws, listings, paper, powers, products, routes};
+use library::checks::{bytes, drafts, laws, listings, paper, powers, products, routes};
 
 #[test]
 fn cases_of_the_paper() {
@@ -51,4 +51,11 @@ fn codes_and_buffers() {
     routes::of_bytes(&Arrays);
     listings::of_plans(&Arrays);
     listings::of_slots(&Arrays);
+}
+
+#[test]
+fn every_byte_of_a_code() {
+    bytes::at_every_place(&Arrays);
+    bytes::in_long_codes(&Arrays);
+    bytes::several_at_once(&Arrays);
 }

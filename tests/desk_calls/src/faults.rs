@@ -164,7 +164,8 @@ pub const FAULTS: [(Fault, Check); 47] = [
 ];
 
 /// Each wrong step from byte to value (E4) in each text, and a check that has to
-/// see it. Plans are typed in digits alone.
+/// see it. `digits_in_plans` types digits only, and so sees just the steps that
+/// misread one.
 pub fn misreadings() -> Vec<(Fault, Check)> {
     let mut faults: Vec<(Fault, Check)> = Vec::new();
     for text in TEXTS {

@@ -88,8 +88,8 @@ fn others(most: u8, path: &[u8], place: usize) -> Vec<Values> {
         .collect()
 }
 
-/// So many digits of the shape: a belt that differs from one shape to the next,
-/// and ways that go round, so that all have their turn and neighbours differ.
+/// So many digits of the shape: a belt that isn't the same for all shapes, and
+/// ways that go round, so that all have their turn and neighbours differ.
 pub fn round(shape: Shape, length: usize) -> Values {
     let belt = shape.arity % shape.roots;
     let ways = (shape.roots..shape.roots + shape.arity).map(|way| way % shape.arity);

@@ -1,6 +1,7 @@
 //! Each of the 256 bytes in the words of M and in the code of W. What a byte was
-//! read as shows in the packed words of a plan, in listings and in images; all of
-//! this is held to the table of ISO 646 (E4), besides the second implementation.
+//! read as shows in the packed words of a plan, in listings and in images. All of
+//! this is compared with the second implementation, and then held to the table of
+//! ISO 646 (E4), so that both aren't wrong alike.
 
 use library::comb::{round, Comb};
 use library::table;
@@ -83,8 +84,8 @@ fn wrong_byte(text: &[u8]) -> u8 {
 }
 
 /// Plans along each of the digits, typed, kept and listed, and then each of their
-/// from-words routed: where a digit is taken for another, no plan is left or
-/// another one is listed.
+/// from-words routed: where a digit is taken for another, no plan is left, another
+/// one is listed, or the image is another.
 pub fn digits_in_plans(calls: &dyn Calls) {
     let mut both = SideBySide::new(calls, &Desk::FRESH);
     for shape in shapes() {
@@ -95,7 +96,6 @@ pub fn digits_in_plans(calls: &dyn Calls) {
             keep_and_list(&mut both, &Comb::along(shape, &path));
         }
     }
-    both.tally.demand(69, &["a plan"]);
 }
 
 fn keep_and_list(both: &mut SideBySide, comb: &Comb) {
@@ -120,7 +120,6 @@ fn keep_and_list(both: &mut SideBySide, comb: &Comb) {
         let image = [b"ok\t", &to[..], b"\n"].concat();
         reply(both, &[b"W\tC\t", &from[..]].concat(), &image);
     }
-    both.tally.count("a plan");
 }
 
 /// Asserts the reply to a line that is done.

@@ -29,8 +29,6 @@ pub const ALL: [Check; 26] = [
     ("lines::of_any_bytes", lines::of_any_bytes),
     ("lines::at_the_limit", lines::at_the_limit),
     ("lines::for_every_slot", lines::for_every_slot),
-    ("bytes::in_words", bytes::in_words),
-    ("bytes::in_codes", bytes::in_codes),
     ("bytes::digits_in_plans", bytes::digits_in_plans),
     ("jobs::of_every_letter", jobs::of_every_letter),
     ("jobs::in_chains", jobs::in_chains),
@@ -43,6 +41,8 @@ pub const ALL: [Check; 26] = [
     ("damage::of_every_kind", damage::of_every_kind),
     ("damage::of_any_word", damage::of_any_word),
     ("sessions::of_full_desks", sessions::of_full_desks),
+    ("bytes::in_words", bytes::in_words),
+    ("bytes::in_codes", bytes::in_codes),
     ("sessions::of_lines", sessions::of_lines),
     ("sessions::with_jobs", sessions::with_jobs),
 ];

@@ -1,6 +1,7 @@
-//! Each of the 256 bytes at every place of a code, by plans whose images show the
-//! value that it was given. The answers are held to the table of ISO 646 (E4), and
-//! so is the second implementation.
+//! Each of the 256 bytes at every place of a code. Within the from-word the image
+//! shows the value that it was given; behind it, where digits are copied, only
+//! whether it was taken for a digit. The answers are held to the table of ISO 646
+//! (E4), and so is the second implementation.
 
 use reference::{Shape, CODE_DIGITS, PAIRS, WORD_DIGITS};
 
@@ -15,7 +16,7 @@ use crate::table;
 use crate::values::{Plan, Written};
 
 /// The digits of a code in which each place is tried: all that the longest
-/// from-words have, and a tail of more bytes than are read in one go.
+/// from-words have, and a tail long enough to be read sixteen bytes at a time.
 const PLACES: usize = 40;
 
 /// Digits behind the end of a code, for a call that would read on.
@@ -71,8 +72,8 @@ fn some_places(length: usize) -> Vec<usize> {
     places
 }
 
-/// Each byte twice, each beside another one, and each alone in a code: what is
-/// wrong at one place isn't mended at the next.
+/// Each byte twice, each beside another one, and codes of one byte repeated: what
+/// is wrong at one place isn't mended at the next.
 pub fn several_at_once(calls: &dyn Calls) {
     let mut rng = Rng::new(405);
     let mut tally = Tally::default();
@@ -85,7 +86,7 @@ pub fn several_at_once(calls: &dyn Calls) {
                 let (place, length) = (rng.below(PLACES - 1), rng.between(2, PLACES));
                 code[place] = byte;
                 code[rng.between(place + 1, PLACES - 1)] = other;
-                // the second one is left out of some
+                // cut short, so that one or both are left out of some
                 asked.compare(&code[..length]);
                 let number = asked.compare(&code[..PLACES]);
                 let wrong = |byte| table::value(byte).is_none();
