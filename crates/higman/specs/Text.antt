@@ -1,6 +1,6 @@
 -- Text as bytes: the letters and lines of document 01 written as they are read, and words as the digits that spell them, with the
--- statement that a digit's byte is read as by cases. Every text here is plain ASCII, where a character's code is its byte. Read
--- Bases.antt next.
+-- statement that reads a digit's byte by cases. Every text here is plain ASCII, where a character's code is its byte. Read Bases.antt
+-- next.
 use Prim.Native.Nat.{ℕ, suc, _+_, _*_, _-_}
 use Prim.Native.Char.{Char, code}
 use Prim.Native.String.{String, [] as empty, _∷_ as _before_}
@@ -86,7 +86,7 @@ digitCases =
 -- the value of a byte by such cases, and 0 in the remaining one
 abbrev pub valueBy : List (ℕ × ℕ) → ℕ → ℕ
 valueBy [] b = 0
-valueBy ((c, d) ∷ cases) b = elim (eqb b c) [ true ↦ d | false ↦ valueBy cases b ]
+valueBy ((c, value) ∷ cases) b = elim (eqb b c) [ true ↦ value | false ↦ valueBy cases b ]
 
 -- the range and the cases agree on every number, and so on all 256 bytes
 abbrev pub DigitsByCases : Type 0

@@ -2,17 +2,17 @@
 //! `bindings` are the C interface, `second` answers the same calls by the reference,
 //! `random` makes inputs, and `checks` compares any offer of the calls with the
 //! second implementation; `tests/` runs the checks on the proved library. For the
-//! bytes of codes, `table` says what each is, a `comb` shows what it was read as,
-//! and `misread` has copies of the second implementation that read one wrongly.
+//! bytes of codes, `table` says what each is, a `split_path` shows what it was read
+//! as, and `misread` has copies of the second implementation that read one wrongly.
 
 pub mod bindings;
 pub mod calls;
 pub mod checks;
-pub mod comb;
 pub mod misread;
 pub mod packed;
 pub mod random;
 pub mod second;
+pub mod split_path;
 pub mod table;
 pub mod values;
 

@@ -3,7 +3,7 @@
 //! this is compared with the second implementation, and then held to the table of
 //! ISO 646 (E4), so that both aren't wrong alike.
 
-use library::comb::{round, Comb};
+use library::split_path::{digits_in_turn, SplitPath};
 use library::table;
 use reference::{Shape, CODE_DIGITS, PAIRS, WORD_DIGITS};
 
@@ -26,7 +26,7 @@ fn shapes() -> impl Iterator<Item = Shape> {
 pub fn in_words(calls: &dyn Calls) {
     let mut both = SideBySide::new(calls, &Desk::FRESH);
     for shape in shapes() {
-        let digits = table::written(&round(shape, WORD_DIGITS));
+        let digits = table::written(&digits_in_turn(shape, WORD_DIGITS));
         for place in 0..WORD_DIGITS {
             for byte in 0..=255 {
                 let mut word = digits.clone();
@@ -89,20 +89,20 @@ fn wrong_byte(text: &[u8]) -> u8 {
 pub fn digits_in_plans(calls: &dyn Calls) {
     let mut both = SideBySide::new(calls, &Desk::FRESH);
     for shape in shapes() {
-        let deepest = Comb::within(shape, PAIRS).path.len();
+        let deepest = SplitPath::within(shape, PAIRS).path.len();
         for digit in 1..=shape.arity.max(shape.roots) {
             let mut path = vec![digit.min(shape.arity); deepest];
             path[0] = digit.min(shape.roots);
-            keep_and_list(&mut both, &Comb::along(shape, &path));
+            keep_and_list(&mut both, &SplitPath::along(shape, &path));
         }
     }
 }
 
-fn keep_and_list(both: &mut SideBySide, comb: &Comb) {
-    let Shape { arity, roots } = comb.shape;
+fn keep_and_list(both: &mut SideBySide, split: &SplitPath) {
+    let Shape { arity, roots } = split.shape;
     let [arity, roots] = [arity, roots].map(|number| char::from(table::byte(number)));
     let opening = format!("P\tC\t{arity}\t{roots}");
-    let typed = comb.typed();
+    let typed = split.typed();
     let pairs = typed
         .iter()
         .map(|(from, to)| [b"M\t", &from[..], b"\t", to].concat());
@@ -113,7 +113,7 @@ fn keep_and_list(both: &mut SideBySide, comb: &Comb) {
         listing.extend([&line[..], b"\n"].concat());
     }
     reply(both, b"E", format!("ok\t{}\n", typed.len()).as_bytes());
-    assert_eq!(both.desk().value(2), comb.value(), "by the table after E");
+    assert_eq!(both.desk().value(2), split.value(), "by the table after E");
     listing.extend(b"E\n");
     reply(both, b"L\tC", &listing);
     for (from, to) in &typed {
@@ -138,11 +138,11 @@ pub fn in_codes(calls: &dyn Calls) {
     for shape in shapes() {
         // one shape is enough for the deepest words, which take longest
         let most = if shape.roots == 1 { PAIRS } else { 40 };
-        let comb = Comb::within(shape, most);
+        let split = SplitPath::within(shape, most);
         let mut desk = Desk::FRESH;
-        desk.put(0, &comb.value());
+        desk.put(0, &split.value());
         both.start(&desk);
-        let digits = table::written(&round(shape, CODE_DIGITS));
+        let digits = table::written(&digits_in_turn(shape, CODE_DIGITS));
         let whole = (0..PLACES).map(|place| (place, PLACES));
         let last = (0..=WORD_DIGITS).map(|place| (place, place + 1));
         let long = [0, 15, 16, 63, 64, 511, 1022, 1023].map(|place| (place, CODE_DIGITS));
@@ -150,7 +150,7 @@ pub fn in_codes(calls: &dyn Calls) {
             for byte in 0..=255 {
                 let mut code = digits[..length].to_vec();
                 code[place] = byte;
-                route(&mut both, &comb, &code);
+                route(&mut both, &split, &code);
                 count(&mut both, shape, "code", &code, byte);
             }
         }
@@ -159,12 +159,12 @@ pub fn in_codes(calls: &dyn Calls) {
     demand(&both, &["code"]);
 }
 
-/// W of a code by a comb in slot A.
-fn route(both: &mut SideBySide, comb: &Comb, code: &[u8]) {
-    let (expected, reply) = match table::read(comb.shape, code) {
+/// W of a code by the plan along a split path, in slot A.
+fn route(both: &mut SideBySide, split: &SplitPath, code: &[u8]) {
+    let (expected, reply) = match table::read(split.shape, code) {
         None => (Written::refused(wrong_byte(code), 0), Vec::new()),
         Some(digits) => {
-            let reply = routed(comb, &digits);
+            let reply = routed(split, &digits);
             (Written::bytes(reply.len()), reply)
         }
     };
@@ -177,12 +177,12 @@ fn route(both: &mut SideBySide, comb: &Comb, code: &[u8]) {
 }
 
 /// The image of these digits, or the block of the pairs that extend them.
-fn routed(comb: &Comb, digits: &[u8]) -> Vec<u8> {
-    if let Some((from, to)) = comb.pair_beginning(digits) {
+fn routed(split: &SplitPath, digits: &[u8]) -> Vec<u8> {
+    if let Some((from, to)) = split.pair_beginning(digits) {
         let image = table::written(&[to, &digits[from.len()..]].concat());
         return [b"ok\t", &image[..], b"\n"].concat();
     }
-    let extend = comb
+    let extend = split
         .pairs
         .iter()
         .filter(|(from, _)| from.starts_with(digits));

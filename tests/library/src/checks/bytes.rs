@@ -7,11 +7,11 @@ use reference::{Shape, CODE_DIGITS, PAIRS, WORD_DIGITS};
 
 use super::tally::Tally;
 use crate::calls::Calls;
-use crate::comb::{round, Comb};
 use crate::packed::plan_value;
 use crate::random::bases::every_shape;
 use crate::random::{plans, Rng};
 use crate::second;
+use crate::split_path::{digits_in_turn, SplitPath};
 use crate::table;
 use crate::values::{Plan, Written};
 
@@ -32,7 +32,7 @@ pub fn at_every_place(calls: &dyn Calls) {
     for shape in most_digits_first() {
         // one number of belts is enough for the deepest words, which take longest
         let most = if shape.roots == 8 { PAIRS } else { 40 };
-        let asked = Asked::new(calls, Comb::within(shape, most));
+        let asked = Asked::new(calls, SplitPath::within(shape, most));
         let whole = (0..PLACES).map(|place| (place, PLACES));
         let last = (0..=WORD_DIGITS).map(|place| (place, place + 1));
         for (place, length) in whole.chain(last) {
@@ -51,7 +51,7 @@ pub fn in_long_codes(calls: &dyn Calls) {
             arity: n,
             roots: 11 - n,
         };
-        let asked = Asked::new(calls, Comb::along(shape, &round(shape, 3)));
+        let asked = Asked::new(calls, SplitPath::along(shape, &digits_in_turn(shape, 3)));
         for length in [17, 33, 64, 100, 1023, CODE_DIGITS] {
             for place in some_places(length) {
                 asked.compare_all(place, length, &mut tally);
@@ -78,7 +78,7 @@ pub fn several_at_once(calls: &dyn Calls) {
     let mut rng = Rng::new(405);
     let mut tally = Tally::default();
     for shape in most_digits_first() {
-        let asked = Asked::new(calls, Comb::within(shape, 40));
+        let asked = Asked::new(calls, SplitPath::within(shape, 40));
         let code = asked.code(PLACES);
         for byte in 0..=255 {
             for other in [byte, byte, rng.number() as u8, *rng.pick(b"0123456789:")] {
@@ -118,10 +118,10 @@ fn demand(tally: &Tally, parts: &[&str]) {
     }
 }
 
-/// A comb, and who is asked to route codes by it.
+/// A split path, and who is asked to route codes by it.
 struct Asked<'a> {
     calls: &'a dyn Calls,
-    comb: Comb,
+    split: SplitPath,
     value: Plan,
     plan: reference::Plan,
 }
@@ -130,12 +130,12 @@ struct Asked<'a> {
 type Answer = (usize, Result<Vec<u8>, u8>);
 
 impl Asked<'_> {
-    fn new(calls: &dyn Calls, comb: Comb) -> Asked<'_> {
-        let (value, plan) = (comb.value(), plans::kept(comb.shape, &comb.typed()));
-        assert_eq!(plan_value(&plan), value, "a comb is kept as it stands");
+    fn new(calls: &dyn Calls, split: SplitPath) -> Asked<'_> {
+        let (value, plan) = (split.value(), plans::kept(split.shape, &split.typed()));
+        assert_eq!(plan_value(&plan), value, "it is kept as it stands");
         Asked {
             calls,
-            comb,
+            split,
             value,
             plan,
         }
@@ -143,16 +143,16 @@ impl Asked<'_> {
 
     /// A code along the path and on, with digits behind its end.
     fn code(&self, length: usize) -> Vec<u8> {
-        table::written(&round(self.comb.shape, length + BEHIND))
+        table::written(&digits_in_turn(self.split.shape, length + BEHIND))
     }
 
     /// What the table says of a code.
     fn expected(&self, code: &[u8]) -> Answer {
-        let read = table::read(self.comb.shape, code);
+        let read = table::read(self.split.shape, code);
         let Some(digits) = read.filter(|digits| digits.len() <= CODE_DIGITS) else {
             return (code.len(), Err(4));
         };
-        match self.comb.pair_beginning(&digits) {
+        match self.split.pair_beginning(&digits) {
             None => (code.len(), Err(13)),
             Some((from, to)) => {
                 let tail = &digits[from.len()..];
@@ -198,7 +198,7 @@ impl Asked<'_> {
     }
 
     fn case(&self, code: &[u8]) -> String {
-        let (shape, path) = (self.comb.shape, &self.comb.path);
+        let (shape, path) = (self.split.shape, &self.split.path);
         format!("{} by {shape:?} along {path:?}", code.escape_ascii())
     }
 
@@ -206,7 +206,7 @@ impl Asked<'_> {
     fn count(&self, place: usize, byte: u8, number: u8, tally: &mut Tally) {
         let part = match place {
             0 => "belt",
-            _ if place < self.comb.path.len() => "from-word",
+            _ if place < self.split.path.len() => "from-word",
             _ => "tail",
         };
         match table::value(byte) {

@@ -15,8 +15,9 @@ use crate::values::Plan;
 /// A pair (from, to).
 pub type Pair = (Values, Values);
 
-/// A comb: its back is the path, its teeth are the words that leave it.
-pub struct Comb {
+/// A path with every block along it split: the plan of the words that leave the
+/// path and of its last word.
+pub struct SplitPath {
     pub shape: Shape,
     /// The deepest from-word.
     pub path: Values,
@@ -25,9 +26,9 @@ pub struct Comb {
     pub pairs: Vec<Pair>,
 }
 
-impl Comb {
-    /// The comb along this path.
-    pub fn along(shape: Shape, path: &[u8]) -> Comb {
+impl SplitPath {
+    /// The plan along this path.
+    pub fn along(shape: Shape, path: &[u8]) -> SplitPath {
         let mut from = others(shape.roots, path, 0);
         for place in 1..path.len() {
             from.extend(others(shape.arity, path, place));
@@ -36,18 +37,18 @@ impl Comb {
         from.sort();
         let mut to = from.clone();
         to.rotate_left(1);
-        Comb {
+        SplitPath {
             shape,
             path: path.to_vec(),
             pairs: from.into_iter().zip(to).collect(),
         }
     }
 
-    /// The comb along digits that go round, as deep as words may be or as so
-    /// many pairs allow.
-    pub fn within(shape: Shape, pairs: usize) -> Comb {
+    /// The plan along digits in turn, as deep as words may be or as so many pairs
+    /// allow.
+    pub fn within(shape: Shape, pairs: usize) -> SplitPath {
         let deepest = 1 + splits_within(shape, pairs);
-        Comb::along(shape, &round(shape, deepest.min(WORD_DIGITS)))
+        SplitPath::along(shape, &digits_in_turn(shape, deepest.min(WORD_DIGITS)))
     }
 
     /// The pair whose from-word begins these digits.
@@ -89,8 +90,8 @@ fn others(most: u8, path: &[u8], place: usize) -> Vec<Values> {
 }
 
 /// So many digits of the shape: a belt that isn't the same for all shapes, and
-/// ways that go round, so that all have their turn and neighbours differ.
-pub fn round(shape: Shape, length: usize) -> Values {
+/// then each of the ways in turn, again and again, so that neighbours differ.
+pub fn digits_in_turn(shape: Shape, length: usize) -> Values {
     let belt = shape.arity % shape.roots;
     let ways = (shape.roots..shape.roots + shape.arity).map(|way| way % shape.arity);
     let digits = once(belt).chain(ways.cycle());
@@ -106,24 +107,25 @@ mod tests {
     use reference::PAIRS;
 
     #[test]
-    fn a_comb_by_hand() {
-        let comb = Comb::along(Shape { arity: 2, roots: 2 }, &[2, 1, 1]);
+    fn a_split_path_by_hand() {
+        let split = SplitPath::along(Shape { arity: 2, roots: 2 }, &[2, 1, 1]);
         let typed = [("1", "211"), ("211", "212"), ("212", "22"), ("22", "1")];
         let typed = typed.map(|(from, to)| (from.into(), to.into()));
-        assert_eq!(comb.typed(), typed);
-        assert_eq!(round(Shape { arity: 3, roots: 2 }, 6), [2, 3, 1, 2, 3, 1]);
+        assert_eq!(split.typed(), typed);
+        let shape = Shape { arity: 3, roots: 2 };
+        assert_eq!(digits_in_turn(shape, 6), [2, 3, 1, 2, 3, 1]);
     }
 
     /// They are kept as they stand, reduced and in order, and nearly all have
     /// words of 16 digits; 9 belts and 15 splits by 9 ways are 129 words.
     #[test]
-    fn combs_are_kept_plans() {
+    fn split_paths_are_kept_plans() {
         for shape in every_shape() {
-            let comb = Comb::within(shape, PAIRS);
-            let kept = plans::kept(shape, &comb.typed());
-            assert_eq!(plan_value(&kept), comb.value());
+            let split = SplitPath::within(shape, PAIRS);
+            let kept = plans::kept(shape, &split.typed());
+            assert_eq!(plan_value(&kept), split.value());
             let missing = usize::from(shape == Shape { arity: 9, roots: 9 });
-            assert_eq!(comb.path.len(), WORD_DIGITS - missing);
+            assert_eq!(split.path.len(), WORD_DIGITS - missing);
         }
     }
 }
