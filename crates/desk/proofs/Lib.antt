@@ -1,7 +1,8 @@
 -- The arguments, each file after those it leans on. The terms of the statements of specs/Theorems.antt are in Outcomes (RefusalDrops),
 -- Stays (DeskStays), TypedLines (AcceptedFromLines), Desks (DeskTest), Surveys (SurveyExact), Calls (CallsExact), Session (FedInPieces,
--- SessionFed) and ReadBack (TypedIn, ListingReadBack); that of specs/Grammar.antt is in Grammar; those of specs/Demands.antt in Replies
--- (RepliesExact, DeskParts), Exercises (ExercisesFixed), Demand1, Demand2 and Demands; that of specs/Cases.antt in Cases.
+-- SessionFed), ReadBack (TypedIn, ListingReadBack) and Sheets (NoShorterSheet); that of specs/Grammar.antt is in Grammar; those of
+-- specs/Demands.antt in Replies (RepliesExact, DeskParts), Exercises (ExercisesFixed), Demand1, Demand2 and Demands; that of
+-- specs/Cases.antt in Cases.
 pub mod Outcomes
 pub mod Stays
 pub mod OpenPlans
@@ -16,6 +17,7 @@ pub mod Session
 pub mod ReadBack
 pub mod Conditions
 pub mod Replies
+pub mod Sheets
 pub mod Arranged
 pub mod Surveys
 pub mod Demand1

@@ -37,7 +37,7 @@ use Rattle.desk.proofs.Grammar.{parse-text}
 use Rattle.desk.proofs.Lines.{respond-record}
 
 -- bytes without a certain one
-abbrev Without : ℕ → Bytes → Type 0
+abbrev pub Without : ℕ → Bytes → Type 0
 Without c [] = Unit {0}
 Without c (b ∷ l) = (eqb b c ≡ false) × Without c l
 
@@ -50,17 +50,17 @@ without-append c [] y h k = k
 without-append c (b ∷ x) y h k = (h .0, without-append c x y (h .1) k)
 
 -- the three kinds of lines, as a listing has them, are texts of records
-abbrev openLine : ℕ → Shape → Bytes
+abbrev pub openLine : ℕ → Shape → Bytes
 openLine b s = 80 ∷ tab ∷ b ∷ tab ∷ digitByte (s .arity) ∷ tab ∷ digitByte (s .roots) ∷ []
 
-abbrev pairLine : Pair → Bytes
+abbrev pub pairLine : Pair → Bytes
 pairLine p = 77 ∷ tab ∷ (wordBytes (p .from) ++ tab ∷ wordBytes (p .to))
 
 one-digit : (a : ℕ) → a ≤ 9 → T (hasDigits 1 a)
 one-digit a h = subst (λ l. T (leb (length l) 1)) (sym (decimal-digit a (omega arith))) tt
 
 module _ (b : ℕ) (s : Shape) (plain : eqb b tab ≡ false) (n : s .arity ≤ 9) (r : s .roots ≤ 9) where
-  open-text : recordText (P b (s .arity) (s .roots)) ≡ openLine b s
+  pub open-text : recordText (P b (s .arity) (s .roots)) ≡ openLine b s
   unfolding recordText
   open-text = rw (decimal-digit (s .arity) (omega arith), decimal-digit (s .roots) (omega arith))
 
@@ -85,22 +85,26 @@ parse-pair p = parse-text (M (wordBytes (p .from)) (wordBytes (p .to))) well-for
         and-intro (all noTab (wordBytes (p .from) ∷ wordBytes (p .to) ∷ [])) true
         (all-cons noTab (wordBytes (p .from)) (wordBytes (p .to) ∷ []) (word-no-tab (p .from)) (all-cons noTab (wordBytes (p .to)) [] (word-no-tab (p .to)) tt)) tt
 
+-- the words of a pair, written and read again
+pub pair-back : (s : Shape) → T (shapeInRange s) → (p : Pair) → T (isPlanWord s (p .from) && isPlanWord s (p .to))
+    → typedPair (wordBytes (p .from)) (wordBytes (p .to)) ≡ p
+pair-back s r p h =
+    pair-path
+    (word-back (p .from) (and-left (isPlanWord s (p .from)) (isPlanWord s (p .to)) h))
+    (word-back (p .to) (and-right (isPlanWord s (p .from)) (isPlanWord s (p .to)) h))
+  where
+    word-back : (w : Word) → T (isPlanWord s w) → wordOf (wordBytes w) ≡ w
+    word-back w t = word-of-bytes w (plan-word-ways s w t r)
+
 operation-pair : (d : Desk) (o : Draft) (p : Pair) → T (shapeInRange (o .shape))
     → T (isPlanWord (o .shape) (p .from) && isPlanWord (o .shape) (p .to))
     → length (o .rows) < maxPairs
     → operation (withDraft d o) (M (wordBytes (p .from)) (wordBytes (p .to))) ≡ pass (withDraft d (withPair o p), silent)
 operation-pair d o p r h k =
-    pair-pass d o (wordBytes (p .from)) (wordBytes (p .to)) (subst (λ q. T (isPlanWord (o .shape) (q .from) && isPlanWord (o .shape) (q .to))) (sym spelt-back) h) k
-    ∙ ap (λ q. pass (withDraft d (withPair o q), silent)) spelt-back
-  where
-    word-back : (w : Word) → T (isPlanWord (o .shape) w) → wordOf (wordBytes w) ≡ w
-    word-back w t = word-of-bytes w (plan-word-ways (o .shape) w t r)
-
-    spelt-back : typedPair (wordBytes (p .from)) (wordBytes (p .to)) ≡ p
-    spelt-back =
-        pair-path
-        (word-back (p .from) (and-left (isPlanWord (o .shape) (p .from)) (isPlanWord (o .shape) (p .to)) h))
-        (word-back (p .to) (and-right (isPlanWord (o .shape) (p .from)) (isPlanWord (o .shape) (p .to)) h))
+    let back = pair-back (o .shape) r p h in
+    pair-pass d o (wordBytes (p .from)) (wordBytes (p .to))
+    (subst (λ q. T (isPlanWord (o .shape) (q .from) && isPlanWord (o .shape) (q .to))) (sym back) h) k
+    ∙ ap (λ q. pass (withDraft d (withPair o q), silent)) back
 
 operation-close : (d : Desk) (o : Draft) → verdict (o .shape) (o .rows) ≡ Accepted → keep (o .shape) (o .rows) ≡ o .rows
     → countOf d < maxChanges
@@ -112,11 +116,11 @@ operation-close d o v k h =
     ∙ ap (λ t. pass (changed d (o .slot) (some (record { shape = o .shape; rows = t })), okNumber (length t))) k
 
 -- the words of a table are words in a plan
-abbrev Spelt : Shape → Table → Type 0
+abbrev pub Spelt : Shape → Table → Type 0
 Spelt s [] = Unit {0}
 Spelt s (p ∷ t) = T (isPlanWord s (p .from) && isPlanWord s (p .to)) × Spelt s t
 
-spelt : (s : Shape) (t : Table) → T (all (isWord s) (froms t)) → T (all (isWord s) (tos t)) → T (all pairFits t) → Spelt s t
+pub spelt : (s : Shape) (t : Table) → T (all (isWord s) (froms t)) → T (all (isWord s) (tos t)) → T (all pairFits t) → Spelt s t
 spelt s [] f g h = tt
 spelt s (p ∷ t) f g h =
     let few = all-head pairFits p t h in (
@@ -130,10 +134,10 @@ pair-line-fits : (p : Pair) → length (p .from) ≤ maxDigits → length (p .to
 unfolding maxDigits maxLine
 pair-line-fits p h k = simp (length-append, length-map) (omega arith)
 
-pair-line-inside : (p : Pair) → Without lineEnd (pairLine p)
+pub pair-line-inside : (p : Pair) → Without lineEnd (pairLine p)
 pair-line-inside p = (refl, (refl, without-append lineEnd (wordBytes (p .from)) (tab ∷ wordBytes (p .to)) (word-without lineEnd (lit< tt) (p .from)) (refl, word-without lineEnd (lit< tt) (p .to))))
 
-pair-record : (p : Pair) (y : Bytes) → pairRecord p ++ y ≡ pairLine p ++ lineEnd ∷ y
+pub pair-record : (p : Pair) (y : Bytes) → pairRecord p ++ y ≡ pairLine p ++ lineEnd ∷ y
 pair-record p y = simp append-assoc
 
 abbrev draftOf : ℕ → Shape → Table → Draft
@@ -194,7 +198,7 @@ parse-close : parse (69 ∷ []) ≡ some E
 unfolding recordText wellFormed
 parse-close = parse-text E tt
 
-open-line-inside : (b : ℕ) (s : Shape) → eqb b lineEnd ≡ false → Without lineEnd (openLine b s)
+pub open-line-inside : (b : ℕ) (s : Shape) → eqb b lineEnd ≡ false → Without lineEnd (openLine b s)
 open-line-inside b s h = (refl, (refl, (h, (refl, (digit (s .arity), (refl, (digit (s .roots), tt)))))))
   where
     digit : (a : ℕ) → eqb (digitByte a) lineEnd ≡ false
@@ -208,7 +212,7 @@ close-line-fits : length {A = ℕ} (69 ∷ []) ≤ maxLine
 unfolding maxLine
 close-line-fits = lit≤ tt
 
-slot-plain : (b c : ℕ) → T (isSlot b) → c < 65 → eqb b c ≡ false
+pub slot-plain : (b c : ℕ) → T (isSlot b) → c < 65 → eqb b c ≡ false
 slot-plain b c h k = ne-eqb b c (λ e. let low : 65 ≤ b = leb→le 65 b (and-left (leb 65 b) (leb (suc b) (slotByte slotCount)) h) in omega arith)
 
 pub typed-in : TypedIn

@@ -6,15 +6,16 @@ use mathlib.Core.Bool.{Bool, true, false}
 use mathlib.Core.List.{List, [], _∷_, List·Memᴰ, List·Memᴰ·head, List·Memᴰ·tail, List·Memᴰ·cases-cons, List·Memᴰ·not-nil}
 use mathlib.Core.Logic.{_⊎_, inl, inr}
 use mathlib.Core.Option.{Option, none, some}
+use lib.Dec.{T as So}
 use lib.ListN.{length, getD, set, replicate}
 use Rattle.higman.specs.Words.{given}
 use Rattle.higman.specs.Limits.{Plan, slotCount}
-use Rattle.higman.proofs.Tests.{clash}
+use Rattle.higman.proofs.Tests.{clash, all-head}
 use Rattle.higman.specs.Text.{Bytes, wordOf}
 use Rattle.desk.specs.Desk.{Draft, Desk, freshDesk, countOf, held, changed, withDraft, withPair, dropped}
 use Rattle.desk.specs.Records.{Record, P, M, E, F, I, K, S, W, L, C, T, U, X, Use, reads, target, SlotUse, reading, writing}
 use Rattle.desk.specs.Records.{needsOpen, slotsNamed, isChange}
-use Rattle.higman.specs.Listing.{slotNumber}
+use Rattle.higman.specs.Listing.{slotNumber, isSlot}
 use Rattle.desk.specs.Replies.{Effect, silent, ok, okNumber, lists, surveys, isOpen, surveyed, newDraft, job, operation}
 use Rattle.desk.specs.Demands.{RepliesExact, SlotsUsed, DeskParts}
 use Rattle.desk.proofs.Outcomes.{Passes, passes, passes-then, any-then, passed, plan-held, plan-open, passes-operation}
@@ -49,12 +50,19 @@ empty-steps : (d : Desk) (a : ℕ) → Passes (Empties d a) (operation d (C a))
 unfolding job
 empty-steps d a = passes-operation d (C a) (λ _. passes-then (plan-held d a) (λ p x. passes (p, x, refl)))
 
-abbrev Shows : Desk → ℕ → Effect → Type 0
-Shows d a e = (p : Plan) × (held d (slotNumber a) ≡ some p) × (e ≡ (d, lists a p))
+-- what L shows, and that its byte names a slot, which the P record of the listing names again
+pub record Shows (d : Desk) (a : ℕ) (e : Effect) : Type 0 where
+  pub named : So (isSlot a)
+  pub plan : Plan
+  pub in-slot : held d (slotNumber a) ≡ some plan
+  pub effect : e ≡ (d, lists a plan)
 
-show-steps : (d : Desk) (a : ℕ) → Passes (Shows d a) (operation d (L a))
-unfolding job
-show-steps d a = passes-operation d (L a) (λ _. passes-then (plan-held d a) (λ p x. passes (p, x, refl)))
+pub show-steps : (d : Desk) (a : ℕ) → Passes (Shows d a) (operation d (L a))
+unfolding job slotsNamed
+show-steps d a =
+    passes-operation d (L a)
+    (λ t. let slot = all-head (λ u. isSlot (u .slot)) (reading a) [] (t .slots-named) in
+    passes-then (plan-held d a) (λ p x. passes (record { named = slot; plan = p; in-slot = x; effect = refl })))
 
 count-steps : (d : Desk) → Passes (λ e. e ≡ (d, okNumber (countOf d))) (operation d T)
 unfolding job
@@ -100,7 +108,7 @@ replies-exact =
       opens = λ d a n r e h. passed (open-steps d a n r) e h;
       adds = λ d from to e h. passed (add-steps d from to) e h;
       empties = λ d a e h. passed (empty-steps d a) e h;
-      lists = λ d a e h. passed (show-steps d a) e h;
+      lists = λ d a e h. let s = passed (show-steps d a) e h in (s .plan, s .in-slot, s .effect);
       counts = λ d e h. passed (count-steps d) e h;
       surveys = λ d e h. passed (find-steps d) e h;
       only-changes = λ d r e b h. subst (λ x. Counts x d e) b (passed (operation-counts d r) e h);

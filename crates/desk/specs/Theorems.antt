@@ -1,5 +1,5 @@
--- The statements. Of one line: RefusalDrops, DeskStays, DeskTest, SurveyExact and BlockReplied. Of a session: LinesExact, LinesFed,
--- FedInPieces (wherever its input is cut), SessionFed (what the state holds of a line is enough), TypedIn,
+-- The statements. Of one line: RefusalDrops, DeskStays, DeskTest, SurveyExact, BlockReplied and NoShorterSheet. Of a session: LinesExact,
+-- LinesFed, FedInPieces (wherever its input is cut), SessionFed (what the state holds of a line is enough), TypedIn,
 -- AcceptedFromLines and ListingReadBack. Of a library call: CallsExact. proofs/ has one term of each. Read Conditions.antt next.
 use Prim.Native.Nat.{ℕ, _≤_, _<_}
 use mathlib.Core.Path.{_≡_}
@@ -18,11 +18,12 @@ use Rattle.higman.specs.Limits.{Plan, Bases, Kept, shapeInRange, isPlanWord, ma
 use Rattle.higman.specs.Refusals.{bufferTooShort, invalidValue, Letter}
 use Rattle.higman.specs.Answers.{isTableOf, followed, Granted}
 use Rattle.higman.specs.Fronts.{BlockOf, SendsInTurn}
+use Rattle.higman.specs.Shortest.{ActsAs, NotShorter}
 use Rattle.higman.specs.Listing.{slotNumber, slotByte, isSlot, openRecord, pairRecords, joinLines}
 use Rattle.higman.specs.Buffers.{written}
 use Rattle.desk.specs.Limits.{maxChanges}
 use Rattle.desk.specs.Desk.{Desk, countOf, held, IsDesk, isDesk, freshDesk, changed, withDraft, dropped}
-use Rattle.desk.specs.Records.{Record, P, M, E, W, U, recordText, wellFormed}
+use Rattle.desk.specs.Records.{Record, P, M, E, W, L, U, recordText, wellFormed}
 use Rattle.desk.specs.Replies.{refuse, pass, Effect, lists, surveys, Held, pairsIn, okNumber, okBlock, refuses, operation}
 use Rattle.desk.specs.Replies.{respondLine, run, deskAfter}
 use Rattle.desk.specs.Bytes.{replyBytes}
@@ -157,6 +158,19 @@ ListingReadBack =
     (d : Desk) → d .draft ≡ none → countOf d < maxChanges → (b : ℕ) → T (isSlot b) → (p : Plan) → Kept p
     → feed (idle d) (replyBytes (lists b p))
     ≡ (idle (changed d (slotNumber b) (some p)), replyBytes (okNumber (length (p .rows))))
+
+-- Change request E10, "No shorter sheet": the lines that L replies are P, an M for each pair of the plan in the slot and E, and no table
+-- that acts as the plan does (`ActsAs`) is shorter than the pairs of these lines.
+pub record ShortestSheet (d : Desk) (c : ℕ) (e : Effect) : Type 0 where
+  pub plan : Plan
+  pub in-slot : held d (slotNumber c) ≡ some plan
+  pub printed : List TypedPair
+  pub lines : linesFrom [] (replyBytes (e .1)) ≡ map recordText (typedRecords c (plan .shape) printed)
+  pub spelled : typedTable printed ≡ plan .rows
+  pub none-shorter : (t : Table) → ActsAs (plan .shape) (plan .rows) t → NotShorter (typedTable printed) t
+
+abbrev pub NoShorterSheet : Type 0
+NoShorterSheet = (d : Desk) → IsDesk d → (c : ℕ) (e : Effect) → operation d (L c) ≡ pass e → ShortestSheet d c e
 
 -- Library calls: 15 first, then the refusals of the work itself, 14 last; what is lent and the desk after each of them.
 pub record CallsExact : Type 0 where

@@ -1,7 +1,8 @@
 -- The arguments, each file after those it leans on. The terms of the statements of specs/Theorems.antt and specs/Cases.antt are in
--- Columns (bases), Results (what is reduced), MinimalExpansion, Statements (normal form, group, answers), Demand3, Listing, Decimals and Cases;
--- that of specs/Text.antt is in Text; that of specs/Fronts.antt in Fronts; that of specs/Exercises.antt in Exercises, and the files from
--- Draws on lead to it; that of specs/Automorphisms.antt is in Automorphisms, and the files from Codes on lead to it.
+-- Columns (bases), Results (what is reduced), MinimalExpansion, Statements (normal form, group, answers), Demand3, Listing, Decimals and
+-- Cases; that of specs/Text.antt is in Text; that of specs/Fronts.antt in Fronts; that of specs/Exercises.antt in Exercises, and the files
+-- from Draws on lead to it; that of specs/Shortest.antt in Shortest; that of specs/Automorphisms.antt is in Automorphisms, and the files
+-- from Codes on lead to it.
 pub mod Tests
 pub mod Text
 pub mod Decimals
@@ -39,6 +40,7 @@ pub mod Shuffles
 pub mod Lengths
 pub mod Determined
 pub mod Exercises
+pub mod Shortest
 pub mod Codes
 pub mod Algebras
 pub mod StandardForms

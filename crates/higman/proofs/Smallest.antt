@@ -1,7 +1,8 @@
--- No table with the same action is smaller than the normal form: each of its pairs is extended by a pair of the table, and different
--- ones by different ones. So what keeps the limits still does when it is reduced.
+-- Of two columns the one whose words each begin with a word of the other has no fewer words. And a table with bases for columns is no
+-- smaller than its normal form: each pair of this is extended by a pair of the table, and different ones by different ones. So what keeps
+-- the limits still does when it is reduced.
 use Prim.Native.Nat.{ℕ, suc, _≤_, _<_, zero-le, suc-le-suc}
-use mathlib.Core.Path.{_≡_, refl, sym, _∙_, ap, subst}
+use mathlib.Core.Path.{_≡_, refl, sym, _∙_, ap, subst, subst₂}
 use mathlib.Core.Logic.{_⊎_, inl, inr}
 use mathlib.Core.List.{List, [], _∷_, _++_, append-assoc, Memᴰ·map, Memᴰ·of-map, List·Permᴰ}
 use mathlib.Core.List.{List·Memᴰ, List·Memᴰ·head, List·Memᴰ·tail, List·Memᴰ·cases-cons}
@@ -17,9 +18,10 @@ use Rattle.higman.specs.Normal.{keep}
 use Rattle.higman.specs.Limits.{maxPairs, maxDigits, fits, pairFits, granted}
 use Rattle.higman.proofs.Tests.{IsWord, and-left, and-right, and-intro, all-at, all-of, pair-path}
 use Rattle.higman.proofs.Prefixes.{comparable, word-append, ones, ones-ways, ones-length}
-use Rattle.higman.proofs.Proper.{Apart}
+use Rattle.higman.proofs.Proper.{Apart, Proper}
 use Rattle.higman.proofs.Images.{row-of-image, image-of-row, image-of-from}
-use Rattle.higman.proofs.Expansions.{mem-of-perm, length-of-perm, perm-of-mem, same-of-apart}
+use Rattle.higman.proofs.Expansions.{Begun, mem-of-perm, length-of-perm, perm-of-mem, same-of-apart}
+use Rattle.higman.proofs.Columns.{Comparable, comparable-of-proper}
 use Rattle.higman.proofs.Actions.{Action}
 use Rattle.higman.proofs.Elements.{Element, element-action, word-length}
 use Rattle.higman.proofs.Group.{Member, keep-acts, keep-member}
@@ -47,6 +49,27 @@ length-le-of-extended (u ∷ c) e a h =
         go : (w′ ≡ w) ⊎ List·Memᴰ w′ k → (w″ : Word) × (y : Word) × List·Memᴰ w″ k × (w″ ≡ v ++ y)
         go (inl f) = absurd (once w x v y q p (sym f ∙ r))
         go (inr g) = (w′, y, g, r)
+
+-- c has no more words than e where the words of e each begin with a word of c: each word of c goes on in one of e
+pub length-le-of-begun : (s : Shape) (c e : List Word) → 1 ≤ s .arity → Proper s c → Proper s e
+    → ((w : Word) → List·Memᴰ w e → Begun c w) → length c ≤ length e
+length-le-of-begun s c e n C E begun = length-le-of-extended c e (C .apart) extended
+  where
+    extended : (u : Word) → List·Memᴰ u c → (w : Word) × (x : Word) × List·Memᴰ w e × (w ≡ u ++ x)
+    extended u m =
+        let (w, l, h) = comparable-of-proper s e n E u (C .words u m) in
+        let (x, f) = below w h (begun w l) in
+        (w, x, l, f)
+      where
+        below : (w : Word) → Comparable u w → Begun c w → (x : Word) × (w ≡ u ++ x)
+        below w (inl h) b = h
+        -- u goes on behind w, and w behind a word v of c: v and u are one word, and so is w, which is between them
+        below w (inr (z, f)) (v, x, k, g) =
+            (x, g ∙ ap (λ y. y ++ x) (same-of-apart c (C .apart) v u (x ++ z) k m (f ∙ ap (λ y. y ++ z) g ∙ append-assoc v x z)))
+
+-- a table has as many pairs as from-words
+pub length-le-of-froms : (a t : Table) → length (froms a) ≤ length (froms t) → length a ≤ length t
+length-le-of-froms a t h = subst₂ (λ i j. i ≤ j) (length-map a (λ p. p .from)) (length-map t (λ p. p .from)) h
 
 -- the pair of a table that extends a pair of its normal form, by the same tail in both columns
 abbrev pub Extended : Table → Pair → Type 0
@@ -100,9 +123,8 @@ module _ (s : Shape) (n : 1 ≤ s .arity) where
 
   pub keep-length : (t : Table) → Element s t → length (keep s t) ≤ length t
   keep-length t E =
-      subst (λ j. j ≤ length t) (length-map (keep s t) (λ p. p .from))
-      (subst (λ j. length (froms (keep s t)) ≤ j) (length-map t (λ p. p .from))
-      (length-le-of-extended (froms (keep s t)) (froms t) (keep-member s n t E .element .from-proper .apart) (λ u m. at u m)))
+      length-le-of-froms (keep s t) t
+      (length-le-of-extended (froms (keep s t)) (froms t) (keep-member s n t E .element .from-proper .apart) (λ u m. at u m))
     where
       at : (u : Word) → List·Memᴰ u (froms (keep s t)) → (w : Word) × (x : Word) × List·Memᴰ w (froms t) × (w ≡ u ++ x)
       at u m =

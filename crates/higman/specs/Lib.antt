@@ -1,7 +1,7 @@
 -- The definitions, in reading order: words, and words as text; bases; tables; the normal form and the group; what is granted; the
 -- numbers of the refusals; the answers of the calls; the listing; lent buffers; the statements of the theorems; fronts of codes and
--- their blocks; plans made by numbers; Higman's algebras, and the statement that the plans are their automorphisms; and the worked
--- cases. proofs/ has a term of each statement.
+-- their blocks; plans made by numbers; that no table with the same action is shorter; Higman's algebras, and the statement that the plans
+-- are their automorphisms; and the worked cases. proofs/ has a term of each statement.
 pub mod Words
 pub mod Text
 pub mod Bases
@@ -15,6 +15,7 @@ pub mod Buffers
 pub mod Theorems
 pub mod Fronts
 pub mod Exercises
+pub mod Shortest
 pub mod Algebras
 pub mod StandardForms
 pub mod Automorphisms
