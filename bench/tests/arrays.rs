@@ -2,7 +2,8 @@
 //! must give the same answers, refusals included.
 
 use bench::arrays::Arrays;
-use library::checks::{bytes, drafts, laws, listings, paper, powers, products, routes};
+use library::checks::{bytes, drafts, every_table, laws, listings};
+use library::checks::{paper, powers, products, routes, tables};
 
 #[test]
 fn cases_of_the_paper() {
@@ -58,4 +59,15 @@ fn every_byte_of_a_code() {
     bytes::at_every_place(&Arrays);
     bytes::in_long_codes(&Arrays);
     bytes::several_at_once(&Arrays);
+}
+
+#[test]
+fn tables_beside_listings() {
+    tables::split_from_plans(&Arrays);
+    tables::words_above_plans(&Arrays);
+    tables::changed_tables(&Arrays);
+    every_table::beside_every_plan(&Arrays);
+    every_table::beside_some_plans(&Arrays);
+    every_table::near_plans(&Arrays);
+    every_table::without_a_condition(&Arrays);
 }

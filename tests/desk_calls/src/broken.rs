@@ -225,8 +225,12 @@ impl Broken {
             }
             Fault::ByteBehind if answer.number == 0 && end < out.len() => out[end] = 0,
             Fault::ClearedBuffer if answer.number == 0 => out[end..].fill(0),
-            _ if line == b"U" && answer.number == 0 => {
-                let wrong = self.wrong_survey(&out[..end]);
+            _ if answer.number == 0 => {
+                let wrong = match self.fault {
+                    Fault::Mislisted(listing) => listing.reply(line, &out[..end]),
+                    _ if line == b"U" => self.wrong_survey(&out[..end]),
+                    _ => return,
+                };
                 if wrong.len() <= out.len() {
                     out[..wrong.len()].copy_from_slice(&wrong);
                     answer.length = wrong.len();

@@ -4,7 +4,8 @@
 use library::misread::{Step, STEPS};
 
 use crate::calls::Calls;
-use crate::checks::{buffers, bytes, damage, jobs, lines, paper, refusals, sessions};
+use crate::checks::{buffers, bytes, damage, jobs, lines, paper, refusals, sessions, tables};
+use crate::mislisted::{Listing, LISTINGS};
 use crate::misread::{Text, TEXTS};
 
 /// What is wrong.
@@ -107,6 +108,8 @@ pub enum Fault {
     WordsAfterKeep,
     /// The digits of a text are read by a wrong step.
     Misread(Text, Step),
+    /// Other pairs are listed than are held, or compared.
+    Mislisted(Listing),
 }
 
 /// A check of the calls.
@@ -181,4 +184,16 @@ pub fn misreadings() -> Vec<(Fault, Check)> {
         }
     }
     faults
+}
+
+/// Each wrong listing or comparison (E10), and a check that has to see it.
+pub fn mislistings() -> Vec<(Fault, Check)> {
+    let checks = LISTINGS.map(|listing| {
+        let check: Check = match listing {
+            Listing::AlwaysSame => tables::that_act_otherwise,
+            _ => tables::beside_listings,
+        };
+        (Fault::Mislisted(listing), check)
+    });
+    checks.into()
 }

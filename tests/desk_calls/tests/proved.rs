@@ -1,7 +1,7 @@
 //! The proved desk on the session of document 01, and against the second
 //! implementation.
 
-use desk_calls::checks::{buffers, bytes, damage, jobs, lines, paper, refusals, sessions};
+use desk_calls::checks::{buffers, bytes, damage, jobs, lines, paper, refusals, sessions, tables};
 use desk_calls::Library;
 
 #[test]
@@ -132,4 +132,14 @@ fn desks_with_every_damage() {
 #[test]
 fn desks_with_any_word_changed() {
     damage::of_any_word(&Library);
+}
+
+#[test]
+fn tables_beside_listings() {
+    tables::beside_listings(&Library);
+}
+
+#[test]
+fn tables_that_act_otherwise() {
+    tables::that_act_otherwise(&Library);
 }

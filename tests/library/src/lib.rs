@@ -4,10 +4,14 @@
 //! second implementation; `tests/` runs the checks on the proved library. For the
 //! bytes of codes, `table` says what each is, a `split_path` shows what it was read
 //! as, and `misread` has copies of the second implementation that read one wrongly.
+//! For the pairs of listings, `listed` has what E10 says of them, and `misjoined`
+//! copies that join wrongly.
 
 pub mod bindings;
 pub mod calls;
 pub mod checks;
+pub mod listed;
+pub mod misjoined;
 pub mod misread;
 pub mod packed;
 pub mod random;

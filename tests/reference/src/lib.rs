@@ -3,7 +3,8 @@
 //! the definitions word by word: it is made to be read and compared with, not
 //! to be fast. Document 01 decides on records and numbers, with change requests
 //! E1 for the blocks of W, E2 for the order of U's lines and E3 for the plans of
-//! X, and document 004 on words, bases and maps.
+//! X, and document 004 on words, bases and maps. The tables of E10, which may be
+//! laid beside a listing, have a module of their own and no limits.
 
 pub mod basis;
 pub mod desk;
@@ -12,6 +13,7 @@ pub mod maps;
 pub mod plan;
 pub mod records;
 pub mod refusal;
+pub mod tables;
 pub mod words;
 
 pub use basis::{Fault, Flaw, Side};

@@ -11,6 +11,7 @@ pub mod paper;
 pub mod refusals;
 pub mod sessions;
 pub mod side_by_side;
+pub mod tables;
 
 use crate::calls::Calls;
 
@@ -18,7 +19,7 @@ use crate::calls::Calls;
 pub type Check = (&'static str, fn(&dyn Calls));
 
 /// Every check, those that take long behind the others.
-pub const ALL: [Check; 26] = [
+pub const ALL: [Check; 28] = [
     ("paper::session", paper::session),
     ("paper::session_in_jobs", paper::session_in_jobs),
     ("paper::block_without_room", paper::block_without_room),
@@ -41,6 +42,8 @@ pub const ALL: [Check; 26] = [
     ("damage::of_every_kind", damage::of_every_kind),
     ("damage::of_any_word", damage::of_any_word),
     ("sessions::of_full_desks", sessions::of_full_desks),
+    ("tables::beside_listings", tables::beside_listings),
+    ("tables::that_act_otherwise", tables::that_act_otherwise),
     ("bytes::in_words", bytes::in_words),
     ("bytes::in_codes", bytes::in_codes),
     ("sessions::of_lines", sessions::of_lines),

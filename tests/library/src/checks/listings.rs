@@ -2,12 +2,11 @@
 //! and empty, plans of all sizes and damaged values. A listing is also read
 //! back: typed again, it must be kept as the same plan.
 
-use reference::Shape;
-
 use super::buffers::{self, compare as compare_buffer, lengths, output_length, AMPLE};
 use super::tally::Tally;
 use crate::calls::Calls;
-use crate::packed::{plan_value, value, Row};
+use crate::listed::Listed;
+use crate::packed::{plan_value, value};
 use crate::random::bases::{deep_basis, every_shape, most_splits, some_shape};
 use crate::random::damage::damaged;
 use crate::random::{plans, Rng};
@@ -70,22 +69,12 @@ fn compare(calls: &dyn Calls, plan: &Plan, slot: u8, tally: &mut Tally) {
 fn read_back(calls: &dyn Calls, plan: &Plan, slot: u8) {
     let mut out = [0; AMPLE];
     let written = calls.list(plan, slot, &mut out);
-    let text = std::str::from_utf8(&out[..written.length]).expect("digits and letters");
-    let mut rows: Vec<Row> = text.lines().filter_map(row).collect();
-    rows.reverse();
-    let shape = Shape {
-        arity: plan.arity,
-        roots: plan.roots,
-    };
-    let kept = calls.keep(&value(shape, &rows));
+    let mut listed = Listed::read(&out[..written.length]);
+    listed.rows.reverse();
+    let kept = calls.keep(&value(listed.shape, &listed.rows));
     assert_eq!(
         (kept.number, kept.plan),
         (0, *plan),
-        "read back from {text}"
+        "read back from {listed}"
     );
-}
-
-fn row(line: &str) -> Option<Row> {
-    let (from, to) = line.strip_prefix("M\t")?.split_once('\t')?;
-    Some((from.into(), to.into()))
 }

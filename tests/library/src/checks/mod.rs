@@ -5,10 +5,12 @@
 pub mod buffers;
 pub mod bytes;
 pub mod drafts;
+pub mod every_table;
 pub mod laws;
 pub mod listings;
 pub mod paper;
 pub mod powers;
 pub mod products;
 pub mod routes;
+pub mod tables;
 pub mod tally;

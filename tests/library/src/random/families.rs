@@ -61,6 +61,18 @@ pub fn turning(shape: Shape, words: &[Word]) -> Vec<Row> {
     rows
 }
 
+/// The parts of the first belt go to the first n belts, in order, and the other
+/// belts to the rest: n pairs that would join into one if the empty word were a word
+/// "of at least a belt". Nothing where there aren't more belts than ways.
+pub fn to_belts(shape: Shape) -> Option<Vec<Row>> {
+    let (ways, belts) = (usize::from(shape.arity), shape.belts());
+    let rest = belts.get(ways..)?;
+    let (last, between) = rest.split_last()?;
+    let from = [&shape.parts(&belts[0])[..], &belts[1..]].concat();
+    let to = [&belts[..ways], between, &shape.parts(last)].concat();
+    Some(from.into_iter().zip(to).collect())
+}
+
 /// A basis, of which plans twist some words and leave the others alone. One
 /// after the other of two such plans needs rows for the words that either
 /// twists, and the result only for those that one alone twists.
@@ -109,7 +121,10 @@ mod tests {
         for shape in every_shape() {
             let few = &shape.belts()[..1];
             let twists = Twists::new(&mut rng, shape, splits_within(shape, 60));
+            let belts = to_belts(shape);
+            assert_eq!(belts.is_some(), shape.roots > shape.arity);
             let plans = [
+                belts.unwrap_or_else(|| identity(shape)),
                 shift(shape),
                 slow_ring(&mut rng, shape, 1),
                 turning(shape, few)
@@ -122,6 +137,14 @@ mod tests {
                 assert!(Plan::keep(shape, &rows).is_ok(), "{shape:?} {rows:?}");
             }
         }
+    }
+
+    #[test]
+    fn parts_of_a_belt_that_go_to_belts() {
+        let rows = to_belts(Shape { arity: 2, roots: 3 });
+        let typed = [("11", "1"), ("12", "2"), ("2", "31"), ("3", "32")];
+        let typed = typed.map(|(from, to)| (from.into(), to.into()));
+        assert_eq!(rows, Some(typed.to_vec()));
     }
 
     #[test]

@@ -1,6 +1,7 @@
 //! The checks of the second implementation: the paper's own cases, every
-//! refusal in its order, the mathematics on random plans of all shapes, the
-//! order of U's lines, the plans of X, and the reading of input in pieces.
+//! refusal in its order, the mathematics on random plans of all shapes and on
+//! tables of any size, the order of U's lines, the plans of X, and the reading of
+//! input in pieces.
 
 mod bases;
 mod blocks;
@@ -18,3 +19,4 @@ mod refusals;
 mod routes;
 mod stream;
 mod surveys;
+mod tables;
