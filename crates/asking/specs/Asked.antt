@@ -14,9 +14,9 @@ use Rattle.desk.specs.Replies.{okBlock}
 use Rattle.desk.specs.Bytes.{replyBytes}
 use Rattle.replies.specs.Sizes.{maxReply}
 use Rattle.slots.specs.declared.Head.{Head}
-use Rattle.slots.specs.declared.Work.{Work}
+use Rattle.slots.specs.declared.Reply.{Reply}
 use Rattle.slots.specs.Desks.{HoldsDesk}
-use Rattle.slots.specs.Works.{Done}
+use Rattle.slots.specs.Works.{Tells}
 
 -- a desk in code, and an output that has room for every reply
 pub record Asked (h : Head) (columns out : List ℕ) : Type 0 where
@@ -35,10 +35,10 @@ pub record AskedOfFront (from to code out : List ℕ) : Type 0 where
 abbrev pub blockReply : List ℕ → List ℕ → List ℕ → Bytes
 blockReply from to code = replyBytes (okBlock (block (table from to) (wordOf code)))
 
--- a head of some desk in code, whatever its columns are
+-- the same of a head, whatever its columns are
 abbrev pub AskedByHead : Head → List ℕ → Type 0
 AskedByHead h out = (columns : List ℕ) × Asked h columns out
 
--- a work that only the head is needed for, and that writes its reply: it is well done whatever the columns are, and leaves them as they are
-abbrev pub DoneByHeadInto : Record → Head → List ℕ → Work → List ℕ → Type 0
-DoneByHeadInto r h out w out′ = (columns : List ℕ) → HoldsDesk h columns → Done r h columns out w columns out′
+-- a reply that only the head is needed for, and that is written: it is well told whatever the columns are
+abbrev pub TellsByHeadInto : Record → Head → List ℕ → Reply → List ℕ → Type 0
+TellsByHeadInto r h out reply out′ = (columns : List ℕ) → HoldsDesk h columns → Tells r h columns out reply out′

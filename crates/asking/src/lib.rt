@@ -1,10 +1,11 @@
-// The records that change nothing (document 01, "Records"): S compares, W routes, L lists, T counts and U surveys. A slot's plan is lent in
-// parts of the columns, and none is copied. What W, L and U reply is written into the output where it is found, and told by its length.
+// The records that change nothing (document 01, "Records"): S compares, W routes, L lists, T counts and U surveys. Each gives its reply
+// alone. A slot's plan is lent in parts of the columns, and none is copied. What W, L and U reply is written into the output where it is
+// found, and told by its length.
 ghost use Rattle.desk.specs.Records.{S, W, L, T, U};
 ghost use Rattle.slots.specs.Desks.{HoldsDesk};
-ghost use Rattle.slots.specs.Works.{Done, DoneByHead, DoneSilently};
+ghost use Rattle.slots.specs.Works.{HeadOfDesk, Tells, TellsSilently, TellsByHead};
 ghost use Rattle.words.specs.Writing.{Wrote};
-ghost use Rattle.asking.specs.Asked.{Asked, AskedOfFront, blockReply, AskedByHead, DoneByHeadInto};
+ghost use Rattle.asking.specs.Asked.{Asked, AskedOfFront, blockReply, AskedByHead, TellsByHeadInto};
 use operations::Likeness;
 use operations::Listed;
 use operations::MAX_PAIRS;
@@ -15,7 +16,6 @@ use operations::routing;
 use slots::BLOCK;
 use slots::Head;
 use slots::Reply;
-use slots::Work;
 use slots::blocks;
 use slots::numbers;
 
@@ -28,30 +28,25 @@ const IMAGE_AT: usize = 3;
 const SLOTS: usize = 8;
 
 // S: 2, 8, 9, 10. "`ok⇥1` if the plans act alike, else `ok⇥0`".
-pub fn compare(head: Head, columns: &[u64], a: u8, b: u8) -> Work
+pub fn compare(head: Head, columns: &[u64], a: u8, b: u8) -> Reply
     requires { ⌜ HoldsDesk head (now columns) ⌝ }
-    ensures { λ r. ⌜ DoneSilently (S a b) head (now (columns .entry)) r (now (columns .entry)) ⌝ }
+    ensures { λ r. ⌜ TellsSilently (S a b) head (now (columns .entry)) r ⌝ }
 {
-    if head.is_open {
-        return slots::refused(head, numbers::WRONG_STATE);
-    }
-    if !listing::is_slot(a) {
-        return slots::refused(head, operations::numbers::SLOT_OUTSIDE);
-    }
-    if !listing::is_slot(b) {
-        return slots::refused(head, operations::numbers::SLOT_OUTSIDE);
+    let refusal = slots::admission(head, &[a, b], &[]);
+    if refusal != 0 {
+        return Reply::Refused(refusal);
     }
     let i = slots::slot_number(a);
     let first = head.sizes[i];
     let m = first.pairs;
     if m == 0 {
-        return slots::refused(head, numbers::SLOT_EMPTY);
+        return Reply::Refused(numbers::SLOT_EMPTY);
     }
     let j = slots::slot_number(b);
     let second = head.sizes[j];
     let n = second.pairs;
     if n == 0 {
-        return slots::refused(head, numbers::SLOT_EMPTY);
+        return Reply::Refused(numbers::SLOT_EMPTY);
     }
     let a_from = blocks::part(columns, i * BLOCK, m);
     let a_to = blocks::part(columns, i * BLOCK + MAX_PAIRS, m);
@@ -67,11 +62,8 @@ pub fn compare(head: Head, columns: &[u64], a: u8, b: u8) -> Work
         b_from,
         b_to,
     ) {
-        Likeness::Refused(number) => slots::refused(head, number),
-        Likeness::Alike(alike) => Work {
-            head: head,
-            reply: Reply::Number(alike as u32),
-        },
+        Likeness::Refused(number) => Reply::Refused(number),
+        Likeness::Alike(alike) => Reply::Number(alike as u32),
     }
 }
 
@@ -89,91 +81,76 @@ fn write_block(from: &[u64], to: &[u64], code: &[u8], out: &mut [u8]) -> usize
 }
 
 // W: 2, 8, 9, 4. "`ok⇥` and the image": the image first, into its place, and then the line around it. Where there is none, the block.
-pub fn route(head: Head, columns: &[u64], a: u8, code: &[u8], out: &mut [u8]) -> Work
+pub fn route(head: Head, columns: &[u64], a: u8, code: &[u8], out: &mut [u8]) -> Reply
     requires { ⌜ Asked head (now columns) (now out) ⌝ }
-    ensures { λ r. ⌜ Done (W a (now (code .entry))) head (now (columns .entry)) (now (out .entry)) r (now (columns .entry)) (now (out .exit)) ⌝ }
+    ensures { λ r. ⌜ Tells (W a (now (code .entry))) head (now (columns .entry)) (now (out .entry)) r (now (out .exit)) ⌝ }
 {
-    if head.is_open {
-        return slots::refused(head, numbers::WRONG_STATE);
-    }
-    if !listing::is_slot(a) {
-        return slots::refused(head, operations::numbers::SLOT_OUTSIDE);
+    let refusal = slots::admission(head, &[a], &[]);
+    if refusal != 0 {
+        return Reply::Refused(refusal);
     }
     let i = slots::slot_number(a);
     let size = head.sizes[i];
     let n = size.pairs;
     if n == 0 {
-        return slots::refused(head, numbers::SLOT_EMPTY);
+        return Reply::Refused(numbers::SLOT_EMPTY);
     }
     let from = blocks::part(columns, i * BLOCK, n);
     let to = blocks::part(columns, i * BLOCK + MAX_PAIRS, n);
     match routing::route(size.arity, size.roots, from, to, code, &mut out[IMAGE_AT..]) {
         Route::Image(digits) => {
             let used = replies::ok_image(digits, out);
-            Work {
-                head: head,
-                reply: Reply::Written(used),
-            }
+            Reply::Written(used)
         }
         Route::TooShort => {
             let used = write_block(from, to, code, out);
-            Work {
-                head: head,
-                reply: Reply::Written(used),
-            }
+            Reply::Written(used)
         }
-        Route::Refused(number) => slots::refused(head, number),
+        Route::Refused(number) => Reply::Refused(number),
     }
 }
 
 // L: 2, 8, 9. "lists the plan as P, M and E records".
-pub fn list(head: Head, columns: &[u64], a: u8, out: &mut [u8]) -> Work
+pub fn list(head: Head, columns: &[u64], a: u8, out: &mut [u8]) -> Reply
     requires { ⌜ Asked head (now columns) (now out) ⌝ }
-    ensures { λ r. ⌜ Done (L a) head (now (columns .entry)) (now (out .entry)) r (now (columns .entry)) (now (out .exit)) ⌝ }
+    ensures { λ r. ⌜ Tells (L a) head (now (columns .entry)) (now (out .entry)) r (now (out .exit)) ⌝ }
 {
-    if head.is_open {
-        return slots::refused(head, numbers::WRONG_STATE);
-    }
-    if !listing::is_slot(a) {
-        return slots::refused(head, operations::numbers::SLOT_OUTSIDE);
+    let refusal = slots::admission(head, &[a], &[]);
+    if refusal != 0 {
+        return Reply::Refused(refusal);
     }
     let i = slots::slot_number(a);
     let size = head.sizes[i];
     let n = size.pairs;
     if n == 0 {
-        return slots::refused(head, numbers::SLOT_EMPTY);
+        return Reply::Refused(numbers::SLOT_EMPTY);
     }
     let from = blocks::part(columns, i * BLOCK, n);
     let to = blocks::part(columns, i * BLOCK + MAX_PAIRS, n);
     match listing::list(a, size.arity, size.roots, from, to, out) {
-        Listed::Bytes(used) => Work {
-            head: head,
-            reply: Reply::Written(used),
-        },
-        Listed::Refused(number) => slots::refused(head, number),
+        Listed::Bytes(used) => Reply::Written(used),
+        Listed::Refused(number) => Reply::Refused(number),
     }
 }
 
 // T: 2. "`ok⇥` and the count".
-pub fn count(head: Head) -> Work
-    ensures { λ r. ⌜ DoneByHead T head r ⌝ }
+pub fn count(head: Head) -> Reply
+    requires { ⌜ HeadOfDesk head ⌝ }
+    ensures { λ r. ⌜ TellsByHead T head r ⌝ }
 {
     if head.is_open {
-        return slots::refused(head, numbers::WRONG_STATE);
+        return Reply::Refused(numbers::WRONG_STATE);
     }
-    Work {
-        head: head,
-        reply: Reply::Number(head.changes),
-    }
+    Reply::Number(slots::count(head))
 }
 
 // U: 2. "`slot⇥n⇥r⇥pairs` for each held slot .. then `ok⇥` and how many", in the order of change request E2.
-pub fn survey(head: Head, out: &mut [u8]) -> Work
+pub fn survey(head: Head, out: &mut [u8]) -> Reply
     requires { ⌜ AskedByHead head (now out) ⌝ }
-    ensures { λ r. ⌜ DoneByHeadInto U head (now (out .entry)) r (now (out .exit)) ⌝ }
+    ensures { λ r. ⌜ TellsByHeadInto U head (now (out .entry)) r (now (out .exit)) ⌝ }
 {
     if head.is_open {
-        return slots::refused(head, numbers::WRONG_STATE);
+        return Reply::Refused(numbers::WRONG_STATE);
     }
     let mut order = [0usize; SLOTS];
     let held = arranging::arrange(head, &mut order);
@@ -193,8 +170,5 @@ pub fn survey(head: Head, out: &mut [u8]) -> Work
         i += 1;
     }
     used = replies::ok_number(held as u32, out, used);
-    Work {
-        head: head,
-        reply: Reply::Written(used),
-    }
+    Reply::Written(used)
 }

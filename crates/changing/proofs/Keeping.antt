@@ -6,7 +6,7 @@ use mathlib.Core.List.{List, map}
 use mathlib.Core.Option.{Option, none, some}
 use native.Mathlib.Nat.{le-add-right}
 use native.Mathlib.Omega.{arith}
-use borrow.Author.Tests.{le-leb, lt-leb, ne-eqb}
+use borrow.Author.Tests.{ne-eqb}
 use lib.Dec.{T}
 use lib.ListN.{length, replicate, length-append, length-map, length-replicate}
 use Rattle.higman.specs.Limits.{Plan as PlanOf, Kept, maxPairs, slotCount}
@@ -17,7 +17,6 @@ use Rattle.higman.specs.Refusals.{countFull}
 use Rattle.higman.proofs.Tests.{T-of}
 use Rattle.higman.proofs.Columns.{basis-size}
 use Rattle.higman.proofs.KeptPlans.{in-range}
-use Rattle.desk.specs.Limits.{maxChanges}
 use Rattle.desk.specs.Desk.{Desk, IsDesk, changed}
 use Rattle.desk.specs.Records.{Record, isChange}
 use Rattle.desk.specs.Replies.{_>>=_, refuse, pass, Effect, job, atLimit, ofAnswer, keepIn}
@@ -34,7 +33,7 @@ use Rattle.slots.specs.declared.Head.{Head}
 use Rattle.slots.specs.declared.Work.{Work}
 use Rattle.slots.specs.declared.Reply.the-variants.{Number}
 use Rattle.slots.specs.Blocks.{filledHead, put}
-use Rattle.slots.specs.Desks.{heldBy, deskOf, HoldsDesk}
+use Rattle.slots.specs.Desks.{heldBy, fullIn, deskOf, HoldsDesk}
 use Rattle.slots.specs.Works.{refusing, Done, Makes, ToKeep}
 use Rattle.slots.proofs.Held.{filled-desk, holds-filled}
 use Rattle.slots.proofs.Steps.{refused-job, done-refused, at-limit, at-end, done-passed}
@@ -124,28 +123,29 @@ module _ (made : Making) (answer : Of.Answer) (m : Makes made answer) where
         let (x, a, k) = not-granted answer n (told ∙ e) in
         let refused : job d r ≡ refuse n none =
         t .keeps ∙ ap (λ z. ofAnswer z >>= λ p. pass (keepIn d i p)) a ∙ ap (λ z. refuse z none) (sym k) in
-        refused-job h columns H r out (t .fits) (t .named) n refused w q
+        refused-job h columns H r out (t .admitted) n refused w q
 
     module _ (e : made .answer ≡ Told.Granted) where
       passes : job d r ≡ pass (keepIn d i (plan e))
       unfolding _>>=_
       passes = t .keeps ∙ ap (λ z. ofAnswer z >>= λ p. pass (keepIn d i p)) (granted e)
 
-      pub keep-limit : maxChanges ≤ h .changes → (w : Work) → w ≡ refusing h countFull → Done r h columns out w columns out
+      pub keep-limit : fullIn (h .control) ≡ true → (w : Work) → w ≡ refusing h countFull → Done r h columns out w columns out
       unfolding deskOf
       keep-limit l w q =
           done-refused h columns H r out countFull
-          (at-limit d r (t .fits) (t .named) (keepIn d i (plan e)) passes (t .changes) (le-leb maxChanges (h .changes) l)) w q
+          (at-limit d r (t .admitted) (keepIn d i (plan e)) passes (t .changes) l) w q
 
-      pub keep-done : h .changes < maxChanges → (w : Work) → w ≡ record { head = filledHead h i (made .plan); reply = Number (made .plan .pairs) }
-          → (columns′ : List ℕ) → columns′ ≡ put columns i (made .plan) → Done r h columns out w columns′ out
+      pub keep-done : fullIn (h .control) ≡ false → (w : Work)
+          → w ≡ record { head = filledHead h i (made .plan); reply = Number (made .plan .pairs) } → (columns′ : List ℕ)
+          → columns′ ≡ put columns i (made .plan) → Done r h columns out w columns′ out
       unfolding deskOf packed
       keep-done l w we columns′ ce =
           let holding : heldBy (made .plan) ≡ some (plan e) = ap heldBy (value e) ∙ kept-held (plan e) (kept e) in
           let desk : deskOf (filledHead h i (made .plan)) (put columns i (made .plan)) ≡ changed d i (some (plan e)) =
           filled-desk h columns H i slot (made .plan) (from-long e) (to-long e) ∙ ap (changed d i) holding in
-          let room : (isChange r && atLimit d) ≡ false = ap₂ _&&_ (t .changes) (lt-leb maxChanges (h .changes) l) in
-          let step = at-end d r (t .fits) (t .named) (keepIn d i (plan e)) passes room in
+          let room : (isChange r && atLimit d) ≡ false = ap₂ _&&_ (t .changes) l in
+          let step = at-end d r (t .admitted) (keepIn d i (plan e)) passes room in
           let table = subst (λ v. T (inTable v)) (sym (value e)) (kept-in-table (plan e) (kept e)) in
           subst₂ (λ x y. Done r h columns out x y out) (sym we) (sym ce)
           (done-passed h columns H r out (keepIn d i (plan e)) step (record { head = filledHead h i (made .plan); reply = Number (made .plan .pairs) })

@@ -1,11 +1,10 @@
 // The records that keep a plan or empty a slot (document 01, "Records"): "E, F, I, K and C raise the count by one", and so does X (change
 // request E3). Each of them is refused where the count is at its limit. "Operands are read before c is written, so letters may repeat."
 ghost use mathlib.Core.Path.{_≡_};
-ghost use Prim.Native.Nat.{_<_};
-ghost use Rattle.desk.specs.Limits.{maxChanges};
+ghost use mathlib.Core.Bool.{false};
 ghost use Rattle.desk.specs.Records.{E, F, I, K, C, X};
 ghost use Rattle.slots.specs.Blocks.{InColumns, put, filledHead};
-ghost use Rattle.slots.specs.Desks.{HoldsDesk};
+ghost use Rattle.slots.specs.Desks.{fullIn, HoldsDesk};
 ghost use Rattle.slots.specs.Works.{Keepable, DoneKeeping, DoneSilently};
 ghost use Rattle.changing.specs.Faults.{faultyIn};
 use operations::Answer;
@@ -16,7 +15,6 @@ use operations::Verdict;
 use operations::answers;
 use operations::closing;
 use operations::following;
-use operations::listing;
 use operations::shapes;
 use slots::DRAFT;
 use slots::Head;
@@ -26,13 +24,10 @@ use slots::Work;
 use slots::blocks;
 use slots::numbers;
 
-// The most changes that are counted: `maxChanges` of desk's Limits.antt.
-const MAX_CHANGES: u32 = 4_000_000_000;
-
 // A plan, or no plan, put into a slot: one change.
 fn fill(head: Head, columns: &mut [u64], i: usize, plan: Plan) -> Head
     requires { ⌜ InColumns i (now columns) ⌝ }
-    requires { ⌜ head .changes < maxChanges ⌝ }
+    requires { ⌜ fullIn (head .control) ≡ false ⌝ }
     ensures { λ r. ⌜ r ≡ filledHead head i plan ⌝ }
     ensures { λ _. ⌜ now (columns .exit) ≡ put (now (columns .entry)) i plan ⌝ }
 {
@@ -44,7 +39,8 @@ fn fill(head: Head, columns: &mut [u64], i: usize, plan: Plan) -> Head
         pairs: plan.pairs,
     };
     h.is_open = false;
-    h.changes = head.changes + 1;
+    let control = head.control;
+    h.control = slots::noted(control);
     h
 }
 
@@ -57,7 +53,7 @@ fn keep(head: Head, columns: &mut [u64], i: usize, made: Making) -> Work
     match answer {
         Answer::Refused(number) => slots::refused(head, number),
         Answer::Granted => {
-            if MAX_CHANGES <= head.changes {
+            if slots::is_full(head) {
                 return slots::refused(head, numbers::COUNT_FULL);
             }
             let plan = made.plan;
@@ -115,17 +111,9 @@ pub fn follow(head: Head, columns: &mut [u64], a: u8, b: u8, c: u8) -> Work
     requires { ⌜ HoldsDesk head (now columns) ⌝ }
     ensures { λ r. ⌜ DoneSilently (F a b c) head (now (columns .entry)) r (now (columns .exit)) ⌝ }
 {
-    if head.is_open {
-        return slots::refused(head, numbers::WRONG_STATE);
-    }
-    if !listing::is_slot(a) {
-        return slots::refused(head, operations::numbers::SLOT_OUTSIDE);
-    }
-    if !listing::is_slot(b) {
-        return slots::refused(head, operations::numbers::SLOT_OUTSIDE);
-    }
-    if !listing::is_slot(c) {
-        return slots::refused(head, operations::numbers::SLOT_OUTSIDE);
+    let refusal = slots::admission(head, &[a, b], &[c]);
+    if refusal != 0 {
+        return slots::refused(head, refusal);
     }
     let first = blocks::value(head, columns, slots::slot_number(a));
     if first.pairs == 0 {
@@ -148,14 +136,9 @@ pub fn invert(head: Head, columns: &mut [u64], a: u8, c: u8) -> Work
     requires { ⌜ HoldsDesk head (now columns) ⌝ }
     ensures { λ r. ⌜ DoneSilently (I a c) head (now (columns .entry)) r (now (columns .exit)) ⌝ }
 {
-    if head.is_open {
-        return slots::refused(head, numbers::WRONG_STATE);
-    }
-    if !listing::is_slot(a) {
-        return slots::refused(head, operations::numbers::SLOT_OUTSIDE);
-    }
-    if !listing::is_slot(c) {
-        return slots::refused(head, operations::numbers::SLOT_OUTSIDE);
+    let refusal = slots::admission(head, &[a], &[c]);
+    if refusal != 0 {
+        return slots::refused(head, refusal);
     }
     let plan = blocks::value(head, columns, slots::slot_number(a));
     if plan.pairs == 0 {
@@ -174,14 +157,9 @@ pub fn power(head: Head, columns: &mut [u64], a: u8, k: i32, c: u8) -> Work
     requires { ⌜ HoldsDesk head (now columns) ⌝ }
     ensures { λ r. ⌜ DoneSilently (K a k c) head (now (columns .entry)) r (now (columns .exit)) ⌝ }
 {
-    if head.is_open {
-        return slots::refused(head, numbers::WRONG_STATE);
-    }
-    if !listing::is_slot(a) {
-        return slots::refused(head, operations::numbers::SLOT_OUTSIDE);
-    }
-    if !listing::is_slot(c) {
-        return slots::refused(head, operations::numbers::SLOT_OUTSIDE);
+    let refusal = slots::admission(head, &[a], &[c]);
+    if refusal != 0 {
+        return slots::refused(head, refusal);
     }
     if !following::is_power(k) {
         return slots::refused(head, operations::numbers::POWER_OUTSIDE);
@@ -211,11 +189,9 @@ pub fn exercise(
     requires { ⌜ HoldsDesk head (now columns) ⌝ }
     ensures { λ r. ⌜ DoneSilently (X slot arity roots splits seed) head (now (columns .entry)) r (now (columns .exit)) ⌝ }
 {
-    if head.is_open {
-        return slots::refused(head, numbers::WRONG_STATE);
-    }
-    if !listing::is_slot(slot) {
-        return slots::refused(head, operations::numbers::SLOT_OUTSIDE);
+    let refusal = slots::admission(head, &[], &[slot]);
+    if refusal != 0 {
+        return slots::refused(head, refusal);
     }
     if !shapes::in_range(arity, roots) {
         return slots::refused(head, numbers::SHAPE_OUTSIDE);
@@ -233,18 +209,16 @@ pub fn empty(head: Head, columns: &mut [u64], a: u8) -> Work
     requires { ⌜ HoldsDesk head (now columns) ⌝ }
     ensures { λ r. ⌜ DoneSilently (C a) head (now (columns .entry)) r (now (columns .exit)) ⌝ }
 {
-    if head.is_open {
-        return slots::refused(head, numbers::WRONG_STATE);
-    }
-    if !listing::is_slot(a) {
-        return slots::refused(head, operations::numbers::SLOT_OUTSIDE);
+    let refusal = slots::admission(head, &[], &[a]);
+    if refusal != 0 {
+        return slots::refused(head, refusal);
     }
     let i = slots::slot_number(a);
     let size = head.sizes[i];
     if size.pairs == 0 {
         return slots::refused(head, numbers::SLOT_EMPTY);
     }
-    if MAX_CHANGES <= head.changes {
+    if slots::is_full(head) {
         return slots::refused(head, numbers::COUNT_FULL);
     }
     let h = fill(head, columns, i, answers::blank());

@@ -7,17 +7,18 @@ use Rattle.higman.specs.Answers.{verdict, followed, inverted, raised, powered, 
 use Rattle.higman.specs.Fronts.{block}
 use Rattle.desk.specs.Limits.{maxChanges, maxLine, maxNumeral}
 use Rattle.desk.specs.Desk.{freshDesk, changed, withDraft, dropped}
-use Rattle.desk.specs.Records.{grammar, parse, needsOpen, slotsNamed, isChange}
-use Rattle.desk.specs.Replies.{_>>=_, job, surveyed, operation, lineOperation, respondLine, run}
+use Rattle.desk.specs.Records.{grammar, parse, kind}
+use Rattle.desk.specs.Replies.{_>>=_, job, surveyed, operation, admission, lineOperation, respondLine, run}
 use Rattle.desk.specs.Bytes.{replyBytes}
 use Rattle.desk.specs.Session.{session}
 use Rattle.desk.specs.Cases.{starSessions, otherSessions, surveySessions, DeskCases}
 
 pub desk-cases : DeskCases
-unfolding starSessions otherSessions surveySessions session run replyBytes _>>=_ respondLine lineOperation operation job surveyed needsOpen
-    slotsNamed isChange parse grammar freshDesk changed withDraft dropped slotCount maxChanges maxLine maxNumeral isPlanWord digitOf
-    maxPairs maxDigits maxCode maxPower shapeInRange granted isCode verdict followed inverted raised powered same routed block keep compose
-    inverse identity normalForm normal joined
+unfolding starSessions otherSessions surveySessions session run replyBytes _>>=_ respondLine lineOperation operation admission job
+    surveyed kind
+    parse grammar freshDesk changed withDraft dropped slotCount maxChanges maxLine maxNumeral isPlanWord digitOf maxPairs maxDigits
+    maxCode maxPower shapeInRange granted isCode verdict followed inverted raised powered same routed block keep compose inverse identity
+    normalForm normal joined
 desk-cases =
     record {
       star = (refl, (refl, (refl, (refl, (refl, (refl, (refl, (refl, (refl, (refl, tt))))))))));

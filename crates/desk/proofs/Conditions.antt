@@ -28,11 +28,11 @@ use Rattle.higman.specs.Refusals.{Letter}
 use Rattle.higman.proofs.Tests.{T-of, clash, or-cases, or-true-left, or-true-right, count-bounds, count-mem}
 use Rattle.higman.proofs.Statements.{answers-exact}
 use Rattle.desk.specs.Desk.{Draft, Desk, held, IsDesk}
-use Rattle.desk.specs.Records.{Record, P, M, E, F, I, K, S, W, L, C, T as Tᴿ, U, X, needsOpen, slotsNamed, isChange}
+use Rattle.desk.specs.Records.{Record, P, M, E, F, I, K, S, W, L, C, T as Tᴿ, U, X, slotsNamed, isChange, kind}
 use Rattle.higman.specs.Listing.{slotNumber}
 use Rattle.higman.specs.Text.{wordOf}
-use Rattle.desk.specs.Replies.{Reply, okWord, okBlock, Outcome, refuse, pass, _>>=_, isOpen, openAmiss, outside, atLimit}
-use Rattle.desk.specs.Replies.{openPlan, planIn, ofVerdict, ofAnswer, ofComparison, ofRoute, job, operation, _when_}
+use Rattle.desk.specs.Replies.{Effect, Reply, okWord, okBlock, Outcome, refuse, pass, _>>=_, isOpen, openAmiss, outside, atLimit}
+use Rattle.desk.specs.Replies.{openPlan, planIn, ofVerdict, ofAnswer, ofComparison, ofRoute, job, operation, admission, _when_}
 use Rattle.desk.specs.Conditions.{Condition, inColumn, isEmpty, ofPlan, ofOpen, ofBoth, conditions, firstOf, refusalOf, _if_}
 
 -- an outcome is refused as the first condition that holds says
@@ -320,7 +320,7 @@ ownConditions d (X a n r s seed) =
     []
 
 own-says : (d : Desk) → IsDesk d → (r : Record) → openAmiss d r ≡ false → Says (job d r) (ownConditions d r)
-unfolding job ownConditions needsOpen
+unfolding job ownConditions kind
 own-says d D (P a n r) o = when-then (not (shapeInRange (record { arity = n; roots = r }))) (λ _ _. done)
 own-says d D (M from to) o =
     open-then d o (λ o e. rw e (when-then (not (isPlanWord (o .shape) (wordOf from) && isPlanWord (o .shape) (wordOf to)))
@@ -349,14 +349,26 @@ shared d r =
     (ownConditions d r ++ (countFull if isChange r && atLimit d) ∷ [])
 
 shared-says : (d : Desk) → IsDesk d → (r : Record) → Says (operation d r) (shared d r)
-unfolding operation
+unfolding operation admission _>>=_
 shared-says d D r =
-    when-then (openAmiss d r) (λ _ o. when-then (outside (slotsNamed r)) (λ _ _. says-then (job d r) (own-says d D r o)
-    (λ e. when-then (isChange r && atLimit d) (λ _ _. done))))
+    steps (openAmiss d r) refl (outside (slotsNamed r))
+  where
+    rest : Unit {0} → Outcome Effect
+    rest _ = job d r >>= λ e. (countFull when (isChange r && atLimit d)) >>= λ _. pass e
+
+    own : openAmiss d r ≡ false → Says (rest tt) (ownConditions d r ++ (countFull if isChange r && atLimit d) ∷ [])
+    own o = says-then (job d r) (own-says d D r o) (λ e. when-then (isChange r && atLimit d) (λ _ _. done))
+
+    steps : (b : Bool) → openAmiss d r ≡ b → (c : Bool)
+        → Says (((wrongState when b) >>= λ _. slotOutside when c) >>= rest)
+        ((wrongState if b) ∷ (slotOutside if c) ∷ (ownConditions d r ++ (countFull if isChange r && atLimit d) ∷ []))
+    steps true o c = record { says = refl }
+    steps false o true = record { says = refl }
+    steps false o false = record { says = own o .says }
 
 -- it gives the paper's table, record by record, but for a 16 that never holds
 shared-table : (d : Desk) (r : Record) → firstOf (shared d r) ≡ firstOf (conditions d r)
-unfolding conditions ownConditions needsOpen slotsNamed isChange
+unfolding conditions ownConditions kind
 shared-table d (P a n r) = refl
 shared-table d (M from to) = refl
 shared-table d E = refl

@@ -30,7 +30,8 @@ use Rattle.desk.specs.Limits.{maxLine}
 use Rattle.desk.specs.Desk.{Draft, Desk, held}
 use Rattle.desk.specs.Records.{Record, P, M, E, F, I, K, S, W, L, C, T as Tᴿ, U, X, parted, parse, slotsNamed, isChange}
 use Rattle.desk.specs.Replies.{Outcome, refuse, pass, _>>=_, Effect, openAmiss, outside, atLimit, openPlan, planIn, ofVerdict}
-use Rattle.desk.specs.Replies.{ofAnswer, ofComparison, ofRoute, settle, job, operation, recordOf, lineOperation, respondLine}
+use Rattle.desk.specs.Replies.{ofAnswer, ofComparison, ofRoute, settle, job}
+use Rattle.desk.specs.Replies.{operation, admission, recordOf, lineOperation, respondLine}
 use Rattle.desk.specs.Replies.{_when_}
 use Rattle.desk.specs.Bytes.{columnField, replyBytes}
 use Rattle.desk.specs.Conditions.{refusalOf}
@@ -144,12 +145,16 @@ job-numbered d (X a n r s seed) =
     numbered-then (numbered-test shapeOutside (not (shapeInRange (record { arity = n; roots = r }))) tt)
     (λ _. numbered-then (numbered-answer (exercise (record { arity = n; roots = r }) s seed)) (λ _. no-refusal))
 
+numbered-admission : (d : Desk) (r : Record) → Numbered (admission d r)
+unfolding admission among operationNumbers
+numbered-admission d r =
+    numbered-then (numbered-test wrongState (openAmiss d r) tt) (λ _. numbered-test slotOutside (outside (slotsNamed r)) tt)
+
 numbered-operation : (d : Desk) (r : Record) → Numbered (operation d r)
 unfolding operation among operationNumbers
 numbered-operation d r =
-    numbered-then (numbered-test wrongState (openAmiss d r) tt) (λ _. numbered-then
-    (numbered-test slotOutside (outside (slotsNamed r)) tt) (λ _. numbered-then (job-numbered d r)
-    (λ e. numbered-then (numbered-test countFull (isChange r && atLimit d) tt) (λ _. no-refusal))))
+    numbered-then (numbered-admission d r) (λ _. numbered-then (job-numbered d r)
+    (λ e. numbered-then (numbered-test countFull (isChange r && atLimit d) tt) (λ _. no-refusal)))
 
 operation-numbered : (d : Desk) (r : Record) (n : ℕ) (c : Option Letter) → operation d r ≡ refuse n c → List·Memᴰ n operationNumbers
 operation-numbered d r n c e = by-outcome (operation d r) (numbered-operation d r) e

@@ -27,7 +27,7 @@ use Rattle.higman.proofs.Fronts.{fronts-exact}
 use Rattle.higman.specs.Text.{Bytes, wordOf}
 use Rattle.desk.specs.Limits.{maxChanges}
 use Rattle.desk.specs.Desk.{Draft, Desk, countOf, held, IsDesk}
-use Rattle.desk.specs.Records.{E, F, I, K, S, W, writing, slotsNamed}
+use Rattle.desk.specs.Records.{E, F, I, K, S, W, writing, kind}
 use Rattle.higman.specs.Listing.{slotNumber}
 use Rattle.desk.specs.Replies.{pass, Effect, Reply, silent, ok, okNumber, okWord, okBlock, lists, surveys, refuses, bit}
 use Rattle.desk.specs.Replies.{ofComparison, ofRoute, keepIn, closed, job, operation}
@@ -91,7 +91,7 @@ abbrev Follows : Desk → ℕ → ℕ → ℕ → Effect → Type 0
 Follows d a b c e = (p : Plan) × (q : Plan) × (r : Plan) × (held d (slotNumber a) ≡ some p) × (held d (slotNumber b) ≡ some q) × (followed p q ≡ Granted r) × (e ≡ keepIn d (slotNumber c) r) × (slotNumber c < slotCount)
 
 follow-steps : (d : Desk) (a b c : ℕ) → Passes (Follows d a b c) (operation d (F a b c))
-unfolding job slotsNamed
+unfolding job kind
 follow-steps d a b c =
     passes-operation d (F a b c) (λ t. passes-then (plan-held d a) (λ p x. passes-then (plan-held d b) (λ q y. passes-then
     (answer-granted (followed p q))
@@ -121,7 +121,7 @@ abbrev Inverts : Desk → ℕ → ℕ → Effect → Type 0
 Inverts d a c e = (p : Plan) × (r : Plan) × (held d (slotNumber a) ≡ some p) × (inverted p ≡ Granted r) × (e ≡ keepIn d (slotNumber c) r) × (slotNumber c < slotCount)
 
 invert-steps : (d : Desk) (a c : ℕ) → Passes (Inverts d a c) (operation d (I a c))
-unfolding job slotsNamed
+unfolding job kind
 invert-steps d a c =
     passes-operation d (I a c) (λ t. passes-then (plan-held d a) (λ p x. passes-then (answer-granted (inverted p))
     (λ r g. passes (p, r, x, g, refl, slot-of-record d (I a c) t (writing c) (List·Memᴰ·tail (List·Memᴰ·head refl))))))
@@ -147,7 +147,7 @@ abbrev Repeats : Desk → ℕ → ℤ → ℕ → Effect → Type 0
 Repeats d a k c e = (p : Plan) × (r : Plan) × (held d (slotNumber a) ≡ some p) × (powered p k ≡ Granted r) × (e ≡ keepIn d (slotNumber c) r) × (slotNumber c < slotCount)
 
 repeat-steps : (d : Desk) (a c : ℕ) (k : ℤ) → Passes (Repeats d a k c) (operation d (K a k c))
-unfolding job slotsNamed
+unfolding job kind
 repeat-steps d a c k =
     passes-operation d (K a k c) (λ t. any-then _ (λ _. passes-then (plan-held d a) (λ p x. passes-then (answer-granted (powered p k))
     (λ r g. passes (p, r, x, g, refl, slot-of-record d (K a k c) t (writing c) (List·Memᴰ·tail (List·Memᴰ·head refl)))))))

@@ -12,7 +12,7 @@ use Rattle.higman.specs.Answers.{isTableOf, isKept}
 use Rattle.higman.proofs.Statements.{table-of, test-table, answers-exact}
 use Rattle.higman.proofs.Tests.{and-left, and-right, and-intro}
 use Rattle.desk.specs.Limits.{maxChanges}
-use Rattle.desk.specs.Desk.{Draft, Desk, IsDraft, IsDesk, allHeld, isDraft, isDesk}
+use Rattle.desk.specs.Desk.{Draft, Desk, countOf, IsDraft, IsDesk, allHeld, isDraft, isDesk}
 use Rattle.desk.specs.Theorems.{DeskTest}
 
 held-of : (l : List (Option Plan)) → T (allHeld l) → (i : ℕ) (p : Plan) → getD l i none ≡ some p → Kept p
@@ -55,21 +55,21 @@ module _ (d : Desk) where
   desk-of : T (isDesk d) → IsDesk d
   unfolding isDesk
   desk-of h =
-      let front = and-left drafted (leb (d .changes) maxChanges) h in
+      let front = and-left drafted (leb (countOf d) maxChanges) h in
       let slots = and-left filled (isDraft (d .draft)) front in
       record {
         eight = eqb→eq (length (d .slots)) slotCount (and-left eight (allHeld (d .slots)) slots);
         kept = held-of (d .slots) (and-right eight (allHeld (d .slots)) slots);
         drafted = draft-of (d .draft) (and-right filled (isDraft (d .draft)) front);
-        counted = leb→le (d .changes) maxChanges (and-right drafted (leb (d .changes) maxChanges) h);
+        counted = leb→le (countOf d) maxChanges (and-right drafted (leb (countOf d) maxChanges) h);
       }
 
   test-desk : IsDesk d → T (isDesk d)
   unfolding isDesk
   test-desk h =
-      and-intro drafted (leb (d .changes) maxChanges)
+      and-intro drafted (leb (countOf d) maxChanges)
       (and-intro filled (isDraft (d .draft)) (and-intro eight (allHeld (d .slots)) (subst (λ n. T (eqb (length (d .slots)) n)) (h .eight) (eqb-refl (length (d .slots)))) (test-held (d .slots) (h .kept))) (test-draft (d .draft) (h .drafted)))
-      (le→leb (d .changes) maxChanges (h .counted))
+      (le→leb (countOf d) maxChanges (h .counted))
 
 pub desk-test : DeskTest
 desk-test d = (desk-of d, test-desk d)

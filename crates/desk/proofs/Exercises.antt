@@ -17,7 +17,7 @@ use Rattle.higman.proofs.Statements.{normal-form}
 use Rattle.higman.proofs.Exercises.{exercise-cases, exercises-exact}
 use Rattle.desk.specs.Limits.{maxChanges}
 use Rattle.desk.specs.Desk.{Desk, countOf, held, IsDesk, changed, withDraft}
-use Rattle.desk.specs.Records.{E, X, writing, slotsNamed, isChange}
+use Rattle.desk.specs.Records.{E, X, writing, kind}
 use Rattle.desk.specs.Replies.{pass, Effect, isOpen, atLimit, ofAnswer, keepIn, job, operation}
 use Rattle.desk.specs.Conditions.{conditions, firstOf, refusalOf}
 use Rattle.desk.specs.Demands.{Ready, withExercise, ExerciseKept, ExercisesFixed}
@@ -46,7 +46,7 @@ record Exercised (d : Desk) (a : ℕ) (s : Shape) (k seed : ℕ) (e : Effect) : 
 
 exercise-steps : (d : Desk) (a : ℕ) (s : Shape) (k seed : ℕ)
     → Passes (Exercised d a s k seed) (operation d (X a (s .arity) (s .roots) k seed))
-unfolding job slotsNamed isChange
+unfolding job kind
 exercise-steps d a s k seed =
     passes-operation d (X a (s .arity) (s .roots) k seed) (λ t. passes-then (test-held shapeOutside (shapeInRange s)) (λ _ y. passes-then
     (answer-granted (exercise s k seed))

@@ -19,7 +19,7 @@ use Rattle.higman.proofs.Tests.{all-cons, all-head}
 use Rattle.higman.proofs.KeptPlans.{arity-of-range}
 use Rattle.higman.proofs.Statements.{answers-exact}
 use Rattle.desk.specs.Desk.{Draft, Desk, IsDraft, withDraft, withPair}
-use Rattle.desk.specs.Records.{P, M, E, writing, needsOpen, slotsNamed, isChange}
+use Rattle.desk.specs.Records.{P, M, E, writing, kind}
 use Rattle.desk.specs.Replies.{pass, _>>=_, Effect, silent, atLimit, keepIn, newDraft, closed, job, operation, _when_}
 use Rattle.desk.proofs.Outcomes.{Passes, passes, passes-then, test-failed, test-held, plan-open, passes-operation, operation-pass}
 use Rattle.desk.proofs.Stays.{verdict-accepted}
@@ -37,7 +37,7 @@ areWords s from to = isPlanWord s (wordOf from) && isPlanWord s (wordOf to)
 -- P
 pub open-pass : (d : Desk) → d .draft ≡ none → (b : ℕ) (s : Shape) → T (isSlot b) → T (shapeInRange s)
     → operation d (P b (s .arity) (s .roots)) ≡ pass (withDraft d (newDraft b s), silent)
-unfolding job needsOpen slotsNamed isChange _>>=_
+unfolding job kind _>>=_
 open-pass d e b s h k =
     operation-pass d (P b (s .arity) (s .roots)) (withDraft d (newDraft b s), silent)
     (record { open-fits = ap given e; slots-named = all-cons (λ u. isSlot (u .slot)) (writing b) [] h tt; room = refl })
@@ -49,7 +49,7 @@ pub record Opened (d : Desk) (b : ℕ) (s : Shape) (e : Effect) : Type 0 where
   pub effect : e ≡ (withDraft d (newDraft b s), silent)
 
 pub open-steps : (d : Desk) (b : ℕ) (s : Shape) → Passes (Opened d b s) (operation d (P b (s .arity) (s .roots)))
-unfolding job slotsNamed
+unfolding job kind
 open-steps d b s =
     passes-operation d (P b (s .arity) (s .roots)) (λ t. passes-then (test-held shapeOutside (shapeInRange s))
     (λ _ k. passes (record { named = all-head (λ u. isSlot (u .slot)) (writing b) [] (t .slots-named); in-range = k; effect = refl })))
@@ -57,7 +57,7 @@ open-steps d b s =
 -- M, on a desk with an open plan
 pub pair-pass : (d : Desk) (o : Draft) (from to : Bytes) → T (areWords (o .shape) from to) → length (o .rows) < maxPairs
     → operation (withDraft d o) (M from to) ≡ pass (withDraft d (withPair o (typedPair from to)), silent)
-unfolding job needsOpen slotsNamed isChange withDraft _>>=_
+unfolding job kind withDraft _>>=_
 pair-pass d o from to h k =
     operation-pass (withDraft d o) (M from to) (withDraft d (withPair o (typedPair from to)), silent)
     (record { open-fits = refl; slots-named = tt; room = refl })
@@ -78,7 +78,7 @@ pair-steps d o from to =
 -- E
 pub close-pass : (d : Desk) (o : Draft) → d .draft ≡ some o → verdict (o .shape) (o .rows) ≡ Accepted → atLimit d ≡ false
     → operation d E ≡ pass (keepIn d (o .slot) (closed o))
-unfolding job needsOpen slotsNamed isChange _>>=_
+unfolding job kind _>>=_
 close-pass d o x v l =
     operation-pass d E (keepIn d (o .slot) (closed o))
     (record { open-fits = ap (λ y. not (given y)) x; slots-named = tt; room = l })
@@ -92,7 +92,7 @@ pub record Closed (d : Desk) (e : Effect) : Type 0 where
   pub effect : e ≡ keepIn d (plan .slot) (closed plan)
 
 pub close-steps : (d : Desk) → Passes (Closed d) (operation d E)
-unfolding job isChange
+unfolding job kind
 close-steps d =
     passes-operation d E (λ t. passes-then (plan-open d) (λ o x. passes-then (verdict-accepted (verdict (o .shape) (o .rows)))
     (λ _ v. passes (record { plan = o; was-open = x; accepted = v; room = t .room; effect = refl }))))

@@ -16,7 +16,8 @@ use Rattle.desk.specs.Desk.{Draft, Desk, held, dropped}
 use Rattle.desk.specs.Records.{Record, P, M, E, F, I, K, S, W, L, C, T as Tᴿ, U, X, slotsNamed, isChange}
 use Rattle.higman.specs.Listing.{slotNumber, isSlot}
 use Rattle.desk.specs.Replies.{Reply, silent, ok, okNumber, okWord, okBlock, lists, surveys, refuses, Outcome, refuse, pass, _>>=_}
-use Rattle.desk.specs.Replies.{openAmiss, openPlan, planIn, atLimit, ofRoute, job, Effect, settle, operation, lineOperation, respondLine}
+use Rattle.desk.specs.Replies.{openAmiss, openPlan, planIn, atLimit, ofRoute, job}
+use Rattle.desk.specs.Replies.{Effect, settle, operation, admission, lineOperation, respondLine}
 use Rattle.desk.specs.Replies.{_when_}
 use Rattle.desk.specs.Theorems.{RefusalDrops}
 
@@ -81,12 +82,21 @@ pub record Tested (d : Desk) (r : Record) : Type 0 where
   pub slots-named : T (all (λ u. isSlot (u .slot)) (slotsNamed r))
   pub room : (isChange r && atLimit d) ≡ false
 
+pub admitted : (d : Desk) (r : Record)
+    → Passes (λ _. (openAmiss d r ≡ false) × T (all (λ u. isSlot (u .slot)) (slotsNamed r))) (admission d r)
+unfolding admission
+admitted d r =
+    passes-then (test-failed wrongState (openAmiss d r)) (λ _ o. named o (all (λ u. isSlot (u .slot)) (slotsNamed r)))
+  where
+    named : openAmiss d r ≡ false → (b : Bool) → Passes (λ _. (openAmiss d r ≡ false) × T b) (slotOutside when not b)
+    named o true = passes (o, tt)
+    named o false = stops
+
 pub passes-operation : (d : Desk) (r : Record) {Q : Effect → Type 0} → (Tested d r → Passes Q (job d r)) → Passes Q (operation d r)
 unfolding operation
 passes-operation d r {Q} done =
-    passes-then (test-failed wrongState (openAmiss d r)) (λ _ o. passes-then
-    (test-held slotOutside (all (λ u. isSlot (u .slot)) (slotsNamed r)))
-    (λ _ s. by-room (isChange r && atLimit d) refl (λ m. record { open-fits = o; slots-named = s; room = m })))
+    passes-then (admitted d r)
+    (λ _ a. by-room (isChange r && atLimit d) refl (λ m. record { open-fits = a .0; slots-named = a .1; room = m }))
   where
     by-room : (b : Bool) → (isChange r && atLimit d) ≡ b → ((isChange r && atLimit d) ≡ false → Tested d r)
         → Passes Q (job d r >>= λ e. (countFull when b) >>= λ _. pass e)
@@ -95,7 +105,7 @@ passes-operation d r {Q} done =
 
 -- the other way round: an operation is done where the tests fail and its job is
 pub operation-pass : (d : Desk) (r : Record) (e : Effect) → Tested d r → job d r ≡ pass e → operation d r ≡ pass e
-unfolding operation _>>=_
+unfolding operation admission _>>=_
 operation-pass d r e t j =
     rw (t .open-fits, test-passed (all (λ u. isSlot (u .slot)) (slotsNamed r)) (t .slots-named), j, t .room) refl
   where

@@ -13,7 +13,7 @@ use Rattle.higman.specs.Limits.{Plan, slotCount}
 use Rattle.higman.proofs.Tests.{clash, all-head}
 use Rattle.higman.specs.Text.{Bytes, wordOf}
 use Rattle.desk.specs.Desk.{Draft, Desk, freshDesk, countOf, held, changed, withDraft, withPair, dropped}
-use Rattle.desk.specs.Records.{Record, P, M, E, F, I, K, S, W, L, C, T, U, X, Use, reads, target, SlotUse, reading, writing}
+use Rattle.desk.specs.Records.{Record, P, M, E, F, I, K, S, W, L, C, T, U, X, Use, reads, target, SlotUse, reading, writing, kind}
 use Rattle.desk.specs.Records.{needsOpen, slotsNamed, isChange}
 use Rattle.higman.specs.Listing.{slotNumber, isSlot}
 use Rattle.desk.specs.Replies.{Effect, silent, ok, okNumber, lists, surveys, isOpen, surveyed, newDraft, job, operation}
@@ -32,7 +32,7 @@ abbrev Opens : Desk → ℕ → ℕ → ℕ → Effect → Type 0
 Opens d a n r e = (d .draft ≡ none) × (e ≡ (withDraft d (newDraft a (record { arity = n; roots = r })), silent))
 
 open-steps : (d : Desk) (a n r : ℕ) → Passes (Opens d a n r) (operation d (P a n r))
-unfolding job needsOpen
+unfolding job kind
 open-steps d a n r = passes-operation d (P a n r) (λ t. any-then _ (λ _. passes (not-open d (t .open-fits), refl)))
 
 abbrev Adds : Desk → Bytes → Bytes → Effect → Type 0
@@ -58,7 +58,7 @@ pub record Shows (d : Desk) (a : ℕ) (e : Effect) : Type 0 where
   pub effect : e ≡ (d, lists a plan)
 
 pub show-steps : (d : Desk) (a : ℕ) → Passes (Shows d a) (operation d (L a))
-unfolding job slotsNamed
+unfolding job kind
 show-steps d a =
     passes-operation d (L a)
     (λ t. let slot = all-head (λ u. isSlot (u .slot)) (reading a) [] (t .slots-named) in
@@ -84,7 +84,7 @@ Counts true d e = Raised d e
 Counts false d e = Unchanged d e
 
 count-of : (d : Desk) (r : Record) → Passes (Counts (isChange r) d) (job d r)
-unfolding job isChange changed withDraft
+unfolding job kind changed withDraft
 count-of d (P a n r) = any-then _ (λ _. passes (refl, refl))
 count-of d (M from to) = any-then _ (λ _. any-then _ (λ _. any-then _ (λ _. passes (refl, refl))))
 count-of d E = any-then _ (λ _. any-then _ (λ _. passes refl))
@@ -175,7 +175,7 @@ writing-held d a us rest u m e = by-place (List·Memᴰ·cases-cons m)
     by-place (inr k) = rest u k e
 
 job-reads : (d : Desk) (r : Record) → Passes (λ _. ReadsHeld d (slotsNamed r)) (job d r)
-unfolding job slotsNamed
+unfolding job kind
 job-reads d (P a n r) = any-then _ (λ _. passes (writing-held d a [] (no-uses d)))
 job-reads d (M from to) = any-then _ (λ _. any-then _ (λ _. any-then _ (λ _. passes (no-uses d))))
 job-reads d E = any-then _ (λ _. any-then _ (λ _. passes (no-uses d)))
@@ -204,7 +204,7 @@ Spares d r e =
     → held (e .0) j ≡ held d j
 
 job-spares : (d : Desk) (r : Record) → Passes (Spares d r) (job d r)
-unfolding job needsOpen slotsNamed withDraft
+unfolding job kind withDraft
 job-spares d (P a n r) = any-then _ (λ _. passes (λ o j h. refl))
 job-spares d (M from to) = any-then _ (λ _. any-then _ (λ _. any-then _ (λ _. passes (λ o. absurd (clash refl o)))))
 job-spares d E = any-then _ (λ _. any-then _ (λ _. passes (λ o. absurd (clash refl o))))

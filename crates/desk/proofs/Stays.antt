@@ -27,7 +27,7 @@ use Rattle.higman.proofs.PlanWords.{word-of-plan-word, plan-word-fits}
 use Rattle.higman.specs.Refusals.{wrongState, shapeOutside, badWord, pairsFull, slotEmpty}
 use Rattle.desk.specs.Limits.{maxChanges}
 use Rattle.desk.specs.Desk.{Draft, Desk, freshDesk, countOf, held, IsDraft, IsDesk, changed, withDraft, dropped, withPair}
-use Rattle.desk.specs.Records.{Record, P, M, E, F, I, K, S, W, L, C, T as Tᴿ, U, X, SlotUse, writing, slotsNamed, isChange}
+use Rattle.desk.specs.Records.{Record, P, M, E, F, I, K, S, W, L, C, T as Tᴿ, U, X, SlotUse, writing, slotsNamed, kind}
 use Rattle.higman.specs.Listing.{slotNumber, isSlot}
 use Rattle.desk.specs.Replies.{Outcome, refuse, pass, openPlan, planIn, atLimit, ofVerdict, ofAnswer, Effect, newDraft, closed, job}
 use Rattle.desk.specs.Replies.{operation, recordOf, lineOperation, settle, respondLine}
@@ -152,7 +152,7 @@ pub slot-of-record : (d : Desk) (r : Record) → Tested d r → (u : SlotUse) �
 slot-of-record d r t u m = slot-below (u .slot) (all-at (λ u. isSlot (u .slot)) (slotsNamed r) (t .slots-named) u m)
 
 job-stays : (d : Desk) → IsDesk d → (r : Record) → Tested d r → Passes Stays (job d r)
-unfolding job slotsNamed isChange
+unfolding job kind
 job-stays d h (P a n r) t =
     passes-then (test-held shapeOutside (shapeInRange (record { arity = n; roots = r })))
     (λ _ y. passes (drafted-desk d h _ (new-draft a _ (slot-of-record d (P a n r) t (writing a) (List·Memᴰ·head refl)) y)))

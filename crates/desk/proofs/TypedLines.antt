@@ -23,7 +23,7 @@ use Rattle.higman.proofs.Tests.{passes, clash, and-left, and-right, all-cons, a
 use Rattle.higman.proofs.PlanWords.{plan-word-length}
 use Rattle.desk.specs.Limits.{maxChanges, maxLine}
 use Rattle.desk.specs.Desk.{Draft, Desk, countOf, IsDraft, changed, withDraft, withPair, dropped}
-use Rattle.desk.specs.Records.{Record, P, M, E, recordFields, recordText, noTab, hasDigits, wellFormed, needsOpen}
+use Rattle.desk.specs.Records.{Record, P, M, E, recordFields, recordText, noTab, hasDigits, wellFormed, needsOpen, kind}
 use Rattle.desk.specs.Conditions.{refusalOf}
 use Rattle.desk.specs.Replies.{Outcome, refuse, pass, Effect, silent, isOpen, openAmiss, keepIn, newDraft, closed, settle, job}
 use Rattle.desk.specs.Replies.{operation, respondLine, run, deskAfter}
@@ -36,7 +36,7 @@ use Rattle.desk.proofs.Lines.{respond-text, respond-overlong}
 
 pub without-draft : (d : Desk) → d .draft ≡ none → dropped d ≡ d
 unfolding dropped
-without-draft d e = λ i. record { slots = d .slots; draft = sym e i; changes = d .changes }
+without-draft d e = λ i. record { slots = d .slots; draft = sym e i; control = d .control }
 
 -- what is left of a desk by the records that follow
 abbrev left : Desk → List Record → Desk
@@ -87,7 +87,7 @@ abbrev pairsAndEnd : List TypedPair → List Record
 pairsAndEnd ps = map (λ p. M (p .from) (p .to)) ps ++ E ∷ []
 
 all-need-open : (ps : List TypedPair) → T (all needsOpen (pairsAndEnd ps))
-unfolding needsOpen
+unfolding kind
 all-need-open [] = tt
 all-need-open (p ∷ ps) = all-need-open ps
 

@@ -11,8 +11,8 @@ use Rattle.higman.specs.Buffers.{ifRoom, lentInto}
 use Rattle.higman.specs.Limits.{slotCount}
 use Rattle.desk.specs.Limits.{maxChanges}
 use Rattle.desk.specs.Desk.{Desk, freshDesk, dropped, atCount, isDesk}
-use Rattle.desk.specs.Records.{T, needsOpen, slotsNamed, isChange}
-use Rattle.desk.specs.Replies.{Reply, okNumber, Outcome, refuse, pass, _>>=_, Effect, settle, job, operation}
+use Rattle.desk.specs.Records.{T, kind}
+use Rattle.desk.specs.Replies.{Reply, okNumber, Outcome, refuse, pass, _>>=_, Effect, settle, job, operation, admission}
 use Rattle.desk.specs.Bytes.{replyBytes}
 
 -- a lent buffer after a call, and the call's answer: how many bytes it wrote, or a refusal
@@ -64,16 +64,16 @@ abbrev counting : Work
 counting d = operation d T
 
 lentCall-example : lentCall freshDesk counting (bytes ".......") ≡ (freshDesk, record { buffer = bytes "ok\t0\n.."; answer = pass 5 })
-unfolding _>>=_ lentCall lent isDesk operation job needsOpen slotsNamed isChange replyBytes freshDesk slotCount maxChanges
+unfolding _>>=_ lentCall lent isDesk operation admission job kind replyBytes freshDesk slotCount maxChanges
 lentCall-example = refl
 
 too-short-example : lentCall freshDesk counting (bytes "....") ≡ (freshDesk, record { buffer = bytes "...."; answer = refuse 14 none })
-unfolding _>>=_ lentCall lent isDesk operation job needsOpen slotsNamed isChange replyBytes freshDesk dropped slotCount maxChanges
+unfolding _>>=_ lentCall lent isDesk operation admission job kind replyBytes freshDesk dropped slotCount maxChanges
 too-short-example = refl
 
 -- the same call lent nothing: the desk stays, and the reply is the count
 plainCall-example : plainCall freshDesk counting ≡ (freshDesk, pass (okNumber 0))
-unfolding _>>=_ plainCall isDesk operation job needsOpen slotsNamed isChange freshDesk slotCount maxChanges
+unfolding _>>=_ plainCall isDesk operation admission job kind freshDesk slotCount maxChanges
 plainCall-example = refl
 
 -- no desk: its count is above the limit

@@ -21,19 +21,30 @@ pub record Draft : Type 0 where
   pub shape : Shape
   pub rows : Table
 
+-- What a desk keeps beside its plans: "a count of changes"
+pub record Control : Type 0 where
+  pub changes : ℕ
+
 -- "The desk has slots A to H, at most one open plan, and a count of changes"
 pub record Desk : Type 0 where
   pub slots : List (Option Plan)
   pub draft : Option Draft
-  pub changes : ℕ
+  pub control : Control
+
+-- "count 0"
+abbrev pub freshControl : Control
+freshControl = record { changes = 0 }
+
+abbrev pub countIn : Control → ℕ
+countIn c = c .changes
 
 -- "A fresh desk has empty slots and count 0."
 unfoldable pub freshDesk : Desk
-freshDesk = record { slots = replicate slotCount none; draft = none; changes = 0 }
+freshDesk = record { slots = replicate slotCount none; draft = none; control = freshControl }
 
 -- "a count of changes": every statement speaks of it by this name
 abbrev pub countOf : Desk → ℕ
-countOf d = d .changes
+countOf d = countIn (d .control)
 
 -- the plan in a slot, if it holds one
 abbrev pub held : Desk → ℕ → Option Plan
@@ -55,20 +66,24 @@ pub record IsDesk (d : Desk) : Type 0 where
   pub drafted : (o : Draft) → d .draft ≡ some o → IsDraft o
   pub counted : countOf d ≤ maxChanges
 
+-- a change more
+abbrev pub counted : Control → Control
+counted c = record { changes = countIn c + 1 }
+
 -- A change: what one slot holds from now on. No plan is open afterwards, and "E, F, I, K and C raise the count by one", as X does.
 unfoldable pub changed : Desk → ℕ → Option Plan → Desk
-changed d i content = record { slots = set (d .slots) i content; draft = none; changes = countOf d + 1 }
+changed d i content = record { slots = set (d .slots) i content; draft = none; control = counted (d .control) }
 
 unfoldable pub withDraft : Desk → Draft → Desk
-withDraft d o = record { slots = d .slots; draft = some o; changes = d .changes }
+withDraft d o = record { slots = d .slots; draft = some o; control = d .control }
 
 -- "Any refusal drops an open plan and changes nothing else."
 unfoldable pub dropped : Desk → Desk
-dropped d = record { slots = d .slots; draft = none; changes = d .changes }
+dropped d = record { slots = d .slots; draft = none; control = d .control }
 
 -- a desk with another count, for examples
 abbrev pub atCount : Desk → ℕ → Desk
-atCount d n = record { slots = d .slots; draft = d .draft; changes = n }
+atCount d n = record { slots = d .slots; draft = d .draft; control = record { changes = n } }
 
 -- "M⇥from⇥to adds a pair", behind those that are there
 abbrev pub withPair : Draft → Pair → Draft

@@ -198,22 +198,6 @@ numbersFit (X a n r s seed) = hasDigits 1 n && hasDigits 1 r && hasDigits maxSpl
 unfoldable pub wellFormed : Record → Bool
 wellFormed r = all noTab (recordFields r) && numbersFit r
 
--- "2, an M or E with no plan open, or any other record while one is open"
-unfoldable pub needsOpen : Record → Bool
-needsOpen (P a n r) = false
-needsOpen (M from to) = true
-needsOpen E = true
-needsOpen (F a b c) = false
-needsOpen (I a c) = false
-needsOpen (K a k c) = false
-needsOpen (S a b) = false
-needsOpen (W a code) = false
-needsOpen (L a) = false
-needsOpen (C a) = false
-needsOpen T = false
-needsOpen U = false
-needsOpen (X a n r s seed) = false
-
 -- What a record does to a slot that it names: it reads what the slot holds, or the slot is a target, which it fills or empties.
 pub data Use : Type 0 where
   reads : Use
@@ -229,37 +213,51 @@ reading a = record { slot = a; does = reads }
 abbrev pub writing : ℕ → SlotUse
 writing a = record { slot = a; does = target }
 
--- the slots that a record names, in the order of its fields
-unfoldable pub slotsNamed : Record → List SlotUse
-slotsNamed (P a n r) = writing a ∷ []
-slotsNamed (M from to) = []
-slotsNamed E = []
-slotsNamed (F a b c) = reading a ∷ reading b ∷ writing c ∷ []
-slotsNamed (I a c) = reading a ∷ writing c ∷ []
-slotsNamed (K a k c) = reading a ∷ writing c ∷ []
-slotsNamed (S a b) = reading a ∷ reading b ∷ []
-slotsNamed (W a code) = reading a ∷ []
-slotsNamed (L a) = reading a ∷ []
-slotsNamed (C a) = writing a ∷ []
-slotsNamed T = []
-slotsNamed U = []
-slotsNamed (X a n r s seed) = writing a ∷ []
+-- What a record says by its kind: whether it needs an open plan, the slots that it names in the order of its fields, and whether it is a
+-- change.
+pub record Kind : Type 0 where
+  pub open-plan : Bool
+  pub slots : List SlotUse
+  pub change : Bool
+
+-- a record of the open plan, and one of some slots: one that asks of them, and one that changes one
+abbrev pub ofOpenPlan : Bool → Kind
+ofOpenPlan b = record { open-plan = true; slots = []; change = b }
+
+abbrev pub ofSlots : List SlotUse → Bool → Kind
+ofSlots us b = record { open-plan = false; slots = us; change = b }
+
+abbrev pub asking : List SlotUse → Kind
+asking us = ofSlots us false
+
+abbrev pub changing : List SlotUse → Kind
+changing us = ofSlots us true
+
+unfoldable pub kind : Record → Kind
+kind (P a n r) = asking (writing a ∷ [])
+kind (M from to) = ofOpenPlan false
+kind E = ofOpenPlan true
+kind (F a b c) = changing (reading a ∷ reading b ∷ writing c ∷ [])
+kind (I a c) = changing (reading a ∷ writing c ∷ [])
+kind (K a k c) = changing (reading a ∷ writing c ∷ [])
+kind (S a b) = asking (reading a ∷ reading b ∷ [])
+kind (W a code) = asking (reading a ∷ [])
+kind (L a) = asking (reading a ∷ [])
+kind (C a) = changing (writing a ∷ [])
+kind T = asking []
+kind U = asking []
+kind (X a n r s seed) = changing (writing a ∷ [])
+
+-- "2, an M or E with no plan open, or any other record while one is open"
+abbrev pub needsOpen : Record → Bool
+needsOpen r = kind r .open-plan
+
+abbrev pub slotsNamed : Record → List SlotUse
+slotsNamed r = kind r .slots
 
 -- "E, F, I, K and C raise the count by one.", and X does so "as E does" (change request E3)
-unfoldable pub isChange : Record → Bool
-isChange (P a n r) = false
-isChange (M from to) = false
-isChange E = true
-isChange (F a b c) = true
-isChange (I a c) = true
-isChange (K a k c) = true
-isChange (S a b) = false
-isChange (W a code) = false
-isChange (L a) = false
-isChange (C a) = true
-isChange T = false
-isChange U = false
-isChange (X a n r s seed) = true
+abbrev pub isChange : Record → Bool
+isChange r = kind r .change
 
 fields-example : fields (bytes "W\tA\t") ≡ bytes "W" ∷ bytes "A" ∷ [] ∷ []
 fields-example = refl

@@ -26,7 +26,8 @@ use Rattle.higman.specs.Text.{Bytes, byte, bytes, digitOf, wordOf}
 use Rattle.higman.specs.Listing.{slotNumber, isSlot}
 use Rattle.desk.specs.Limits.{maxChanges, maxLine}
 use Rattle.desk.specs.Desk.{Draft, Desk, freshDesk, countOf, held, changed, withDraft, dropped, atCount, withPair}
-use Rattle.desk.specs.Records.{Record, P, M, E, F, I, K, S, W, L, C, T, U, X, grammar, parse, needsOpen, SlotUse, slotsNamed, isChange}
+use Rattle.desk.specs.Records.{Record, P, M, E, F, I, K, S, W, L}
+use Rattle.desk.specs.Records.{C, T, U, X, grammar, parse, needsOpen, SlotUse, slotsNamed, isChange, kind}
 
 -- a slot that holds a plan
 pub record Held : Type 0 where
@@ -225,11 +226,16 @@ job d (X a n r s seed) = do
   p ← ofAnswer (exercise (record { arity = n; roots = r }) s seed)
   pass (keepIn d (slotNumber a) p)
 
--- "When each operation says no": 2, then 8, then the record's own numbers, and 16 last where the record is a change
+-- the tests that all records have in common, by what a record says of its kind: 2, then 8
+unfoldable pub admission : Desk → Record → Outcome (Unit {0})
+admission d r = do
+  _ ← wrongState when openAmiss d r
+  slotOutside when outside (slotsNamed r)
+
+-- "When each operation says no": what all records have in common, then the record's own numbers, and 16 last where the record is a change
 unfoldable pub operation : Desk → Record → Outcome Effect
 operation d r = do
-  _ ← wrongState when openAmiss d r
-  _ ← slotOutside when outside (slotsNamed r)
+  _ ← admission d r
   e ← job d r
   _ ← countFull when (isChange r && atLimit d)
   pass e
@@ -269,7 +275,7 @@ deskAfter d (e ∷ es) = deskAfter (e .0) es
 -- and so does a power outside.
 respond-example : map (λ r. respond freshDesk r .1) (T ∷ U ∷ M [] [] ∷ P (byte "I") 2 1 ∷ P (byte "H") 1 1 ∷ L (byte "A") ∷ F (byte "A") (byte "A") (byte "a") ∷ K (byte "A") (pos 1001) (byte "A") ∷ [])
     ≡ okNumber 0 ∷ surveys [] ∷ refuses 2 none ∷ refuses 8 none ∷ refuses 3 none ∷ refuses 9 none ∷ refuses 8 none ∷ refuses 12 none ∷ []
-unfolding _>>=_ respond operation job surveyed needsOpen slotsNamed isChange freshDesk slotCount shapeInRange maxPower
+unfolding _>>=_ respond operation admission job surveyed kind freshDesk slotCount shapeInRange maxPower
 respond-example = refl
 
 -- "Lines hold at most 1,100 bytes": W with a code so long that the line has 1,100, and one byte more
@@ -281,8 +287,7 @@ recordOf-example = refl
 -- with a plan open: any record but M and E is refused with 2
 open-example : map (λ r. respond (withDraft freshDesk (newDraft (byte "A") (record { arity = 2; roots = 1 }))) r .1) (T ∷ U ∷ P (byte "A") 2 1 ∷ L (byte "A") ∷ X (byte "I") 2 1 2 1 ∷ M (bytes "1") (bytes "1") ∷ E ∷ [])
     ≡ refuses 2 none ∷ refuses 2 none ∷ refuses 2 none ∷ refuses 2 none ∷ refuses 2 none ∷ silent ∷ refuses 7 (some Letter.F) ∷ []
-unfolding _>>=_ respond operation job needsOpen slotsNamed isChange freshDesk withDraft slotCount isPlanWord maxPairs maxDigits verdict
-    digitOf
+unfolding _>>=_ respond operation admission job kind freshDesk withDraft slotCount isPlanWord maxPairs maxDigits verdict digitOf
 open-example = refl
 
 -- X on a fresh desk: two pairs kept; a slot outside, a shape outside, a seed outside and 199 pairs, some of whose words have 17 digits,
@@ -290,20 +295,20 @@ open-example = refl
 exercise-example : map (λ r. respond freshDesk r .1)
     (X (byte "A") 2 1 2 1 ∷ X (byte "I") 1 1 99 0 ∷ X (byte "A") 1 1 99 0 ∷ X (byte "A") 3 1 99 0 ∷ X (byte "A") 3 1 99 22 ∷ [])
     ≡ okNumber 2 ∷ refuses 8 none ∷ refuses 3 none ∷ refuses 17 none ∷ refuses 5 none ∷ []
-unfolding _>>=_ respond operation job needsOpen slotsNamed isChange freshDesk changed slotCount shapeInRange seedInRange maxPairs maxDigits
-    maxChanges exercise exercised grown shuffled drawn nextDraw keep normalForm normal joined
+unfolding _>>=_ respond operation admission job kind freshDesk changed slotCount shapeInRange seedInRange maxPairs maxDigits maxChanges
+    exercise exercised grown shuffled drawn nextDraw keep normalForm normal joined
 exercise-example = refl
 
 -- a line that is no record, and a record
 respondLine-example : map (λ l. respondLine freshDesk (bytes l) .1) ("" ∷ "T " ∷ "T" ∷ [])
     ≡ refuses 1 none ∷ refuses 1 none ∷ okNumber 0 ∷ []
-unfolding _>>=_ respondLine lineOperation operation job needsOpen slotsNamed isChange parse grammar freshDesk slotCount maxLine
+unfolding _>>=_ respondLine lineOperation operation admission job kind parse grammar freshDesk slotCount maxLine
 respondLine-example = refl
 
 -- 100 pairs, and two from-words of 17 digits among them
 exercise-word-example : respond freshDesk (X (byte "A") 2 1 99 5) .1 ≡ refuses 4 none
-unfolding _>>=_ respond operation job needsOpen slotsNamed isChange freshDesk slotCount shapeInRange seedInRange maxPairs maxDigits
-    exercise exercised grown shuffled drawn nextDraw
+unfolding _>>=_ respond operation admission job kind freshDesk slotCount shapeInRange seedInRange maxPairs maxDigits exercise exercised
+    grown shuffled drawn nextDraw
 exercise-word-example = refl
 
 -- plans of shape (2,1), for examples
@@ -316,9 +321,8 @@ fullCount = atCount (changed freshDesk 0 (some (plan21 ψ))) maxChanges
 
 full-count-example : map (λ r. respond fullCount r .1) (T ∷ C (byte "A") ∷ C (byte "B") ∷ I (byte "A") (byte "B") ∷ K (byte "A") (pos 1001) (byte "B") ∷ X (byte "B") 2 1 2 1 ∷ X (byte "B") 2 1 2 0 ∷ W (byte "A") (bytes "12") ∷ [])
     ≡ okNumber 4_000_000_000 ∷ refuses 16 none ∷ refuses 9 none ∷ refuses 16 none ∷ refuses 12 none ∷ refuses 16 none ∷ refuses 17 none ∷ okWord (spell 122) ∷ []
-unfolding _>>=_ respond operation job needsOpen slotsNamed isChange freshDesk changed slotCount maxChanges maxPower inverted inverse keep
-    normalForm normal joined routed isCode maxCode digitOf shapeInRange seedInRange maxPairs maxDigits exercise exercised grown shuffled drawn
-    nextDraw
+unfolding _>>=_ respond operation admission job kind freshDesk changed slotCount maxChanges maxPower inverted inverse keep normalForm
+    normal joined routed isCode maxCode digitOf shapeInRange seedInRange maxPairs maxDigits exercise exercised grown shuffled drawn nextDraw
 full-count-example = refl
 
 -- ψ in slot A and φ in slot B
@@ -327,7 +331,7 @@ twoPlans = changed (changed freshDesk 0 (some (plan21 ψ))) 1 (some (plan21 φ))
 
 done-example : map (λ r. respond twoPlans r .1) (S (byte "A") (byte "A") ∷ S (byte "A") (byte "B") ∷ L (byte "B") ∷ C (byte "B") ∷ U ∷ [])
     ≡ okNumber 1 ∷ okNumber 0 ∷ lists (byte "B") (plan21 φ) ∷ ok ∷ surveys (record { slot = 0; plan = plan21 ψ } ∷ record { slot = 1; plan = plan21 φ } ∷ []) ∷ []
-unfolding _>>=_ respond operation job surveyed needsOpen slotsNamed isChange freshDesk changed slotCount same maxChanges
+unfolding _>>=_ respond operation admission job surveyed kind freshDesk changed slotCount same maxChanges
 done-example = refl
 
 -- one pair in A, three in B and in H: the most pairs first, and of equal ones the lower letter
@@ -338,16 +342,16 @@ surveyed-example = refl
 -- W by ψ: an image, the blocks of 11 and of the belt, and a wrong digit
 front-example : map (λ code. respond twoPlans (W (byte "A") (bytes code)) .1) ("1122" ∷ "11" ∷ "1" ∷ "13" ∷ [])
     ≡ okWord (spell 1212) ∷ okBlock (row 111 11 ∷ row 112 121 ∷ []) ∷ okBlock ψ ∷ refuses 4 none ∷ []
-unfolding _>>=_ respond operation job needsOpen slotsNamed isChange freshDesk changed slotCount routed block isCode maxCode digitOf
+unfolding _>>=_ respond operation admission job kind freshDesk changed slotCount routed block isCode maxCode digitOf
 front-example = refl
 
 emptied-example : respond twoPlans (C (byte "B")) .0 ≡ atCount (changed freshDesk 0 (some (plan21 ψ))) 3
-unfolding _>>=_ respond operation job needsOpen slotsNamed isChange freshDesk changed slotCount maxChanges
+unfolding _>>=_ respond operation admission job kind freshDesk changed slotCount maxChanges
 emptied-example = refl
 
 -- "Operands are read before c is written, so letters may repeat."
 repeated-letters-example : map (λ r. held (respond twoPlans r .0) 0) (F (byte "A") (byte "A") (byte "A") ∷ F (byte "B") (byte "A") (byte "A") ∷ F (byte "A") (byte "B") (byte "A") ∷ I (byte "A") (byte "A") ∷ [])
     ≡ some (plan21 (row 1111 11 ∷ row 1112 121 ∷ row 112 1221 ∷ row 12 1222 ∷ [])) ∷ some (plan21 (row 111 1222 ∷ row 112 1221 ∷ row 121 11 ∷ row 122 121 ∷ [])) ∷ some (plan21 (row 1111 122 ∷ row 1112 121 ∷ row 112 111 ∷ row 12 112 ∷ [])) ∷ some (plan21 (row 11 111 ∷ row 121 112 ∷ row 122 12 ∷ [])) ∷ []
-unfolding _>>=_ respond operation job needsOpen slotsNamed isChange freshDesk changed slotCount maxChanges followed inverted granted
-    maxPairs maxDigits compose inverse keep normalForm normal joined
+unfolding _>>=_ respond operation admission job kind freshDesk changed slotCount maxChanges followed inverted granted maxPairs maxDigits
+    compose inverse keep normalForm normal joined
 repeated-letters-example = refl

@@ -18,8 +18,8 @@ use Rattle.higman.specs.Refusals.{noRecord}
 use Rattle.higman.specs.Listing.{joinLines}
 use Rattle.desk.specs.Limits.{maxChanges, maxLine, maxNumeral}
 use Rattle.desk.specs.Desk.{Desk, freshDesk, changed, withDraft, dropped}
-use Rattle.desk.specs.Records.{grammar, parse, needsOpen, slotsNamed, isChange}
-use Rattle.desk.specs.Replies.{_>>=_, Effect, refuse, settle, job, operation, lineOperation, respondLine, run}
+use Rattle.desk.specs.Records.{grammar, parse, kind}
+use Rattle.desk.specs.Replies.{_>>=_, Effect, refuse, settle, job, operation, admission, lineOperation, respondLine, run}
 use Rattle.desk.specs.Bytes.{replyBytes}
 
 -- "lines ended by byte 10. A last line without that byte counts if it isn't empty": the lines of some bytes behind the beginning of one
@@ -125,8 +125,8 @@ linesFrom-example = refl
 
 -- a last line without byte 10, and none behind the last byte 10
 last-line-example : map session (bytes "T" ∷ bytes "T\n" ∷ bytes "\nT\r" ∷ []) ≡ bytes "ok\t0\n" ∷ bytes "ok\t0\n" ∷ bytes "no\t1\nno\t1\n" ∷ []
-unfolding session run replyBytes _>>=_ respondLine lineOperation operation job needsOpen slotsNamed isChange parse grammar freshDesk
-    dropped slotCount maxLine
+unfolding session run replyBytes _>>=_ respondLine lineOperation operation admission job kind parse grammar freshDesk dropped slotCount
+    maxLine
 last-line-example = refl
 
 -- behind 1,100 bytes of a line one more makes it too long: what it held is let go, and at its end it is refused
@@ -134,12 +134,12 @@ abbrev fullLine : State
 fullLine = record { desk = freshDesk; line = replicate maxLine (byte "T"); overlong = false }
 
 overlong-example : feed fullLine (bytes "TT\nT\n") ≡ (idle freshDesk, bytes "no\t1\nok\t0\n")
-unfolding feed feedByte replyBytes _>>=_ respondLine lineOperation operation job needsOpen slotsNamed isChange parse grammar freshDesk
-    dropped slotCount maxLine
+unfolding feed feedByte replyBytes _>>=_ respondLine lineOperation operation admission job kind parse grammar freshDesk dropped slotCount
+    maxLine
 overlong-example = refl
 
 session-in-full : session inputInFull ≡ outputInFull
-unfolding session run replyBytes _>>=_ respondLine lineOperation operation job needsOpen slotsNamed isChange parse grammar freshDesk
-    changed withDraft dropped slotCount maxChanges maxLine maxNumeral isPlanWord digitOf maxPairs maxDigits maxCode maxPower shapeInRange
-    granted isCode verdict followed inverted raised powered routed block keep compose inverse identity normalForm normal joined
+unfolding session run replyBytes _>>=_ respondLine lineOperation operation admission job kind parse grammar freshDesk changed withDraft
+    dropped slotCount maxChanges maxLine maxNumeral isPlanWord digitOf maxPairs maxDigits maxCode maxPower shapeInRange granted isCode
+    verdict followed inverted raised powered routed block keep compose inverse identity normalForm normal joined
 session-in-full = refl

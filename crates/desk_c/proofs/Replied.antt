@@ -1,43 +1,34 @@
 -- How a line's work is told: a reply by the form in which it stands tells whether the operation was refused, and by which number.
 use Prim.Native.Nat.{ℕ, _+_}
 use mathlib.Core.Path.{_≡_, refl, sym, _∙_, ap, subst}
+use mathlib.Core.Bool.{false}
 use mathlib.Core.List.{List}
 use mathlib.Core.Option.{Option, none, some}
 use native.Mathlib.Omega.{arith}
 use lib.ListN.{length}
-use Rattle.higman.specs.Text.{Bytes}
 use Rattle.higman.specs.Refusals.{Letter, letterByte}
 use Rattle.higman.specs.Buffers.{written}
 use Rattle.desk.specs.Desk.{Desk as DeskOf, dropped}
-use Rattle.desk.specs.Replies.{Outcome as OutcomeOf, refuse, pass, _>>=_, Effect, settle, lineOperation, respondLine}
+use Rattle.desk.specs.Replies.{Outcome as OutcomeOf, refuse, pass, _>>=_, Effect, settle}
 use Rattle.desk.specs.Bytes.{replyBytes}
 use Rattle.desk.specs.Buffers.{outputOf}
 use Rattle.desk.proofs.Outcomes.{Passes, stops, passes, NoRefusal, Answered as Replying}
 use Rattle.slots.specs.declared.Head.{Head}
 use Rattle.slots.specs.declared.Reply.{Reply}
-use Rattle.slots.specs.declared.Reply.the-variants.{Silent, Ok, Number, Written, Refused, RefusedIn}
+use Rattle.slots.specs.declared.Reply.the-variants.{Refused, RefusedIn}
 use Rattle.slots.specs.declared.Work.{Work}
 use Rattle.slots.specs.Desks.{deskOf, HoldsDesk}
 use Rattle.slots.specs.Works.{told, deskAfter, replyTo, DoneBy}
-use Rattle.lines.specs.Lines.{droppedHead}
+use Rattle.lines.specs.Lines.{droppedHead, isRefusal}
 use Rattle.lines.proofs.Settled.{dropped-is, holds-dropped, told-refused, told-column}
 use Rattle.desk_c.specs.declared.serving.Outcome.the-variants as Told
 use Rattle.desk_c.specs.declared.serving.Replied.{Replied}
 use Rattle.desk_c.specs.Calls.{columnByte}
-use Rattle.desk_c.specs.Settling.{outcomeOf, RepliedTo, Settled}
+use Rattle.desk_c.specs.Settling.{outcomeOf, RepliedTo, WroteBy}
 
--- a form in which no refusal is told
-abbrev pub NotRefused : Reply → Type 0
-NotRefused Silent = Unit {0}
-NotRefused Ok = Unit {0}
-NotRefused (Number k) = Unit {0}
-NotRefused (Written n) = Unit {0}
-NotRefused (Refused n) = ⊥
-NotRefused (RefusedIn n l) = ⊥
-
-pub passed-of : (o : OutcomeOf Effect) (t : Reply) → told (replyTo o) ≡ t → NotRefused t → (e : Effect) × (o ≡ pass e)
-passed-of (refuse n none) t e h = absurd (subst NotRefused (sym e) h)
-passed-of (refuse n (some c)) t e h = absurd (subst NotRefused (sym e) h)
+pub passed-of : (o : OutcomeOf Effect) (t : Reply) → told (replyTo o) ≡ t → isRefusal t ≡ false → (e : Effect) × (o ≡ pass e)
+passed-of (refuse n none) t e h = let z : _≡_ {A = ℕ} 0 1 = cc in absurd (omega arith)
+passed-of (refuse n (some c)) t e h = let z : _≡_ {A = ℕ} 0 1 = cc in absurd (omega arith)
 passed-of (pass x) t e h = (x, refl)
 
 pub refused-of : (o : OutcomeOf Effect) → Passes Replying o → (n : ℕ) → told (replyTo o) ≡ Refused n → o ≡ refuse n none
@@ -77,15 +68,16 @@ module _ (d : DeskOf) (o : OutcomeOf Effect) (out₀ columns′ out : List ℕ) 
         output = λ x r. absurd (subst IsRefusal (sym e ∙ r) tt);
       }
 
-module _ (d : DeskOf) (line : Bytes) (out₀ columns′ out′ : List ℕ) (r : Replied) (s : Settled d line out₀ r columns′ out′) where
-  pub replied-wrote : (e : Effect) → lineOperation d line ≡ pass e → RepliedTo d (lineOperation d line) out₀ r columns′ out′
-  unfolding respondLine _>>=_
-  replied-wrote e q =
-      let size : s .used ≡ length (replyBytes (settle d (lineOperation d line) .1)) = s .answered .wrote .place ∙ omega arith in
-      record {
-        holds = s .answered .holds;
-        desk = s .answered .desk;
-        outcome = s .outcome ∙ ap Told.Wrote size ∙ ap (λ x. Told.Wrote (length (replyBytes (settle d x .1)))) q
-            ∙ ap (λ x. outcomeOf (outputOf x)) (sym q);
-        output = λ x p. s .answered .wrote .contents ∙ ap (λ y. written out₀ 0 (replyBytes (settle d y .1))) p;
-      }
+  -- a reply that is no refusal is written
+  pub replied-wrote : (r : Replied) (out′ : List ℕ) → WroteBy w out r out′ → (e : Effect) → o ≡ pass e → RepliedTo d o out₀ r columns′ out′
+  unfolding _>>=_
+  replied-wrote r out′ s e q =
+      let wrote = s .settled .wrote (replyTo o) out₀ (k .reply) (k .output) in
+      let size : s .sent .used ≡ length (replyBytes (replyTo o)) = wrote .place ∙ omega arith in
+      subst (λ x. RepliedTo d o out₀ x columns′ out′) (sym (s .replied))
+      (record {
+        holds = k .holds;
+        desk = k .desk ∙ ap (deskAfter d) q ∙ ap (λ x. settle d x .0) (sym q);
+        outcome = ap Told.Wrote size ∙ ap (λ x. Told.Wrote (length (replyBytes (replyTo x)))) q ∙ ap (λ x. outcomeOf (outputOf x)) (sym q);
+        output = λ x p. wrote .contents ∙ ap (λ y. written out₀ 0 (replyBytes (replyTo y))) p;
+      })

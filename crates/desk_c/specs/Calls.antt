@@ -11,16 +11,16 @@ use Rattle.higman.specs.Text.{Bytes, byte, bytes}
 use Rattle.higman.specs.Limits.{maxPairs, slotCount}
 use Rattle.higman.specs.Refusals.{noRecord, invalidValue, Letter, letterByte}
 use Rattle.desk.specs.Limits.{maxChanges, maxLine}
-use Rattle.desk.specs.Desk.{Desk as DeskOf, isDesk, freshDesk, dropped}
-use Rattle.desk.specs.Records.{Record, P, E, F, I, K, S, C, T, X, parse, grammar, needsOpen, slotsNamed, isChange}
+use Rattle.desk.specs.Desk.{Desk as DeskOf, isDesk, freshControl, freshDesk, dropped}
+use Rattle.desk.specs.Records.{Record, P, E, F, I, K, S, C, T, X, parse, grammar, kind}
 use Rattle.desk.specs.Replies.{Reply, silent, ok, okNumber, okWord, okBlock, lists, surveys, refuses, Outcome, refuse, pass}
-use Rattle.desk.specs.Replies.{_>>=_, operation, lineOperation}
+use Rattle.desk.specs.Replies.{_>>=_, admission, operation, lineOperation}
 use Rattle.desk.specs.Replies.{job as jobOf}
 use Rattle.desk.specs.Bytes.{replyBytes}
 use Rattle.desk.specs.Buffers.{Work, Lent, lent, lentCall, plainCall}
 use Rattle.operations.specs.Plans.{inTable, packed, blank}
 use Rattle.slots.specs.Blocks.{blockCount, columnsSize, valueAt}
-use Rattle.slots.specs.Desks.{deskOf}
+use Rattle.slots.specs.Desks.{controlIn, deskOf}
 use Rattle.desks.specs.Tested.{holdsTest}
 use Rattle.desk_values.specs.declared.Desk.{Desk}
 use Rattle.desk_values.specs.Values.{deskIn, isDeskValue, packedDesk}
@@ -169,14 +169,14 @@ served-example : map (served (bytes "T") (packedDesk freshDesk)) (bytes ".......
     ∷ []
 unfolding served isDeskValue deskIn packedDesk deskOf valueAt holdsTest inTable packed blank maxPairs slotCount maxChanges
     freshDesk dropped lentCall lent isDesk
-    lineOperation operation jobOf needsOpen slotsNamed isChange parse grammar maxLine replyBytes _>>=_
+    lineOperation operation admission jobOf kind parse grammar maxLine replyBytes _>>=_
 served-example = refl
 
 buffer-example : map (bufferAfter (bytes "T") (packedDesk freshDesk)) (bytes "......." ∷ bytes "...." ∷ [])
     ≡ bytes "ok\t0\n.." ∷ bytes "...." ∷ []
 unfolding bufferAfter isDeskValue deskIn packedDesk deskOf valueAt holdsTest inTable packed blank maxPairs slotCount maxChanges
     freshDesk dropped lentCall lent
-    isDesk lineOperation operation jobOf needsOpen slotsNamed isChange parse grammar maxLine replyBytes _>>=_
+    isDesk lineOperation operation admission jobOf kind parse grammar maxLine replyBytes _>>=_
 buffer-example = refl
 
 -- S of two empty slots: 9
@@ -184,12 +184,12 @@ worked-example : worked (jobWork (job (byte "S"))) (packedDesk freshDesk)
     ≡ record { desk = packedDesk freshDesk; answer = record { number = 9; column = 0; value = 0 } }
 unfolding worked jobWork isDeskValue deskIn packedDesk deskOf valueAt holdsTest inTable packed blank maxPairs slotCount maxChanges
     freshDesk dropped plainCall
-    isDesk operation jobOf needsOpen slotsNamed isChange _>>=_
+    isDesk operation admission jobOf kind _>>=_
 worked-example = refl
 
 -- a value with a letter that is no slot's is no desk: 15, and it is left as it came
 abbrev noDesk : Desk
-noDesk = record { blocks = []; opened = 1; changes = 0; columns = [] }
+noDesk = record { blocks = []; opened = 1; control = controlIn freshControl; columns = [] }
 
 no-desk-example : (served (bytes "T") noDesk (bytes ".......") ≡ refusedWith noDesk 15 0)
     × (bufferAfter (bytes "T") noDesk (bytes ".") ≡ bytes ".")

@@ -7,7 +7,7 @@ use lib.ListN.{length}
 use Rattle.higman.specs.Text.{Bytes}
 use Rattle.higman.specs.Buffers.{written}
 use Rattle.desk.specs.Desk.{Desk as DeskOf}
-use Rattle.desk.specs.Replies.{Outcome as OutcomeOf, refuse, pass, Effect, settle, lineOperation, respondLine}
+use Rattle.desk.specs.Replies.{Outcome as OutcomeOf, refuse, pass, Effect, settle, lineOperation}
 use Rattle.desk.specs.Bytes.{replyBytes}
 use Rattle.desk.specs.Buffers.{outputOf}
 use Rattle.slots.specs.declared.Head.{Head}
@@ -16,8 +16,8 @@ use Rattle.slots.specs.declared.Reply.the-variants.{Silent, Ok, Number, Written
 use Rattle.slots.specs.declared.Work.{Work}
 use Rattle.slots.specs.Desks.{deskOf, HoldsDesk}
 use Rattle.slots.specs.Works.{DoneBy}
-use Rattle.lines.specs.declared.Stepped.{Stepped}
-use Rattle.lines.specs.Lines.{droppedHead, Answered}
+use Rattle.lines.specs.declared.Sent.{Sent}
+use Rattle.lines.specs.Lines.{droppedHead, SettledBy}
 use Rattle.desk_c.specs.declared.Job.{Job}
 use Rattle.desk_c.specs.declared.Done.{Done}
 use Rattle.desk_c.specs.declared.serving.Outcome.{Outcome}
@@ -43,16 +43,11 @@ RepliedBy w out r out′ =
     (d : DeskOf) (line : Bytes) (out₀ columns′ : List ℕ) → DoneBy d (lineOperation d line) out₀ w columns′ out
     → RepliedTo d (lineOperation d line) out₀ r columns′ out′
 
--- or settled, where it is no refusal
-pub record Settled (d : DeskOf) (line : Bytes) (out : List ℕ) (r : Replied) (columns′ out′ : List ℕ) : Type 0 where
-  pub used : ℕ
-  pub outcome : r .outcome ≡ Wrote used
-  pub answered : Answered (respondLine d line) out (record { head = r .head; used = used }) columns′ out′
-
-abbrev pub WroteBy : Work → List ℕ → Replied → List ℕ → Type 0
-WroteBy w out r out′ =
-    (d : DeskOf) (line : Bytes) (out₀ columns′ : List ℕ) → DoneBy d (lineOperation d line) out₀ w columns′ out
-    → Settled d line out₀ r columns′ out′
+-- its reply is written, and the head left as it is
+pub record WroteBy (w : Work) (out : List ℕ) (r : Replied) (out′ : List ℕ) : Type 0 where
+  pub sent : Sent
+  pub settled : SettledBy (w .reply) out sent out′
+  pub replied : r ≡ record { head = w .head; outcome = Wrote (sent .used) }
 
 -- a record without text is done
 abbrev pub JobDone : Job → Head → List ℕ → Work → List ℕ → Type 0

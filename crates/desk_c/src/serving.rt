@@ -65,11 +65,12 @@ fn wrote(work: Work, out: &mut [u8]) -> Replied
     requires { ⌜ maxReply ≤ length (now out) ⌝ }
     ensures { λ r. ⌜ WroteBy work (now (out .entry)) r (now (out .exit)) ⌝ }
 {
-    let s = lines::settle(work, out);
-    let head = s.head;
+    let reply = work.reply;
+    let sent = lines::settle(reply, out);
+    let head = work.head;
     Replied {
         head: head,
-        outcome: Outcome::Wrote(s.used),
+        outcome: Outcome::Wrote(sent.used),
     }
 }
 
@@ -186,13 +187,21 @@ fn perform(head: Head, columns: &mut [u64], job: Job) -> Work
         return changing::power(head, columns, job.a, job.k, job.b);
     }
     if letter == b'S' {
-        return asking::compare(head, columns, job.a, job.b);
+        let reply = asking::compare(head, columns, job.a, job.b);
+        return Work {
+            head: head,
+            reply: reply,
+        };
     }
     if letter == b'C' {
         return changing::empty(head, columns, job.a);
     }
     if letter == b'T' {
-        return asking::count(head);
+        let reply = asking::count(head);
+        return Work {
+            head: head,
+            reply: reply,
+        };
     }
     if letter == b'X' {
         return changing::exercise(head, columns, job.a, job.b, job.c, job.splits, job.seed);

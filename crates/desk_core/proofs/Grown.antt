@@ -13,7 +13,6 @@ use Rattle.higman.specs.Text.{Bytes}
 use Rattle.higman.specs.Buffers.{written}
 use Rattle.higman.specs.Refusals.{noRecord}
 use Rattle.slots.specs.declared.Head.{Head}
-use Rattle.slots.specs.declared.Work.{Work}
 use Rattle.slots.specs.Desks.{deskOf, HoldsDesk}
 use Rattle.slots.specs.Works.{refusing, DoneBy}
 use Rattle.slots.proofs.Steps.{done-by-refusal}
@@ -83,11 +82,11 @@ long-operation d =
     (lt-leb (length long-line) maxLine long-length)
 
 module _ (h : Head) (columns : List ℕ) where
-  pub long-done : HoldsDesk h columns → (out : List ℕ) (w : Work) → w ≡ refusing h noRecord
-      → DoneBy (deskOf h columns) (lineOperation (deskOf h columns) long-line) out w columns out
-  long-done H out w q =
-      subst (λ o. DoneBy (deskOf h columns) o out w columns out) (sym (long-operation (deskOf h columns)))
-      (done-by-refusal h columns H out noRecord w q)
+  pub long-done : HoldsDesk h columns → (out : List ℕ)
+      → DoneBy (deskOf h columns) (lineOperation (deskOf h columns) long-line) out (refusing h noRecord) columns out
+  long-done H out =
+      subst (λ o. DoneBy (deskOf h columns) o out (refusing h noRecord) columns out) (sym (long-operation (deskOf h columns)))
+      (done-by-refusal h columns H out noRecord (refusing h noRecord) refl)
 
   pub long-effect : (line : Bytes) (o : Bool) → o ≡ true → effectOf (begunAt h columns line o) ≡ respondLine (deskOf h columns) long-line
   unfolding respondLine

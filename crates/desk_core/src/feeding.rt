@@ -66,7 +66,7 @@ pub fn fresh() -> State
             sizes: [none; 9],
             is_open: false,
             slot: 0,
-            changes: 0,
+            control: slots::fresh_control(),
         },
         columns: [0u64; COLUMNS],
         line: [0u8; MAX_LINE],
@@ -133,8 +133,12 @@ fn end_line(head: Head, columns: &mut [u64], line: &[u8], overlong: bool, out: &
         (now (columns .exit)) (now (out .exit)) ⌝ }
 {
     if overlong {
-        let work = slots::refused(head, numbers::NO_RECORD);
-        return lines::settle(work, out);
+        let used = replies::no(numbers::NO_RECORD, out, 0);
+        let left = lines::dropped(head);
+        return Stepped {
+            head: left,
+            used: used,
+        };
     }
     lines::step(head, columns, line, out)
 }

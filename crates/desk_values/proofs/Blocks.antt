@@ -221,13 +221,12 @@ module _ (h : Head) (columns : List ℕ) (H : HoldsDesk h columns) where
 
   pub desk-packed : record {
     blocks = tidySizes (h .sizes) (sizeOf draft);
-    opened = openedBy
-        (draftOf h columns);
-    changes = h .changes;
+    opened = openedBy (draftOf h columns);
+    control = h .control;
     columns = words;
   } ≡ packedDesk (deskOf h columns)
   unfolding packedDesk deskOf
   desk-packed =
       let sizes = sizes-packed in
       let all = words-packed in
-      sym (λ i. record { blocks = sizes i; opened = openedBy (draftOf h columns); changes = h .changes; columns = all i })
+      sym (λ i. record { blocks = sizes i; opened = openedBy (draftOf h columns); control = h .control; columns = all i })

@@ -161,7 +161,7 @@ module _ (d : Desk) (whole : Whole d) (t : T (isDeskValue d)) where
       (held-value h columns value-holds i n))
       (ap (λ (p : Plan). p .from) draft-same) (ap (λ (p : Plan). p .to) draft-same) in
       let opened = opened-same in
-      λ i. record { blocks = sizes i; opened = opened i; changes = d .changes; columns = words i }
+      λ i. record { blocks = sizes i; opened = opened i; control = d .control; columns = words i }
 
 -- a value that a function is given is whole: what the caller owns says so
 pub whole-of-good : (d : Desk) (values : List Val) → Is the-row d values → Whole d

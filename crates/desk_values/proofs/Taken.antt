@@ -256,7 +256,7 @@ module _ (d : DeskOf) (D : IsDesk d) where
   desk-back =
       let slots = slots-back in
       let drafted = draft-back in
-      λ i. record { slots = slots i; draft = drafted i; changes = d .changes }
+      λ i. record { slots = slots i; draft = drafted i; control = d .control }
 
   value-holds-desk : HoldsDesk head columns
   unfolding deskIn valueAt

@@ -22,7 +22,7 @@ use Rattle.operations.specs.Plans.{inTable, isPlan, packed, blank}
 use Rattle.slots.specs.declared.Size.{Size}
 use Rattle.slots.specs.declared.Head.{Head}
 use Rattle.slots.specs.Blocks.{blockCount, columnsSize, noSize, sizeOf, valueAt}
-use Rattle.slots.specs.Desks.{draftBlock, deskOf}
+use Rattle.slots.specs.Desks.{draftBlock, controlIn, deskOf}
 use Rattle.desks.specs.Tested.{holdsTest}
 use Rattle.desk_values.specs.declared.Desk.{Desk}
 
@@ -31,7 +31,7 @@ abbrev pub openedTest : ℕ → Bool
 openedTest b = elim (eqb b 0) [ true ↦ true | false ↦ isSlot b ]
 
 abbrev pub headOf : Desk → Head
-headOf d = record { sizes = d .blocks; is_open = not (eqb (d .opened) 0); slot = slotNumber (d .opened); changes = d .changes }
+headOf d = record { sizes = d .blocks; is_open = not (eqb (d .opened) 0); slot = slotNumber (d .opened); control = d .control }
 
 -- the desk that a value holds
 unfoldable pub deskIn : Desk → DeskOf
@@ -89,7 +89,12 @@ wordsIn (v ∷ vs) = (v .from ++ v .to) ++ wordsIn vs
 -- the value of a desk
 unfoldable pub packedDesk : DeskOf → Desk
 packedDesk d =
-    record { blocks = map sizeOf (blocksOf d); opened = openedBy (d .draft); changes = d .changes; columns = wordsIn (blocksOf d) }
+    record {
+      blocks = map sizeOf (blocksOf d);
+      opened = openedBy (d .draft);
+      control = controlIn (d .control);
+      columns = wordsIn (blocksOf d);
+    }
 
 -- how the code makes the sizes
 abbrev pub tidySize : Size → Size
@@ -136,10 +141,15 @@ deskIn-example = refl
 abbrev spoiled : List Desk
 spoiled =
     let v = packedDesk held in
-    record { blocks = v .blocks; opened = 0; changes = 1; columns = set (v .columns) 2 0x11 }
-    ∷ record { blocks = set (v .blocks) 1 (record { arity = 2; roots = 1; pairs = 0 }); opened = 0; changes = 1; columns = v .columns }
-    ∷ record { blocks = v .blocks; opened = 65; changes = 1; columns = v .columns }
-    ∷ record { blocks = v .blocks; opened = 1; changes = 1; columns = v .columns }
+    record { blocks = v .blocks; opened = 0; control = v .control; columns = set (v .columns) 2 0x11 }
+    ∷ record {
+      blocks = set (v .blocks) 1 (record { arity = 2; roots = 1; pairs = 0 });
+      opened = 0;
+      control = v .control;
+      columns = v .columns;
+    }
+    ∷ record { blocks = v .blocks; opened = 65; control = v .control; columns = v .columns }
+    ∷ record { blocks = v .blocks; opened = 1; control = v .control; columns = v .columns }
     ∷ []
 
 spoiled-example : map isDeskValue spoiled ≡ false ∷ false ∷ false ∷ false ∷ []

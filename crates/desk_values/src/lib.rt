@@ -18,6 +18,7 @@ use plans::drafts;
 use slots::BLOCK;
 use slots::BLOCKS;
 use slots::COLUMNS;
+use slots::Control;
 use slots::DRAFT;
 use slots::Head;
 use slots::Size;
@@ -36,7 +37,7 @@ const TO: usize = FROM + MAX_PAIRS;
 pub struct Desk {
     pub blocks: [Size; BLOCKS],
     pub opened: u8,
-    pub changes: u32,
+    pub control: Control,
     pub columns: [u64; COLUMNS],
 }
 
@@ -57,19 +58,20 @@ pub fn head_of(desk: Desk) -> Head
 {
     let sizes = desk.blocks;
     let opened = desk.opened;
+    let control = desk.control;
     if opened == 0 {
         return Head {
             sizes: sizes,
             is_open: false,
             slot: 0,
-            changes: desk.changes,
+            control: control,
         };
     }
     Head {
         sizes: sizes,
         is_open: true,
         slot: slots::slot_number(opened),
-        changes: desk.changes,
+        control: control,
     }
 }
 
@@ -246,10 +248,11 @@ pub fn packed(head: Head, columns: [u64; COLUMNS]) -> Desk
     };
     let held = head.sizes;
     let sizes = tidied_sizes(held, size);
+    let control = head.control;
     Desk {
         blocks: sizes,
         opened: opened,
-        changes: head.changes,
+        control: control,
         columns: words,
     }
 }

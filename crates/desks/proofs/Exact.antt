@@ -19,18 +19,18 @@ use Rattle.higman.proofs.Tests.{so, T-of, and-left, and-right, and-intro, all-h
 use Rattle.columns.specs.Packed.{wordsOf}
 use Rattle.columns.proofs.Rows.{rows-length}
 use Rattle.desk.specs.Limits.{maxChanges}
-use Rattle.desk.specs.Desk.{Draft, Desk, IsDraft, IsDesk, held}
+use Rattle.desk.specs.Desk.{Draft, Desk, countIn, IsDraft, IsDesk, held}
 use Rattle.operations.specs.declared.Plan.{Plan}
 use Rattle.operations.specs.Plans.{shapeOf, rowsOf, planOf, zeros, inTable, isPlan}
 use Rattle.operations.proofs.KeptValues.{kept-plan}
 use Rattle.operations.proofs.Verdicts.{words-of-plan, froms-rows, tos-rows}
 use Rattle.slots.specs.declared.Head.{Head}
 use Rattle.slots.specs.Blocks.{blockCount, columnsSize, fromPlace, toPlace, sizeAt, valueAt}
-use Rattle.slots.specs.Desks.{draftBlock, heldBy, slotAt, slotsOf, draftIn, draftOf, deskOf, HoldsDesk}
+use Rattle.slots.specs.Desks.{draftBlock, heldBy, slotAt, slotsOf, draftIn, draftOf, controlOf, deskOf, HoldsDesk}
 use Rattle.slots.proofs.Windows.{pair-limit}
 use Rattle.slots.proofs.Held.{held-at, slot-plan}
 use Rattle.changing.proofs.Drafts.{open-draft, draft-columns}
-use Rattle.desks.specs.Tested.{slotTest, slotsTest, wordsTest, openTest, holdsTest, HoldsExact}
+use Rattle.desks.specs.Tested.{slotTest, slotsTest, wordsTest, openTest, controlTest, holdsTest, HoldsExact}
 
 -- a value that a slot may hold has its pairs in its table, and what it holds is kept
 slot-table : (v : Plan) → T (slotTest v) → T (inTable v)
@@ -80,7 +80,7 @@ module _ (h : Head) (columns : List ℕ) (headed : length (h .sizes) ≡ blockCo
 
   -- the four parts of the test
   abbrev counts : Bool
-  counts = leb (h .changes) maxChanges
+  counts = controlTest (h .control)
 
   abbrev small : Bool
   small = leb (sizeAt h draftBlock .pairs) maxPairs
@@ -111,9 +111,11 @@ module _ (h : Head) (columns : List ℕ) (headed : length (h .sizes) ≡ blockCo
     abbrev opens : Bool
     opens = openTest h v
 
-    changes-few : h .changes ≤ maxChanges
+    changes-few : countIn (controlOf (h .control)) ≤ maxChanges
     unfolding holdsTest
-    changes-few = leb→le (h .changes) maxChanges (and-left counts small (and-left (counts && small) opens (and-left (counts && small && opens) (slotsTest h columns) t)))
+    changes-few =
+        leb→le (countIn (controlOf (h .control))) maxChanges
+        (and-left counts small (and-left (counts && small) opens (and-left (counts && small && opens) (slotsTest h columns) t)))
 
     pairs-few : sizeAt h draftBlock .pairs ≤ maxPairs
     unfolding holdsTest
@@ -200,7 +202,8 @@ module _ (h : Head) (columns : List ℕ) (headed : length (h .sizes) ≡ blockCo
         let opens = openTest h v in
         and-intro (counts && small && opens) (slotsTest h columns)
         (and-intro (counts && small) opens
-        (and-intro counts small (le→leb (h .changes) maxChanges (H .is-desk .counted)) (le→leb (sizeAt h draftBlock .pairs) maxPairs (H .few))) open-passes)
+        (and-intro counts small (le→leb (countIn (controlOf (h .control))) maxChanges (H .is-desk .counted))
+        (le→leb (sizeAt h draftBlock .pairs) maxPairs (H .few))) open-passes)
         (all-of (λ j. slotTest (valueAt h columns j)) (count 0 slotCount) (λ i m. slot-passes i (omega (arith, count-bounds 0 slotCount i m))))
 
 pub holds-exact : HoldsExact

@@ -15,12 +15,14 @@ use Rattle.higman.specs.Answers.{verdict, isKept}
 use Rattle.words.specs.Packed.{packOn, pack, unpackIn, unpack}
 use Rattle.columns.specs.Packed.{wordsOf}
 use Rattle.desk.specs.Limits.{maxChanges}
+use Rattle.desk.specs.Desk.{countIn}
 use Rattle.operations.specs.declared.Plan.{Plan}
 use Rattle.operations.specs.Plans.{shapeOf, zeros, inTable, isPlan, packed, blank}
 use Rattle.operations.specs.Answers.{value21}
+use Rattle.slots.specs.declared.Control.{Control}
 use Rattle.slots.specs.declared.Head.{Head}
 use Rattle.slots.specs.Blocks.{blockCount, columnsSize, sizeAt, valueAt}
-use Rattle.slots.specs.Desks.{draftBlock, HoldsDesk}
+use Rattle.slots.specs.Desks.{draftBlock, controlOf, HoldsDesk}
 
 -- what a slot may hold: a kept plan with zeros behind its pairs, or nothing at all
 abbrev pub slotTest : Plan → Bool
@@ -40,9 +42,14 @@ draftTest slot v = leb (suc slot) slotCount && shapeInRange (shapeOf v) && words
 abbrev pub openTest : Head → Plan → Bool
 openTest h v = elim (h .is_open) [ false ↦ true | true ↦ draftTest (h .slot) v ]
 
+-- a count in its range
+abbrev pub controlTest : Control → Bool
+controlTest c = leb (countIn (controlOf c)) maxChanges
+
 unfoldable pub holdsTest : Head → List ℕ → Bool
 holdsTest h columns =
-    leb (h .changes) maxChanges && leb (sizeAt h draftBlock .pairs) maxPairs && openTest h (valueAt h columns draftBlock) && slotsTest h columns
+    controlTest (h .control) && leb (sizeAt h draftBlock .pairs) maxPairs && openTest h (valueAt h columns draftBlock)
+    && slotsTest h columns
 
 -- a value without pairs that has a word
 abbrev value : Plan

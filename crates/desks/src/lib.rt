@@ -5,20 +5,20 @@ ghost use Prim.Native.Nat.{_≤_};
 ghost use Rattle.higman.specs.Limits.{maxPairs};
 ghost use Rattle.slots.specs.Desks.{draftBlock};
 ghost use Rattle.slots.specs.Blocks.{InColumns, sizeAt, valueAt};
-ghost use Rattle.desks.specs.Tested.{slotTest, slotsTest, openTest, holdsTest};
+ghost use Rattle.desks.specs.Tested.{slotTest, slotsTest, openTest, controlTest, holdsTest};
 use operations::MAX_PAIRS;
 use operations::Plan;
 use operations::shapes;
 use plans::drafts;
 use slots::BLOCK;
+use slots::Control;
 use slots::DRAFT;
 use slots::Desk;
 use slots::Head;
+use slots::MAX_CHANGES;
 use slots::blocks;
 
-// `maxChanges` of desk's Limits.antt, and the slots.
-const MAX_CHANGES: u32 = 4_000_000_000;
-
+// A to H: `slotCount` of higman's Limits.antt.
 const SLOTS: usize = 8;
 
 // Where the columns of the open plan start.
@@ -80,13 +80,21 @@ fn are_slots(head: Head, columns: &[u64]) -> bool
     true
 }
 
+// Whether a control block is as a desk keeps one.
+fn is_control(control: Control) -> bool
+    ensures { λ r. ⌜ r ≡ controlTest control ⌝ }
+{
+    control.changes <= MAX_CHANGES
+}
+
 // "a .. desk handed in isn't one as described above": whether it is one.
 pub fn is_desk(desk: Desk) -> bool
     ensures { λ r. ⌜ r ≡ holdsTest (desk .head) (desk .columns) ⌝ }
 {
     let head = desk.head;
     let columns = desk.columns;
-    if MAX_CHANGES < head.changes {
+    let control = head.control;
+    if !is_control(control) {
         return false;
     }
     let size = head.sizes[DRAFT];

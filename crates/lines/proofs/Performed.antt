@@ -15,10 +15,11 @@ use Rattle.records.specs.declared.Record.{Record}
 use Rattle.records.specs.declared.Record.the-variants.{NoRecord}
 use Rattle.records.specs.Reading.{meant}
 use Rattle.slots.specs.declared.Head.{Head}
+use Rattle.slots.specs.declared.Reply.{Reply}
 use Rattle.slots.specs.declared.Work.{Work}
 use Rattle.slots.specs.Desks.{deskOf, HoldsDesk}
-use Rattle.slots.specs.Works.{refusing, DoneBy, Done}
-use Rattle.slots.proofs.Steps.{done-by-refusal}
+use Rattle.slots.specs.Works.{refusing, DoneBy, Done, Tells}
+use Rattle.slots.proofs.Steps.{done-told, done-by-refusal}
 use Rattle.lines.specs.Lines.{LineDone}
 
 module _ (h : Head) (columns : List ℕ) (line : Bytes) (r : Record) (out : List ℕ) (w : Work) (columns′ out′ : List ℕ) where
@@ -28,6 +29,13 @@ module _ (h : Head) (columns : List ℕ) (line : Bytes) (r : Record) (out : List
   line-done x m e q k =
       let d = deskOf h columns in
       subst (λ (z : Outcome DeskRecord). DoneBy d (z >>= operation d) out w columns′ out′) (sym (ap (meant line) e ∙ q)) k
+
+-- one that asks leaves the head and the columns as they are
+pub line-told : (h : Head) (columns : List ℕ) → HoldsDesk h columns → (line : Bytes) (r : Record) (out : List ℕ) (p : Reply) (out′ : List ℕ)
+    (x : Record) (m : DeskRecord) → r ≡ x → meant line x ≡ pass m → Tells m h columns out p out′
+    → LineDone h columns line r out (record { head = h; reply = p }) columns out′
+line-told h columns H line r out p out′ x m e q t =
+    line-done h columns line r out _ columns out′ x m e q (done-told h columns H m out p out′ t)
 
 pub no-line : (h : Head) (columns : List ℕ) → HoldsDesk h columns → (line : Bytes) (r : Record) (out : List ℕ) (w : Work) → r ≡ NoRecord
     → w ≡ refusing h noRecord → LineDone h columns line r out w columns out

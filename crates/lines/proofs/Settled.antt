@@ -1,9 +1,9 @@
--- A work that is well done for a line is settled: by the form in which its reply is told, what the reply is and what becomes of the desk.
+-- A reply is settled by the value that tells it: what the reply is, what is written of it, and what becomes of the desk of a work.
 use Prim.Native.Nat.{ℕ, _+_}
 use mathlib.Core.Path.{_≡_, refl, sym, _∙_, ap, subst, subst₂}
-use mathlib.Core.Bool.{true, false}
+use mathlib.Core.Bool.{Bool, true, false}
 use mathlib.Core.List.{List, [], _∷_}
-use mathlib.Core.Option.{Option, none, some}
+use mathlib.Core.Option.{none, some}
 use native.Mathlib.Omega.{arith}
 use lib.ListN.{length}
 use Rattle.higman.specs.Text.{Bytes, decimal}
@@ -17,14 +17,13 @@ use Rattle.desk.specs.Bytes.{okLine, noLine, replyBytes}
 use Rattle.desk.proofs.Outcomes.{Passes, stops, passes, NoRefusal, Answered as Replied, line-answers}
 use Rattle.desk.proofs.Stays.{dropped-desk}
 use Rattle.slots.specs.declared.Head.{Head}
-use Rattle.slots.specs.declared.Reply.{Reply as Told}
 use Rattle.slots.specs.declared.Reply.the-variants.{Silent, Ok, Number, Written, Refused, RefusedIn}
 use Rattle.slots.specs.declared.Work.{Work}
 use Rattle.slots.specs.Blocks.{valueAt}
 use Rattle.slots.specs.Desks.{deskOf, HoldsDesk}
 use Rattle.slots.specs.Works.{direct, told, deskAfter, replyTo, DoneBy}
-use Rattle.lines.specs.declared.Stepped.{Stepped}
-use Rattle.lines.specs.Lines.{droppedHead, Answered}
+use Rattle.lines.specs.declared.Sent.{Sent}
+use Rattle.lines.specs.Lines.{droppedHead, isRefusal, SettledBy, Answered}
 
 -- the open plan dropped
 pub dropped-is : (h : Head) (columns : List ℕ) → deskOf (droppedHead h) columns ≡ dropped (deskOf h columns)
@@ -41,16 +40,6 @@ holds-dropped h columns H =
       in-tables = H .in-tables;
       few = H .few;
     }
-
--- what is known of a line's operation by the form in which its reply is told
-module _ (d : Desk) where
-  settled-pass : (o : Outcome Effect) → Passes Replied o → (p : Reply) → replyTo o ≡ p → Replied (d, p) → (settle d o .0 ≡ deskAfter d o) × (settle d o .1 ≡ p)
-  settled-pass (refuse n c) k p e q = absurd (subst (λ x. Replied (d, x)) (sym e) q)
-  settled-pass (pass x) k p e q = (refl, e)
-
-  settled-refuse : (o : Outcome Effect) → Passes Replied o → (n : ℕ) (c : Option Letter) → replyTo o ≡ refuses n c → (settle d o .0 ≡ dropped (deskAfter d o)) × (settle d o .1 ≡ refuses n c)
-  settled-refuse (refuse m b) k n c e = (refl, e)
-  settled-refuse (pass x) (passes k) n c e = absurd (subst (λ y. Replied (d, y)) e k)
 
 -- the reply that is told
 told-silent : (p : Reply) → told p ≡ Silent → p ≡ silent
@@ -112,89 +101,101 @@ told-column (refuses k (some c)) n l e = (c, cc, cc)
 pub record Standing (p : Reply) (n : ℕ) : Type 0 where
   pub size : n ≡ length (direct p)
   pub whole : direct p ≡ replyBytes p
-  pub no-refusal : NoRefusal p
 
 told-written : (p : Reply) (n : ℕ) → told p ≡ Written n → Standing p n
 told-written silent n e = let z : _≡_ {A = ℕ} 0 1 = cc in absurd (omega arith)
 told-written ok n e = let z : _≡_ {A = ℕ} 0 1 = cc in absurd (omega arith)
 told-written (okNumber k) n e = let z : _≡_ {A = ℕ} 0 1 = cc in absurd (omega arith)
-told-written (okWord v) n e = record { size = cc; whole = refl; no-refusal = tt }
-told-written (okBlock t) n e = record { size = cc; whole = refl; no-refusal = tt }
-told-written (lists b p) n e = record { size = cc; whole = refl; no-refusal = tt }
-told-written (surveys hs) n e = record { size = cc; whole = refl; no-refusal = tt }
+told-written (okWord v) n e = record { size = cc; whole = refl }
+told-written (okBlock t) n e = record { size = cc; whole = refl }
+told-written (lists b p) n e = record { size = cc; whole = refl }
+told-written (surveys hs) n e = record { size = cc; whole = refl }
 told-written (refuses k none) n e = let z : _≡_ {A = ℕ} 0 1 = cc in absurd (omega arith)
 told-written (refuses k (some c)) n e = let z : _≡_ {A = ℕ} 0 1 = cc in absurd (omega arith)
 
-module _ (d : Desk) (line : Bytes) (out₀ columns′ out : List ℕ) (w : Work) (k : DoneBy d (lineOperation d line) out₀ w columns′ out) where
+-- what is written of a reply, by the value that tells it
+module _ (q : Reply) (out₀ out : List ℕ) (o : out ≡ written out₀ 0 (direct q)) where
+  -- where nothing was written yet
+  untouched : direct q ≡ [] → out ≡ out₀
+  untouched e = o ∙ ap (written out₀ 0) e
+
+  all-written : (p : Reply) → q ≡ p → direct p ≡ [] → (out′ : List ℕ) (n : ℕ) → Wrote (replyBytes p) out 0 out′ n
+      → Wrote (replyBytes q) out₀ 0 out′ n
+  all-written p e f out′ n w = subst₂ (λ x y. Wrote (replyBytes x) y 0 out′ n) (sym e) (untouched (ap direct e ∙ f)) w
+
+  pub wrote-silent : Silent ≡ told q → Wrote (replyBytes q) out₀ 0 out 0
+  unfolding replyBytes
+  wrote-silent t = all-written silent (told-silent q (sym t)) refl out 0 (record { place = refl; contents = refl })
+
+  pub wrote-standing : (n : ℕ) → Written n ≡ told q → Wrote (replyBytes q) out₀ 0 out n
+  wrote-standing n t =
+      let s = told-written q n (sym t) in
+      subst (λ b. Wrote b out₀ 0 out n) (s .whole) (record { place = s .size ∙ omega arith; contents = o })
+
+  module _ (out′ : List ℕ) (n : ℕ) where
+    pub wrote-ok : Ok ≡ told q → Wrote (okLine []) out 0 out′ n → Wrote (replyBytes q) out₀ 0 out′ n
+    unfolding replyBytes
+    wrote-ok t w = all-written ok (told-ok q (sym t)) refl out′ n w
+
+    pub wrote-number : (m : ℕ) → Number m ≡ told q → Wrote (okLine (decimal m ∷ [])) out 0 out′ n → Wrote (replyBytes q) out₀ 0 out′ n
+    unfolding replyBytes
+    wrote-number m t w = all-written (okNumber m) (told-number q m (sym t)) refl out′ n w
+
+    pub wrote-refusal : (m : ℕ) → Refused m ≡ told q → Wrote (noLine (decimal m ∷ [])) out 0 out′ n → Wrote (replyBytes q) out₀ 0 out′ n
+    unfolding replyBytes
+    wrote-refusal m t w = all-written (refuses m none) (told-refused q m (sym t)) refl out′ n w
+
+    pub wrote-column : (m l : ℕ) → RefusedIn m l ≡ told q → Wrote (noLine (decimal m ∷ (l ∷ []) ∷ [])) out 0 out′ n
+        → Wrote (replyBytes q) out₀ 0 out′ n
+    unfolding replyBytes
+    wrote-column m l t w =
+        let (c, e, x) = told-column q m l (sym t) in
+        all-written (refuses m (some c)) e refl out′ n (subst (λ b. Wrote (noLine (decimal m ∷ (b ∷ []) ∷ [])) out 0 out′ n) x w)
+
+-- whether an operation is refused, by the value that tells its reply
+passes-told : (p : Reply) → NoRefusal p → isRefusal (told p) ≡ true → ⊥
+passes-told silent h e = let z : _≡_ {A = ℕ} 0 1 = cc in omega arith
+passes-told ok h e = let z : _≡_ {A = ℕ} 0 1 = cc in omega arith
+passes-told (okNumber n) h e = let z : _≡_ {A = ℕ} 0 1 = cc in omega arith
+passes-told (okWord v) h e = let z : _≡_ {A = ℕ} 0 1 = cc in omega arith
+passes-told (okBlock t) h e = let z : _≡_ {A = ℕ} 0 1 = cc in omega arith
+passes-told (lists b p) h e = let z : _≡_ {A = ℕ} 0 1 = cc in omega arith
+passes-told (surveys hs) h e = let z : _≡_ {A = ℕ} 0 1 = cc in omega arith
+passes-told (refuses n c) h e = h
+
+module _ (d : Desk) where
+  told-passed : (o : Outcome Effect) → isRefusal (told (replyTo o)) ≡ false → settle d o ≡ (deskAfter d o, replyTo o)
+  told-passed (refuse n none) e = let z : _≡_ {A = ℕ} 0 1 = cc in absurd (omega arith)
+  told-passed (refuse n (some c)) e = let z : _≡_ {A = ℕ} 0 1 = cc in absurd (omega arith)
+  told-passed (pass x) e = refl
+
+  told-refusal : (o : Outcome Effect) → Passes Replied o → isRefusal (told (replyTo o)) ≡ true
+      → settle d o ≡ (dropped (deskAfter d o), replyTo o)
+  told-refusal (refuse n c) k e = refl
+  told-refusal (pass x) (passes k) e = absurd (passes-told (x .1) k e)
+
+-- a work that is well done for a line is answered once its reply is settled, and a refusal drops the open plan
+module _ (d : Desk) (line : Bytes) (out₀ columns′ out : List ℕ) (w : Work) (k : DoneBy d (lineOperation d line) out₀ w columns′ out)
+    (out′ : List ℕ) (s : Sent) (t : SettledBy (w .reply) out s out′) where
   abbrev o : Outcome Effect
   o = lineOperation d line
 
-  abbrev p : Reply
-  p = replyTo o
+  told-as : (b : Bool) → s .refuses ≡ b → isRefusal (told (replyTo o)) ≡ b
+  told-as b e = ap isRefusal (sym (k .reply)) ∙ sym (t .refuses) ∙ e
 
-  -- nothing was written yet
-  untouched : direct p ≡ [] → out ≡ out₀
-  untouched e = k .output ∙ ap (written out₀ 0) e
-
-  answered : (q : Reply) → p ≡ q → NoRefusal q → (out′ : List ℕ) (n : ℕ) → Wrote (replyBytes q) out₀ 0 out′ n
-      → Answered (respondLine d line) out₀ (record { head = w .head; used = n }) columns′ out′
+  answered-as : (x : Desk) → settle d o ≡ (x, replyTo o) → (h : Head) → HoldsDesk h columns′ → deskOf h columns′ ≡ x
+      → Answered (respondLine d line) out₀ (record { head = h; used = s .used }) columns′ out′
   unfolding respondLine
-  answered q e r out′ n wrote =
-      let (desk, reply) = settled-pass d o (line-answers d line) q e r in
-      record {
-        holds = k .holds;
-        desk = k .desk ∙ sym desk;
-        wrote = subst (λ x. Wrote (replyBytes x) out₀ 0 out′ n) (sym reply) wrote;
-      }
+  answered-as x e h H q =
+      subst (λ z. Answered z out₀ (record { head = h; used = s .used }) columns′ out′) (sym e)
+      (record { holds = H; desk = q; wrote = t .wrote (replyTo o) out₀ (k .reply) (k .output) })
 
-  refused : (m : ℕ) (c : Option Letter) → p ≡ refuses m c → (h : Head) → h ≡ droppedHead (w .head) → (out′ : List ℕ) (n : ℕ)
-      → Wrote (replyBytes (refuses m c)) out₀ 0 out′ n → Answered (respondLine d line) out₀ (record { head = h; used = n }) columns′ out′
-  unfolding respondLine
-  refused m c e h q out′ n wrote =
-      let (desk, reply) = settled-refuse d o (line-answers d line) m c e in
-      record {
-        holds = subst (λ x. HoldsDesk x columns′) (sym q) (holds-dropped (w .head) columns′ (k .holds));
-        desk = ap (λ x. deskOf x columns′) q ∙ dropped-is (w .head) columns′ ∙ ap dropped (k .desk) ∙ sym desk;
-        wrote = subst (λ x. Wrote (replyBytes x) out₀ 0 out′ n) (sym reply) wrote;
-      }
+  pub answered-done : s .refuses ≡ false → Answered (respondLine d line) out₀ (record { head = w .head; used = s .used }) columns′ out′
+  answered-done e = answered-as (deskAfter d o) (told-passed d o (told-as false e)) (w .head) (k .holds) (k .desk)
 
-  pub settled-silent : w .reply ≡ Silent → Answered (respondLine d line) out₀ (record { head = w .head; used = 0 }) columns′ out
-  unfolding replyBytes
-  settled-silent e =
-      let q = told-silent p (sym (k .reply) ∙ e) in
-      answered silent q tt out 0 (record { place = refl; contents = untouched (ap direct q) })
-
-  pub settled-written : (n : ℕ) → w .reply ≡ Written n → Answered (respondLine d line) out₀ (record { head = w .head; used = n }) columns′ out
-  settled-written n e =
-      let s = told-written p n (sym (k .reply) ∙ e) in
-      answered p refl (s .no-refusal) out n
-      (subst (λ b. Wrote b out₀ 0 out n) (s .whole) (record { place = s .size ∙ omega arith; contents = k .output }))
-
-  pub settled-ok : w .reply ≡ Ok → (out′ : List ℕ) (n : ℕ) → Wrote (okLine []) out 0 out′ n
-      → Answered (respondLine d line) out₀ (record { head = w .head; used = n }) columns′ out′
-  unfolding replyBytes
-  settled-ok e out′ n wrote =
-      let q = told-ok p (sym (k .reply) ∙ e) in
-      answered ok q tt out′ n (subst (λ l. Wrote (okLine []) l 0 out′ n) (untouched (ap direct q)) wrote)
-
-  pub settled-number : (m : ℕ) → w .reply ≡ Number m → (out′ : List ℕ) (n : ℕ) → Wrote (okLine (decimal m ∷ [])) out 0 out′ n
-      → Answered (respondLine d line) out₀ (record { head = w .head; used = n }) columns′ out′
-  unfolding replyBytes
-  settled-number m e out′ n wrote =
-      let q = told-number p m (sym (k .reply) ∙ e) in
-      answered (okNumber m) q tt out′ n (subst (λ l. Wrote (okLine (decimal m ∷ [])) l 0 out′ n) (untouched (ap direct q)) wrote)
-
-  pub settled-refused : (m : ℕ) → w .reply ≡ Refused m → (h : Head) → h ≡ droppedHead (w .head) → (out′ : List ℕ) (n : ℕ)
-      → Wrote (noLine (decimal m ∷ [])) out 0 out′ n → Answered (respondLine d line) out₀ (record { head = h; used = n }) columns′ out′
-  unfolding replyBytes
-  settled-refused m e h r out′ n wrote =
-      let q = told-refused p m (sym (k .reply) ∙ e) in
-      refused m none q h r out′ n (subst (λ l. Wrote (noLine (decimal m ∷ [])) l 0 out′ n) (untouched (ap direct q)) wrote)
-
-  pub settled-column : (m l : ℕ) → w .reply ≡ RefusedIn m l → (h : Head) → h ≡ droppedHead (w .head) → (out′ : List ℕ) (n : ℕ)
-      → Wrote (noLine (decimal m ∷ (l ∷ []) ∷ [])) out 0 out′ n → Answered (respondLine d line) out₀ (record { head = h; used = n }) columns′ out′
-  unfolding replyBytes
-  settled-column m l e h r out′ n wrote =
-      let (c, q, x) = told-column p m l (sym (k .reply) ∙ e) in
-      refused m (some c) q h r out′ n
-      (subst₂ (λ b y. Wrote (noLine (decimal m ∷ (b ∷ []) ∷ [])) y 0 out′ n) x (untouched (ap direct q)) wrote)
+  pub answered-refused : s .refuses ≡ true → (h : Head) → h ≡ droppedHead (w .head)
+      → Answered (respondLine d line) out₀ (record { head = h; used = s .used }) columns′ out′
+  answered-refused e h q =
+      answered-as (dropped (deskAfter d o)) (told-refusal d o (line-answers d line) (told-as true e)) h
+      (subst (λ x. HoldsDesk x columns′) (sym q) (holds-dropped (w .head) columns′ (k .holds)))
+      (ap (λ x. deskOf x columns′) q ∙ dropped-is (w .head) columns′ ∙ ap dropped (k .desk))

@@ -21,6 +21,12 @@ pub struct Stepped {
     pub used: usize,
 }
 
+// A reply that was written: how many bytes it has, and whether it refuses, so that the open plan is dropped.
+pub struct Sent {
+    pub used: usize,
+    pub refuses: bool,
+}
+
 // "Any refusal drops an open plan and changes nothing else."
 pub fn dropped(head: Head) -> Head
     ensures { λ r. ⌜ r ≡ droppedHead head ⌝ }
@@ -30,50 +36,46 @@ pub fn dropped(head: Head) -> Head
     h
 }
 
-// The reply is written, unless it stands in the output already, and a refusal drops the open plan.
-pub fn settle(work: Work, out: &mut [u8]) -> Stepped
+// The reply is written, unless it stands in the output already.
+pub fn settle(reply: Reply, out: &mut [u8]) -> Sent
     requires { ⌜ maxReply ≤ length (now out) ⌝ }
-    ensures { λ r. ⌜ SettledBy work (now (out .entry)) r (now (out .exit)) ⌝ }
+    ensures { λ r. ⌜ SettledBy reply (now (out .entry)) r (now (out .exit)) ⌝ }
 {
-    let head = work.head;
-    let reply = work.reply;
     match reply {
-        Reply::Silent => Stepped {
-            head: head,
+        Reply::Silent => Sent {
             used: 0,
+            refuses: false,
         },
-        Reply::Written(used) => Stepped {
-            head: head,
+        Reply::Written(used) => Sent {
             used: used,
+            refuses: false,
         },
         Reply::Ok => {
             let used = replies::ok(out, 0);
-            Stepped {
-                head: head,
+            Sent {
                 used: used,
+                refuses: false,
             }
         }
         Reply::Number(k) => {
             let used = replies::ok_number(k, out, 0);
-            Stepped {
-                head: head,
+            Sent {
                 used: used,
+                refuses: false,
             }
         }
         Reply::Refused(number) => {
             let used = replies::no(number, out, 0);
-            let left = dropped(head);
-            Stepped {
-                head: left,
+            Sent {
                 used: used,
+                refuses: true,
             }
         }
         Reply::RefusedIn(number, letter) => {
             let used = replies::no_column(number, letter, out, 0);
-            let left = dropped(head);
-            Stepped {
-                head: left,
+            Sent {
                 used: used,
+                refuses: true,
             }
         }
     }
@@ -103,16 +105,44 @@ pub fn perform(head: Head, columns: &mut [u64], line: &[u8], record: Record, out
         Record::Follow { a, b, c } => changing::follow(head, columns, a, b, c),
         Record::Invert { a, c } => changing::invert(head, columns, a, c),
         Record::Power { a, k, c } => changing::power(head, columns, a, k, c),
-        Record::Same { a, b } => asking::compare(head, columns, a, b),
+        Record::Same { a, b } => {
+            let reply = asking::compare(head, columns, a, b);
+            Work {
+                head: head,
+                reply: reply,
+            }
+        }
         Record::Route { a, code } => {
             let start = code.start;
             let end = code.end;
-            asking::route(head, columns, a, &line[start..end], out)
+            let reply = asking::route(head, columns, a, &line[start..end], out);
+            Work {
+                head: head,
+                reply: reply,
+            }
         }
-        Record::List { a } => asking::list(head, columns, a, out),
+        Record::List { a } => {
+            let reply = asking::list(head, columns, a, out);
+            Work {
+                head: head,
+                reply: reply,
+            }
+        }
         Record::Empty { a } => changing::empty(head, columns, a),
-        Record::Count => asking::count(head),
-        Record::Survey => asking::survey(head, out),
+        Record::Count => {
+            let reply = asking::count(head);
+            Work {
+                head: head,
+                reply: reply,
+            }
+        }
+        Record::Survey => {
+            let reply = asking::survey(head, out);
+            Work {
+                head: head,
+                reply: reply,
+            }
+        }
         Record::Exercise {
             slot,
             arity,
@@ -132,5 +162,18 @@ pub fn step(head: Head, columns: &mut [u64], line: &[u8], out: &mut [u8]) -> Ste
 {
     let record = records::read(line);
     let work = perform(head, columns, line, record, out);
-    settle(work, out)
+    let reply = work.reply;
+    let sent = settle(reply, out);
+    if sent.refuses {
+        let left = dropped(work.head);
+        return Stepped {
+            head: left,
+            used: sent.used,
+        };
+    }
+    let head = work.head;
+    Stepped {
+        head: head,
+        used: sent.used,
+    }
 }

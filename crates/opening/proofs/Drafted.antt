@@ -28,13 +28,13 @@ use Rattle.columns.proofs.Rows.{rows-set, rows-length}
 use Rattle.slots.specs.declared.Size.{Size}
 use Rattle.slots.specs.declared.Head.{Head}
 use Rattle.slots.specs.Blocks.{noSize, sizeAt, fromPlace, toPlace, valueAt}
-use Rattle.slots.specs.Desks.{draftBlock, heldBy, slotAt, draftIn, deskOf, HoldsDesk}
+use Rattle.slots.specs.Desks.{draftBlock, heldBy, slotAt, draftIn, controlOf, deskOf, HoldsDesk}
 use Rattle.slots.proofs.Windows.{pair-limit}
 use Rattle.slots.proofs.Held.{slots-eight, same-count}
 
 -- the head with another size of the open plan
 abbrev pub drafted : Head → ℕ → Size → Head
-drafted h slot size = record { sizes = set (h .sizes) draftBlock size; is_open = true; slot = slot; changes = h .changes }
+drafted h slot size = record { sizes = set (h .sizes) draftBlock size; is_open = true; slot = slot; control = h .control }
 
 -- columns that show the same in the blocks of the slots
 pub record SlotsSame (columns columns′ : List ℕ) : Type 0 where
@@ -65,7 +65,7 @@ module _ (h : Head) (columns columns′ : List ℕ) (H : HoldsDesk h columns) (s
   unfolding deskOf withDraft
   drafted-desk =
       let slots = same-count (slotAt h columns) (slotAt head′ columns′) 0 slotCount (λ j a b. ap heldBy (slot-same j (omega arith))) in
-      λ x. record { slots = slots x; draft = some (draftIn slot (valueAt head′ columns′ draftBlock)); changes = h .changes }
+      λ x. record { slots = slots x; draft = some (draftIn slot (valueAt head′ columns′ draftBlock)); control = controlOf (h .control) }
 
   pub holds-drafted : size .pairs ≤ maxPairs → IsDesk (deskOf head′ columns′) → HoldsDesk head′ columns′
   holds-drafted few d =

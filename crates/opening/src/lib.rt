@@ -2,9 +2,8 @@
 // when accepted.").
 ghost use Rattle.desk.specs.Records.{P, M};
 ghost use Rattle.slots.specs.Desks.{HoldsDesk};
-ghost use Rattle.slots.specs.Works.{DoneByHead, DoneSilently};
+ghost use Rattle.slots.specs.Works.{HeadOfDesk, DoneByHead, DoneSilently};
 use operations::MAX_PAIRS;
-use operations::listing;
 use operations::shapes;
 use slots::BLOCK;
 use slots::DRAFT;
@@ -17,13 +16,12 @@ use words::Reading;
 
 // P: 2, 8, 3.
 pub fn open(head: Head, slot: u8, arity: u8, roots: u8) -> Work
+    requires { ⌜ HeadOfDesk head ⌝ }
     ensures { λ r. ⌜ DoneByHead (P slot arity roots) head r ⌝ }
 {
-    if head.is_open {
-        return slots::refused(head, numbers::WRONG_STATE);
-    }
-    if !listing::is_slot(slot) {
-        return slots::refused(head, operations::numbers::SLOT_OUTSIDE);
+    let refusal = slots::admission(head, &[], &[slot]);
+    if refusal != 0 {
+        return slots::refused(head, refusal);
     }
     if !shapes::in_range(arity, roots) {
         return slots::refused(head, numbers::SHAPE_OUTSIDE);

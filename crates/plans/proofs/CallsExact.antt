@@ -51,7 +51,7 @@ use Rattle.plans.specs.CallsExact.{ColumnFilled, DraftByPlace, fromColum
 use Rattle.plans.specs.CallsExact.{RoutesTo, RouteRefused, ProperBeginning, CodeTaken, RoutingExact}
 use Rattle.plans.specs.CallsExact.{MatchedBy, NotMatched, MatchingExact}
 use Rattle.plans.specs.CallsExact.{ListRefused, TwoShapes, FollowBreaks, PowerBreaks, AnswersNumbered, NumbersExact, CallsExact}
-use Rattle.plans.proofs.Checks.{check-map}
+use Rattle.words.proofs.Checks.{check-map}
 use Rattle.plans.proofs.DraftChecks.{draft-of, test-draft, judged-none}
 use Rattle.operations.proofs.Values.{pairs-by-place}
 use Rattle.plans.proofs.Accepted.{keeping-of, none-kept as not-kept}

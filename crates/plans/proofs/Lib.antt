@@ -1,5 +1,4 @@
 -- The laws of the library of plans, each file after those it leans on; the proofs of the functions cite them.
-pub mod Checks
 pub mod DraftChecks
 pub mod Accepted
 pub mod Answered

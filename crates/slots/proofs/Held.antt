@@ -149,7 +149,7 @@ module _ (h : Head) (columns : List ℕ) where
           let slots = set-count (slotAt h columns) (slotAt head′ columns′) (heldBy p) 0 slotCount i k
           (ap (slotAt head′ columns′) first ∙ ap heldBy value-same)
           (λ j a b n. ap heldBy (value-other j (λ e. n (e ∙ sym first)))) in
-          λ x. record { slots = slots x; draft = none; changes = h .changes + 1 }
+          λ x. record { slots = slots x; draft = none; control = record { changes = h .control .changes + 1 } }
 
       pub holds-filled : T (inTable p) → IsDesk (changed (deskOf h columns) i (heldBy p)) → HoldsDesk head′ columns′
       unfolding filledHead

@@ -8,6 +8,7 @@ use Rattle.higman.specs.Limits.{maxPairs}
 use Rattle.higman.specs.Buffers.{written}
 use Rattle.operations.specs.declared.Plan.{Plan}
 use Rattle.slots.specs.declared.Size.{Size}
+use Rattle.slots.specs.declared.Control.{Control}
 use Rattle.slots.specs.declared.Head.{Head}
 
 -- a block for each slot and, behind them, that of the open plan
@@ -54,6 +55,10 @@ put columns i p = written (written columns (fromPlace i) (p .from)) (toPlace i) 
 abbrev pub sizeOf : Plan → Size
 sizeOf p = record { arity = p .arity; roots = p .roots; pairs = p .pairs }
 
+-- a change more
+abbrev pub notedIn : Control → Control
+notedIn c = record { changes = c .changes + 1 }
+
 -- the head after a plan, or no plan, was put into a slot: no plan is open, and the change is counted
 unfoldable pub filledHead : Head → ℕ → Plan → Head
-filledHead h i p = record { sizes = set (h .sizes) i (sizeOf p); is_open = false; slot = h .slot; changes = h .changes + 1 }
+filledHead h i p = record { sizes = set (h .sizes) i (sizeOf p); is_open = false; slot = h .slot; control = notedIn (h .control) }

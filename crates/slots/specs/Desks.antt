@@ -1,18 +1,20 @@
 -- The desk that a head and its columns hold, and what it is for them to hold one. Read Works.antt next.
 use Prim.Native.Nat.{ℕ, _≤_, _<_}
 use mathlib.Core.Path.{_≡_, refl}
-use mathlib.Core.Bool.{true, false}
+use mathlib.Core.Bool.{Bool, true, false}
 use mathlib.Core.List.{List, [], _∷_, _++_, map}
 use mathlib.Core.Option.{Option, none, some}
-use lib.Dec.{T, eqb}
+use lib.Dec.{T, leb, eqb}
 use lib.ListN.{length, replicate}
 use Rattle.higman.specs.Words.{count}
 use Rattle.higman.specs.Tables.{row}
 use Rattle.higman.specs.Limits.{Plan as PlanOf, maxPairs, slotCount}
 use Rattle.words.specs.Packed.{unpackIn, unpack}
-use Rattle.desk.specs.Desk.{Draft, Desk, IsDesk, freshDesk, changed}
+use Rattle.desk.specs.Limits.{maxChanges}
+use Rattle.desk.specs.Desk.{Draft, Desk, Control as ControlOf, countIn, IsDesk, freshDesk, changed}
 use Rattle.operations.specs.declared.Plan.{Plan}
 use Rattle.operations.specs.Plans.{shapeOf, rowsOf, planOf, inTable, blank}
+use Rattle.slots.specs.declared.Control.{Control}
 use Rattle.slots.specs.declared.Head.{Head}
 use Rattle.slots.specs.Blocks.{blockCount, columnsSize, noSize, sizeAt, valueAt, put, filledHead}
 
@@ -37,9 +39,21 @@ draftIn slot v = record { slot = slot; shape = shapeOf v; rows = rowsOf v }
 abbrev pub draftOf : Head → List ℕ → Option Draft
 draftOf h columns = elim (h .is_open) [ true ↦ some (draftIn (h .slot) (valueAt h columns draftBlock)) | false ↦ none ]
 
+-- what a desk keeps beside its plans
+abbrev pub controlOf : Control → ControlOf
+controlOf c = record { changes = c .changes }
+
+-- and its block
+abbrev pub controlIn : ControlOf → Control
+controlIn c = record { changes = c .changes }
+
+-- no change more is counted
+abbrev pub fullIn : Control → Bool
+fullIn c = leb maxChanges (countIn (controlOf c))
+
 -- "The desk has slots A to H, at most one open plan, and a count of changes"
 unfoldable pub deskOf : Head → List ℕ → Desk
-deskOf h columns = record { slots = slotsOf h columns; draft = draftOf h columns; changes = h .changes }
+deskOf h columns = record { slots = slotsOf h columns; draft = draftOf h columns; control = controlOf (h .control) }
 
 -- A head and columns that hold a desk: "Each slot holds a fixed table of 128 pairs, its unused places zero."
 pub record HoldsDesk (h : Head) (columns : List ℕ) : Type 0 where
@@ -52,7 +66,13 @@ pub record HoldsDesk (h : Head) (columns : List ℕ) : Type 0 where
 
 -- 11→12, 12→11 in slot A, as the columns hold it, and the slot emptied again
 abbrev heldHead : Head
-heldHead = record { sizes = record { arity = 2; roots = 1; pairs = 2 } ∷ replicate 8 noSize; is_open = false; slot = 0; changes = 1 }
+heldHead =
+    record {
+      sizes = record { arity = 2; roots = 1; pairs = 2 } ∷ replicate 8 noSize;
+      is_open = false;
+      slot = 0;
+      control = record { changes = 1 };
+    }
 
 abbrev heldColumns : List ℕ
 heldColumns = (0x11 ∷ 0x12 ∷ replicate 126 0) ++ (0x12 ∷ 0x11 ∷ replicate 126 0)

@@ -1,9 +1,9 @@
 -- What a record does to a head and its columns, and its reply: `operation` of desk's Replies.antt, through the desk that they hold. The
 -- reply is told by a value, and written later, but for an image, a block, a listing and a survey, which are written where they are found.
-use Prim.Native.Nat.{ℕ, _<_}
+use Prim.Native.Nat.{ℕ, zero, suc, _<_}
 use mathlib.Core.Path.{_≡_, refl}
-use mathlib.Core.Bool.{true, false}
-use mathlib.Core.List.{List, [], _∷_, map}
+use mathlib.Core.Bool.{Bool, true}
+use mathlib.Core.List.{List, [], _∷_, _++_, map}
 use mathlib.Core.Option.{none, some}
 use lib.ListN.{length}
 use Rattle.higman.specs.Limits.{Plan, Kept, slotCount}
@@ -13,9 +13,9 @@ use Rattle.higman.specs.Text.{Bytes, bytes}
 use Rattle.higman.specs.Refusals.{Letter, letterByte}
 use Rattle.higman.specs.Buffers.{written}
 use Rattle.desk.specs.Desk.{Desk}
-use Rattle.desk.specs.Records.{Record, slotsNamed, isChange}
+use Rattle.desk.specs.Records.{Record, SlotUse, reading, writing, kind, ofSlots, isChange}
 use Rattle.desk.specs.Replies.{Reply as ReplyOf, silent, ok, okNumber, okWord, okBlock, lists, surveys, refuses, Outcome, refuse, pass, Effect}
-use Rattle.desk.specs.Replies.{operation, _>>=_, openAmiss, outside, job, ofAnswer, keepIn}
+use Rattle.desk.specs.Replies.{admission, operation, _>>=_, job, ofAnswer, keepIn}
 use Rattle.desk.specs.Bytes.{replyBytes}
 use Rattle.operations.specs.declared.Making.{Making}
 use Rattle.operations.specs.Answers.{making}
@@ -85,15 +85,52 @@ DoneByHead r h w = (columns out : List ℕ) → HoldsDesk h columns → Done r h
 abbrev pub DoneSilently : Record → Head → List ℕ → Work → List ℕ → Type 0
 DoneSilently r h columns w columns′ = (out : List ℕ) → Done r h columns out w columns′ out
 
+-- A question well answered: what comes of an operation on a desk leaves the desk as it is, and is told by a reply and, where that is
+-- written at once, at the front of the output.
+pub record ToldBy (d : Desk) (o : Outcome Effect) (out : List ℕ) (p : Reply) (out′ : List ℕ) : Type 0 where
+  pub desk : deskAfter d o ≡ d
+  pub reply : p ≡ told (replyTo o)
+  pub output : out′ ≡ written out 0 (direct (replyTo o))
+
+-- the same for a record on the desk that a head and its columns hold
+abbrev pub Tells : Record → Head → List ℕ → List ℕ → Reply → List ℕ → Type 0
+Tells r h columns out reply out′ = ToldBy (deskOf h columns) (operation (deskOf h columns) r) out reply out′
+
+-- a reply that writes no output
+abbrev pub TellsSilently : Record → Head → List ℕ → Reply → Type 0
+TellsSilently r h columns reply = (out : List ℕ) → Tells r h columns out reply out
+
+-- and one that only the head is needed for
+abbrev pub TellsByHead : Record → Head → Reply → Type 0
+TellsByHead r h reply = (columns : List ℕ) → TellsSilently r h columns reply
+
 -- an answer about plans, and the value that tells it
 pub record Makes (made : Making) (answer : Answer) : Type 0 where
   pub tells : made ≡ making answer
   pub kept : (p : Plan) → answer ≡ Granted p → Kept p
 
+-- the slots that a record reads, and then its targets
+abbrev pub usesOf : List ℕ → List ℕ → List SlotUse
+usesOf reads targets = map reading reads ++ map writing targets
+
+-- the tests that all records have in common, told by the number of the refusal, or 0
+abbrev pub admittedBy : ℕ → Outcome (Unit {0})
+admittedBy zero = pass tt
+admittedBy (suc n) = refuse (suc n) none
+
+-- a head of some desk in code, whatever its columns are
+abbrev pub HeadOfDesk : Head → Type 0
+HeadOfDesk h = (columns : List ℕ) × HoldsDesk h columns
+
+-- what a head says to every record of these slots, whatever the columns are
+abbrev pub AdmittedAs : Head → List ℕ → List ℕ → ℕ → Type 0
+AdmittedAs h reads targets n =
+    (r : Record) (change : Bool) (columns : List ℕ) → kind r ≡ ofSlots (usesOf reads targets) change
+    → admission (deskOf h columns) r ≡ admittedBy n
+
 -- a record whose job is to keep an answer in a slot, behind the tests that all records have in common
 pub record ToKeep (r : Record) (d : Desk) (i : ℕ) (answer : Answer) : Type 0 where
-  pub fits : openAmiss d r ≡ false
-  pub named : outside (slotsNamed r) ≡ false
+  pub admitted : admission d r ≡ pass tt
   pub changes : isChange r ≡ true
   pub keeps : job d r ≡ (ofAnswer answer >>= λ p. pass (keepIn d i p))
 

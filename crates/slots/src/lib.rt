@@ -1,9 +1,14 @@
 // The desk in code (document 01, "Records"): a small head that goes by value, and the columns of all plans, lent where they lie. What the
 // two stand for is a desk of the crate `desk` (`deskOf`), and each function promises what the definitions give for it.
 ghost use mathlib.Core.Path.{_≡_};
-ghost use mathlib.Core.Bool.{true};
+ghost use mathlib.Core.Bool.{true, false};
 ghost use Rattle.higman.specs.Listing.{isSlot, slotNumber};
-ghost use Rattle.slots.specs.Works.{refusing};
+ghost use Rattle.higman.specs.Bases.{all};
+ghost use Rattle.desk.specs.Desk.{freshControl, countIn};
+ghost use Rattle.slots.specs.Blocks.{notedIn};
+ghost use Rattle.slots.specs.Desks.{controlOf, fullIn};
+ghost use Rattle.slots.specs.Works.{HeadOfDesk, AdmittedAs, refusing};
+use operations::listing;
 
 pub mod blocks;
 pub mod numbers;
@@ -19,6 +24,9 @@ pub const BLOCKS: usize = 9;
 
 pub const DRAFT: usize = 8;
 
+// The most changes that are counted: `maxChanges` of desk's Limits.antt.
+pub const MAX_CHANGES: u32 = 4_000_000_000;
+
 // The shape and the number of pairs of what a block holds; a slot that holds no plan has no pairs.
 #[repr(C)]
 pub struct Size {
@@ -27,12 +35,19 @@ pub struct Size {
     pub pairs: usize,
 }
 
-// What is known of a desk beside its words: the sizes of the blocks, whether a plan is open and for which slot, and "a count of changes".
+// What a desk keeps beside its plans: "a count of changes".
+#[repr(C)]
+pub struct Control {
+    pub changes: u32,
+}
+
+// What is known of a desk beside its words: the sizes of the blocks, whether a plan is open and for which slot, and what it keeps beside
+// its plans.
 pub struct Head {
     pub sizes: [Size; BLOCKS],
     pub is_open: bool,
     pub slot: usize,
-    pub changes: u32,
+    pub control: Control,
 }
 
 // "The desk has slots A to H, at most one open plan, and a count of changes".
@@ -61,6 +76,69 @@ pub enum Reply {
 pub struct Work {
     pub head: Head,
     pub reply: Reply,
+}
+
+// "count 0"
+pub fn fresh_control() -> Control
+    ensures { λ r. ⌜ controlOf r ≡ freshControl ⌝ }
+{
+    Control { changes: 0 }
+}
+
+// The count of changes.
+pub fn count(head: Head) -> u32
+    ensures { λ r. ⌜ r ≡ countIn (controlOf (head .control)) ⌝ }
+{
+    head.control.changes
+}
+
+// Whether no change more is counted.
+pub fn is_full(head: Head) -> bool
+    ensures { λ r. ⌜ r ≡ fullIn (head .control) ⌝ }
+{
+    MAX_CHANGES <= head.control.changes
+}
+
+// A change counted.
+pub fn noted(control: Control) -> Control
+    requires { ⌜ fullIn control ≡ false ⌝ }
+    ensures { λ r. ⌜ r ≡ notedIn control ⌝ }
+{
+    Control {
+        changes: control.changes + 1,
+    }
+}
+
+// Whether all of some bytes name slots.
+fn are_slots(names: &[u8]) -> bool
+    ensures { λ r. ⌜ r ≡ all isSlot (now (names .entry)) ⌝ }
+{
+    let mut i = 0;
+    while i < names.len() {
+        if !listing::is_slot(names[i]) {
+            return false;
+        }
+        i += 1;
+    }
+    true
+}
+
+// What all records of slots have in common, by the slots that one reads and those that are its targets: 2, 8. The number of the refusal,
+// or 0.
+pub fn admission(head: Head, reads: &[u8], targets: &[u8]) -> u8
+    requires { ⌜ HeadOfDesk head ⌝ }
+    ensures { λ r. ⌜ AdmittedAs head (now (reads .entry)) (now (targets .entry)) r ⌝ }
+{
+    if head.is_open {
+        return numbers::WRONG_STATE;
+    }
+    if !are_slots(reads) {
+        return operations::numbers::SLOT_OUTSIDE;
+    }
+    if !are_slots(targets) {
+        return operations::numbers::SLOT_OUTSIDE;
+    }
+    0
 }
 
 // The slot that a byte names, from 0 for A.

@@ -13,3 +13,4 @@ pub mod PlanWords
 pub mod Bytes
 pub mod Runs
 pub mod Codes
+pub mod Checks

@@ -1,27 +1,33 @@
 -- `asking::count` meets its contract.
-use mathlib.Core.Path.{refl, _∙_}
+use mathlib.Core.Path.{refl, ap}
+use mathlib.Core.Bool.{false}
+use mathlib.Core.List.{[]}
 use borrow.Author.Needs.{needs}
-use Rattle.desk.specs.Records.{T, needsOpen, slotsNamed, isChange}
+use native.Mathlib.Omega.{arith}
+use Rattle.higman.specs.Refusals.{wrongState}
+use Rattle.desk.specs.Records.{T, kind}
 use Rattle.desk.specs.Replies.{okNumber, job}
+use Rattle.desk.specs.Desk.{countOf}
 use Rattle.slots.specs.declared.Reply.the-variants.{Number}
 use Rattle.slots.specs.Desks.{deskOf}
-use Rattle.slots.proofs.Steps.{amiss-closed, refused-open}
-use Rattle.asking.proofs.Answered.{answered}
+use Rattle.slots.proofs.Steps.{admission-open, admission-passed, tells-by}
+use Rattle.asking.proofs.Answered.{asks-by, answered}
 use Rattle.asking.proofs.count.Statement.{statement}
 use Rattle.asking.proofs.count.Tie as tie
 
 returns : tie.Need-returns
-unfolding needsOpen
-returns c = λ columns out H.
-    let s = c .before .before in
-    refused-open (s .args .head) columns H T out refl (c .before .if1 .taken) (c .refused .result) (c .refused .ensures)
+unfolding kind
+returns c = λ columns out.
+    let h = c .before .args .head in
+    tells-by h columns T out [] [] false refl wrongState (admission-open h [] [] (c .if1 .taken)) (λ z. omega arith)
 
 returns-2 : tie.Need-returns-2
-unfolding needsOpen slotsNamed isChange job deskOf
-returns-2 c = λ columns out H.
-    let h = c .before .args .head in
-    answered h columns H T out (record { fits = amiss-closed h columns T refl ∙ c .if1 .left; named = refl; unchanged = refl })
-    (okNumber (h .changes)) refl (Number (h .changes)) refl out refl
+unfolding kind job deskOf
+returns-2 c = λ columns out.
+    let e = c .before in
+    let h = e .before .args .head in
+    answered h columns T out (asks-by h columns T [] refl 0 (admission-passed h [] [] (e .if1 .left) refl refl) refl)
+    (okNumber (countOf (deskOf h columns))) refl _ (ap Number (c .count .ensures)) out refl
 
 pub count-spec : {M : Type 1} → statement M
-count-spec = tie.close (tie.spec (λ c κs. search needs) returns returns-2)
+count-spec = tie.close (tie.spec returns (λ c κs. search needs) returns-2)

@@ -2,12 +2,12 @@
 -- the output is as it was, and the block is written.
 use Prim.Native.Nat.{ℕ, _-_, _≤_}
 use mathlib.Core.Path.{_≡_, refl, sym, _∙_, ap, subst}
-use mathlib.Core.Bool.{false}
-use mathlib.Core.List.{List, []}
+use mathlib.Core.Bool.{true, false}
+use mathlib.Core.List.{List, [], _∷_, List·Memᴰ·head}
+use mathlib.Core.Option.{none}
 use native.Mathlib.Nat.{zero-add}
 use native.Mathlib.Omega.{arith}
 use borrow.Author.Needs.{needs}
-use borrow.Author.Tests.{not-true, not-false}
 use borrow.Rule.Slice.PartMut.{putMid, put-same}
 use lib.ListN.{length, take, drop, length-drop}
 use lib.Seq.{length-take-le}
@@ -15,14 +15,15 @@ use Rattle.higman.specs.Limits.{Plan}
 use Rattle.higman.specs.Answers.{Route, routed}
 use Rattle.higman.specs.Text.{wordBytes, wordOf}
 use Rattle.higman.specs.Refusals.{slotEmpty}
+use Rattle.higman.specs.Listing.{isSlot}
 use Rattle.higman.specs.Words.{Word}
 use Rattle.higman.specs.Tables.{Table}
 use Rattle.higman.specs.Fronts.{block}
 use Rattle.higman.specs.Buffers.{written}
 use Rattle.tables.specs.Lines.{planOf as planIn}
 use Rattle.desk.specs.Desk.{Desk}
-use Rattle.desk.specs.Records.{Record, W, needsOpen, slotsNamed, isChange, reading}
-use Rattle.desk.specs.Replies.{okWord, okBlock, openAmiss, job}
+use Rattle.desk.specs.Records.{Record, W, kind, reading}
+use Rattle.desk.specs.Replies.{okWord, okBlock, job}
 use Rattle.desk.specs.Bytes.{replyBytes}
 use Rattle.operations.specs.Routing.{routingIn, imageInto}
 use Rattle.words.specs.Writing.{Wrote}
@@ -30,93 +31,77 @@ use Rattle.replies.specs.Lines.{imageAt}
 use Rattle.replies.specs.Sizes.{maxReply}
 use Rattle.replies.proofs.Sizes.{image-fits, rooms}
 use Rattle.replies.proofs.Images.{written-lent, image-line}
-use Rattle.slots.specs.declared.Reply.the-variants.{Written}
-use Rattle.slots.specs.declared.Work.{Work}
+use Rattle.slots.specs.declared.Reply.the-variants.{Written, Refused}
 use Rattle.slots.specs.Blocks.{sizeAt}
 use Rattle.slots.specs.Desks.{deskOf}
-use Rattle.slots.specs.Works.{refusing, Done}
+use Rattle.slots.specs.Works.{Tells}
 use Rattle.slots.proofs.Windows.{written-length}
-use Rattle.slots.proofs.Steps.{amiss-closed, outside-first, outside-next, refused-open, refused-slot, refused-job}
+use Rattle.slots.proofs.Steps.{admitted-named, tells-by, tells-job}
 use Rattle.asking.specs.Asked.{blockReply}
-use Rattle.asking.proofs.Answered.{Asks, answered}
+use Rattle.asking.proofs.Answered.{Asks, asks-by, answered}
 use Rattle.asking.proofs.Lent.{lentPlan, Named, in-blocks, from-inside, to-inside, named-empty, named-held, named-kept, parts-plan, parts-lent}
 use Rattle.asking.proofs.Jobs.{replied, route-empty, route-done, HasRoom, Sent, Short, Stopped, route-sent, route-short, route-refused}
 use Rattle.asking.proofs.route.Statement.{statement}
 use Rattle.asking.proofs.route.Tie as tie
 
--- no plan is open
 abbrev start : tie.Else1 → tie.Start
-start c = c .before .before .before .before
+start c = c .before .before .before .before .before .before .before
 
 abbrev typed : tie.Start → Record
 typed s = W (s .args .a) (s .args .code .now)
 
-closed : (c : tie.Else1) → let a = start c .args in openAmiss (deskOf (a .t1) (a .columns .now)) (typed (start c)) ≡ false
-unfolding needsOpen
-closed c = let a = start c .args in amiss-closed (a .t1) (a .columns .now) (typed (start c)) refl ∙ c .if1 .left
+-- the record is admitted
+asks : (c : tie.Else1) → let a = start c .args in Asks (a .t1) (a .columns .now) (typed (start c))
+unfolding kind
+asks c =
+    let a = start c .args in
+    asks-by (a .t1) (a .columns .now) (typed (start c)) (a .a ∷ []) refl _ (c .before .admission .ensures) (c .if1 .left)
 
--- the byte names a slot
+byte-is : (c : tie.Else1) → isSlot (start c .args .a) ≡ true
+unfolding kind
+byte-is c =
+    let s = start c in
+    let d = deskOf (s .args .t1) (s .args .columns .now) in
+    admitted-named d (typed s) (asks c .admitted) (reading (s .args .a)) (List·Memᴰ·head refl)
+
+-- so that the byte names a slot
 abbrev asked : tie.After-slot-number → tie.Start
-asked c = start (c .before .before .before)
+asked c = start (c .before)
 
 named : (c : tie.After-slot-number) → let a = asked c .args in Named (a .t1) (a .columns .now) (a .a) (c .slot-number .result)
-named c =
-    let i = c .before .before in
-    record {
-      holds = asked c .pre .holds;
-      byte = sym (i .is-slot .ensures) ∙ not-false (i .is-slot .result) (c .before .if2 .left);
-      number = c .slot-number .ensures;
-    }
+named c = record { holds = asked c .pre .holds; byte = byte-is (c .before); number = c .slot-number .ensures }
 
-asks : (c : tie.After-slot-number) → let a = asked c .args in Asks (a .t1) (a .columns .now) (typed (asked c))
-unfolding slotsNamed isChange
-asks c =
-    record {
-      fits = closed (c .before .before .before);
-      named = outside-next (reading (asked c .args .a)) [] (named c .byte) refl;
-      unchanged = refl;
-    }
+admission-requires : tie.Need-admission-requires
+admission-requires c κs = let s = c .before .before .before .before .before in (s .args .columns .now, s .pre .holds)
 
 returns : tie.Need-returns
-unfolding needsOpen
+unfolding kind
 returns c =
-    let s = c .before .before .before .before .before in
+    let t = c .before in
+    let s = t .before .before .before .before .before .before in
     let a = s .args in
-    refused-open (a .t1) (a .columns .now) (s .pre .holds) (typed s) (a .out .now) refl (c .before .if1 .taken)
-    (c .refused .result) (c .refused .ensures)
-
-returns-2 : tie.Need-returns-2
-unfolding slotsNamed
-returns-2 c =
-    let i = c .before .before in
-    let s = start (i .before) in
-    let a = s .args in
-    let no = sym (i .is-slot .ensures) ∙ not-true (i .is-slot .result) (c .before .if2 .taken) in
-    refused-slot (a .t1) (a .columns .now) (s .pre .holds) (typed s) (a .out .now) (closed (i .before)) (outside-first (reading (a .a)) [] no)
-    (c .refused2 .result) (c .refused2 .ensures)
+    tells-by (a .t1) (a .columns .now) (typed s) (a .out .now) (a .a ∷ []) [] false refl _ (t .admission .ensures) (c .if1 .taken)
 
 slot-number-requires : tie.Need-slot-number-requires
-slot-number-requires c κs = let i = c .before in sym (i .is-slot .ensures) ∙ not-false (i .is-slot .result) (c .if2 .left)
+slot-number-requires c κs = byte-is c
 
 element-copy-out-size : tie.Need-element-copy-out-size
 element-copy-out-size c = in-blocks (named c)
 
-returns-3 : tie.Need-returns-3
-returns-3 c =
-    let n = c .before .before .before in
+returns-2 : tie.Need-returns-2
+returns-2 c =
+    let n = c .before .before in
     let s = asked n in
     let a = s .args in
-    refused-job (a .t1) (a .columns .now) (s .pre .holds) (typed s) (a .out .now) (asks n .fits) (asks n .named) slotEmpty
-    (route-empty (deskOf (a .t1) (a .columns .now)) (a .a) (a .code .now)
-    (named-empty (named n) (c .before .if3 .taken)))
-    (c .refused3 .result) (c .refused3 .ensures)
+    tells-job (a .t1) (a .columns .now) (typed s) (a .out .now) (asks (n .before) .admitted) slotEmpty none
+    (route-empty (deskOf (a .t1) (a .columns .now)) (a .a) (a .code .now) (named-empty (named n) (c .if2 .taken)))
 
 -- the slot holds a plan, and its parts are lent
 abbrev numbered : tie.After-part2 → tie.After-slot-number
 numbered c = c .before .before .before .before
 
 full : (c : tie.After-part2) → sizeAt (asked (numbered c) .args .t1) (numbered c .slot-number .result) .pairs ≡ 0 → ⊥
-full c = c .before .before .if3 .left
+full c = c .before .before .if2 .left
 
 part-requires : tie.Need-part-requires
 part-requires c κs = from-inside (named (c .before .before))
@@ -226,9 +211,9 @@ ok-image-requires c κs =
     let size = ap length (placed d) ∙ written-length (out p) imageAt image (omega (arith, s .pre .room)) in
     omega (arith, s .pre .room, sent d .size)
 
-returns-4 : tie.Need-returns-4
+returns-3 : tie.Need-returns-3
 unfolding replyBytes
-returns-4 c =
+returns-3 c =
     let o = c .before .before in
     let d = o .before .before .before in
     let p = lender (d .before .before .before .before) in
@@ -236,7 +221,7 @@ returns-4 c =
     let s = asked n in
     let a = s .args in
     let line = image-line (out p) (wordBytes (sent d .image)) (wide p) (sent d .size) (placed d) (o .ok-image .ensures) in
-    answered (a .t1) (a .columns .now) (s .pre .holds) (typed s) (out p) (asks n) (okWord (sent d .image)) (job-told p ∙ sent d .reply)
+    answered (a .t1) (a .columns .now) (typed s) (out p) (asks (n .before)) (okWord (sent d .image)) (job-told p ∙ sent d .reply)
     (Written (o .ok-image .result)) (ap Written (line .place ∙ zero-add _)) _ (line .contents)
 
 -- a route without an image leaves the output as it was
@@ -253,15 +238,13 @@ unmoved c e =
 unsent : (c : tie.After-route) (n : ℕ) → let p = lender c in
     let s = asked (numbered p) in
     let a = s .args in
-    Stopped (desk p) (inside p) (answer p) (behind p) n → (w : Work) → w ≡ refusing (a .t1) n
-    → Done (typed s) (a .t1) (a .columns .now) (out p) w (a .columns .now) (routed-out c)
-unsent c n stopped w e =
+    Stopped (desk p) (inside p) (answer p) (behind p) n → Tells (typed s) (a .t1) (a .columns .now) (out p) (Refused n) (routed-out c)
+unsent c n stopped =
     let p = lender c in
     let s = asked (numbered p) in
     let a = s .args in
-    subst (λ x. Done (typed s) (a .t1) (a .columns .now) (out p) w (a .columns .now) x) (sym (unmoved c (stopped .buffer)))
-    (refused-job (a .t1) (a .columns .now) (s .pre .holds) (typed s) (out p) (asks (numbered p) .fits) (asks (numbered p) .named) n
-    (job-told p ∙ stopped .reply) w e)
+    subst (λ x. Tells (typed s) (a .t1) (a .columns .now) (out p) (Refused n) x) (sym (unmoved c (stopped .buffer)))
+    (tells-job (a .t1) (a .columns .now) (typed s) (out p) (asks (numbered p .before) .admitted) n none (job-told p ∙ stopped .reply))
 
 -- a code that is too short
 abbrev unmatched : tie.After-enum-told → tie.After-route
@@ -288,8 +271,8 @@ write-block-requires c κs =
       space = subst (λ x. maxReply ≤ length x) (sym (unmoved r (short e .buffer))) (asked n .pre .room);
     }
 
-returns-5 : tie.Need-returns-5
-returns-5 c =
+returns-4 : tie.Need-returns-4
+returns-4 c =
     let w = c .before .before in
     let e = w .before .before in
     let r = unmatched e in
@@ -302,32 +285,30 @@ returns-5 c =
     let whole = subst (λ x. Wrote (blockReply (p .before .part .result .now) (p .part2 .result .now) (a .code .now)) x 0 left reply)
     (unmoved r (short e .buffer)) (w .write-block .ensures) in
     let line = subst (λ t. Wrote (replyBytes (okBlock t)) (out p) 0 left reply) (ap (λ q. block (q .rows) (code p)) (lent p)) whole in
-    answered (a .t1) (a .columns .now) (s .pre .holds) (typed s) (out p) (asks n) (okBlock (inside p)) (job-told p ∙ short e .reply)
+    answered (a .t1) (a .columns .now) (typed s) (out p) (asks (n .before)) (okBlock (inside p)) (job-told p ∙ short e .reply)
     (Written reply) (ap Written (line .place ∙ zero-add _)) _ (line .contents)
 
-returns-6 : tie.Need-returns-6
-returns-6 c =
-    let k = c .before .before in
+returns-5 : tie.Need-returns-5
+returns-5 c =
+    let k = c .before in
     let r = k .before .before .before .before in
     let p = lender r in
     let n = k .number .given .0 .0 in
     let stopped = route-refused (desk p) (inside p) (behind p) (answer p) (room p) n (sym (told-route r) ∙ k .number .given .1) in
-    unsent r n stopped (c .refused4 .result) (c .refused4 .ensures)
+    unsent r n stopped
 
 pub route-spec : {M : Type 1} → statement M
 route-spec =
     tie.close
     (tie.spec
-    (λ c κs. search needs)
+    (λ c. search needs)
+    (λ c. search needs)
+    admission-requires
     returns
-    (λ c κs. search needs)
-    (λ c κs. search needs)
-    returns-2
     slot-number-requires
     (λ c. search needs)
     element-copy-out-size
-    (λ c κs. search needs)
-    returns-3
+    returns-2
     (λ c. search needs)
     part-requires
     (λ c. search needs)
@@ -342,10 +323,9 @@ route-spec =
     (λ c. search needs)
     write-block-requires
     (λ c. search needs)
-    (λ c κs. search needs)
+    (λ c. search needs)
+    returns-3
     (λ c. search needs)
     returns-4
     (λ c. search needs)
-    returns-5
-    (λ c. search needs)
-    returns-6)
+    returns-5)

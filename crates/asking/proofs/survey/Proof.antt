@@ -2,18 +2,21 @@
 -- in. The measure is how many are left.
 use Prim.Native.Nat.{_-_}
 use mathlib.Core.Path.{refl, _∙_, ap}
+use mathlib.Core.Bool.{false}
+use mathlib.Core.List.{[]}
 use native.Mathlib.Nat.{zero-add}
 use native.Mathlib.Omega.{arith}
 use borrow.Author.Needs.{needs}
 use lib.ListN.{getD}
-use Rattle.desk.specs.Records.{U, needsOpen, slotsNamed, isChange}
+use Rattle.higman.specs.Refusals.{wrongState}
+use Rattle.desk.specs.Records.{U, kind}
 use Rattle.desk.specs.Replies.{surveyed, surveys, job}
 use Rattle.replies.proofs.Sizes.{ok-number-size}
 use Rattle.slots.specs.declared.Reply.the-variants.{Written}
 use Rattle.slots.specs.Desks.{deskOf}
 use Rattle.slots.proofs.Held.{slots-eight}
-use Rattle.slots.proofs.Steps.{amiss-closed, refused-open}
-use Rattle.asking.proofs.Answered.{answered}
+use Rattle.slots.proofs.Steps.{admission-open, admission-passed, tells-by}
+use Rattle.asking.proofs.Answered.{asks-by, answered}
 use Rattle.asking.proofs.Surveyed.{line-fits, Surveyed, survey-start, survey-long, survey-room, next-named, next-full, survey-next}
 use Rattle.asking.proofs.Surveyed.{all-few, survey-ends}
 use Rattle.asking.proofs.survey.Statement.{statement}
@@ -26,10 +29,10 @@ abbrev μ-loop : tie.MeasureT-loop
 μ-loop out₀ head order held used₀ i₀ out used i = held - i
 
 returns : tie.Need-returns Inv-loop μ-loop
-unfolding needsOpen
+unfolding kind
 returns c = λ columns H.
-    let s = c .before .before .before in
-    refused-open (s .args .t1) columns H U (s .args .out .now) refl (c .before .if1 .taken) (c .refused .result) (c .refused .ensures)
+    let a = c .before .before .args in
+    tells-by (a .t1) columns U (a .out .now) [] [] false refl wrongState (admission-open (a .t1) [] [] (c .if1 .taken)) (λ z. omega arith)
 
 arrange-requires : tie.Need-arrange-requires Inv-loop μ-loop
 arrange-requires c κs = omega (arith, slots-eight)
@@ -112,7 +115,7 @@ same-length c =
     omega (arith, survey-long (l .loop .inv) (l .before .before .before .before .before .before .pre .1 .room))
 
 returns-2 : tie.Need-returns-2 Inv-loop μ-loop
-unfolding needsOpen slotsNamed isChange job
+unfolding kind job
 returns-2 c = λ columns H.
     let o = c .before .before in
     let e = o .before .before in
@@ -122,7 +125,7 @@ returns-2 c = λ columns H.
     let s = n .before .before in
     let h = s .args .t1 in
     let whole = survey-ends H (a .arrange .ensures) (l .loop .inv) (e .loop-test .left) (o .ok-number .ensures) in
-    answered h columns H U (s .args .out .now) (record { fits = amiss-closed h columns U refl ∙ n .if1 .left; named = refl; unchanged = refl })
+    answered h columns U (s .args .out .now) (asks-by h columns U [] refl 0 (admission-passed h [] [] (n .if1 .left) refl refl) refl)
     (surveys (surveyed (deskOf h columns))) refl (Written (o .ok-number .result)) (ap Written (whole .place ∙ zero-add _)) _ (whole .contents)
 
 pub survey-spec : {M : Type 1} → statement M
@@ -131,7 +134,6 @@ survey-spec =
     (tie.spec
     Inv-loop
     μ-loop
-    (λ c κs. search needs)
     returns
     (λ c. search needs)
     arrange-requires

@@ -1,15 +1,15 @@
 -- `changing::close` meets its contract: the open plan is judged, and then what is kept of it goes into its slot.
 use mathlib.Core.Path.{_≡_, refl, sym, _∙_, ap, subst}
-use mathlib.Core.Bool.{true, false, not}
+use mathlib.Core.Bool.{true}
 use mathlib.Core.Option.{some}
 use borrow.Author.Needs.{needs}
 use borrow.Author.Tests.{not-true, not-false}
 use Rattle.higman.specs.Limits.{Kept}
 use Rattle.higman.specs.Answers as Of
-use Rattle.higman.specs.Refusals.{Letter}
+use Rattle.higman.specs.Refusals.{wrongState, Letter}
 use Rattle.desk.specs.Desk.{Draft, Desk}
-use Rattle.desk.specs.Records.{E, needsOpen, slotsNamed, isChange}
-use Rattle.desk.specs.Replies.{openAmiss, outside, closed as kept-of}
+use Rattle.desk.specs.Records.{E, kind}
+use Rattle.desk.specs.Replies.{pass, admission, closed as kept-of}
 use Rattle.desk.proofs.Stays.{closed-kept}
 use Rattle.operations.specs.declared.Plan.{Plan}
 use Rattle.operations.specs.declared.Closed.{Closed}
@@ -21,7 +21,7 @@ use Rattle.slots.specs.Blocks.{valueAt}
 use Rattle.slots.specs.Desks.{draftBlock, draftIn, deskOf}
 use Rattle.slots.specs.Works.{Makes}
 use Rattle.slots.proofs.Held.{draft-open}
-use Rattle.slots.proofs.Steps.{amiss-open, refused-closed, refused-column}
+use Rattle.slots.proofs.Steps.{no-plan-open, plan-open, refused-admission, refused-column}
 use Rattle.changing.proofs.Drafts.{open-draft, draft-columns, granted-injective, accepted, close-from, close-to, close-keeps}
 use Rattle.changing.proofs.close.Statement.{statement}
 use Rattle.changing.proofs.close.Tie as tie
@@ -45,19 +45,17 @@ opened c = not-false (start c .args .head .is_open) (c .if1 .left)
 is-draft : (c : tie.Else1) → desk (start c) .draft ≡ some (draft (start c))
 is-draft c = draft-open (start c .args .head) (start c .args .columns .now) (opened c)
 
-fits : (c : tie.Else1) → openAmiss (desk (start c)) E ≡ false
-unfolding needsOpen
-fits c = amiss-open (start c .args .head) (start c .args .columns .now) E refl ∙ ap not (opened c)
-
-named : outside (slotsNamed E) ≡ false
-unfolding slotsNamed
-named = refl
+admitted : (c : tie.Else1) → admission (desk (start c)) E ≡ pass tt
+unfolding kind
+admitted c = plan-open (start c .args .head) (start c .args .columns .now) E true refl (opened c)
 
 returns : tie.Need-returns
-unfolding needsOpen
+unfolding kind
 returns c = λ out.
     let s = c .before .before .before .before in
-    refused-closed (s .args .head) (s .args .columns .now) (s .pre) E out refl (not-true (s .args .head .is_open) (c .before .if1 .taken))
+    let h = s .args .head in
+    refused-admission h (s .args .columns .now) (s .pre) E out wrongState
+    (no-plan-open h (s .args .columns .now) E true refl (not-true (h .is_open) (c .before .if1 .taken)))
     (c .refused .result) (c .refused .ensures)
 
 -- where the block was read, and where it was judged
@@ -89,7 +87,7 @@ returns-2 c = λ out.
     let e = read (judged j) in
     let s = start e in
     let reason = x .verdict .given .0 .0 in
-    refused-column (s .args .head) (s .args .columns .now) (s .pre) E out (fits e) named (reasonNumber reason) Letter.F
+    refused-column (s .args .head) (s .args .columns .now) (s .pre) E out (admitted e) (reasonNumber reason) Letter.F
     (close-from (desk s) (draft s) (is-draft e) reason (sym (verdict-is j) ∙ x .verdict .given .1)) (c .faulty .result) (c .faulty .ensures)
 
 returns-3 : tie.Need-returns-3
@@ -99,7 +97,7 @@ returns-3 c = λ out.
     let e = read (judged j) in
     let s = start e in
     let reason = x .verdict2 .given .0 .0 in
-    refused-column (s .args .head) (s .args .columns .now) (s .pre) E out (fits e) named (reasonNumber reason) Letter.T
+    refused-column (s .args .head) (s .args .columns .now) (s .pre) E out (admitted e) (reasonNumber reason) Letter.T
     (close-to (desk s) (draft s) (is-draft e) reason (sym (verdict-is j) ∙ x .verdict2 .given .1)) (c .faulty2 .result) (c .faulty2 .ensures)
 
 -- where the open plan was accepted
@@ -141,14 +139,14 @@ keep-requires c κs =
     }
 
 returns-4 : tie.Need-returns-4
-unfolding isChange
+unfolding kind
 returns-4 c = λ out.
     let k = c .before .before in
     let g = k .before .before in
     let e = read (judged (passed g)) in
     let s = closer g in
     k .keep .ensures E (answer g) (makes g)
-    (record { fits = fits e; named = named; changes = refl; keeps = close-keeps (desk s) (draft s) (is-draft e) (accepts g) }) out
+    (record { admitted = admitted e; changes = refl; keeps = close-keeps (desk s) (draft s) (is-draft e) (accepts g) }) out
 
 pub close-spec : {M : Type 1} → statement M
 close-spec =

@@ -1,19 +1,21 @@
--- `changing::fill` meets its contract: the count stays within its limit.
-use mathlib.Core.Path.{refl}
+-- `changing::fill` meets its contract.
+use mathlib.Core.Path.{ap}
+use mathlib.Core.Bool.{false}
 use borrow.Author.Needs.{needs}
-use native.Mathlib.Omega.{arith}
-use Rattle.desk.specs.Limits.{maxChanges}
-use Rattle.slots.specs.Blocks.{filledHead}
+use lib.ListN.{set}
+use Rattle.slots.specs.declared.Control.{Control}
+use Rattle.slots.specs.Blocks.{sizeOf, filledHead}
 use Rattle.changing.proofs.fill.Statement.{statement}
 use Rattle.changing.proofs.fill.Tie as tie
 
-add-h : tie.Need-add-h
-unfolding maxChanges
-add-h c = record { fits = omega (arith, c .before .before .before .before .before .before .pre .1) }
-
 returns : tie.Need-returns
 unfolding filledHead
-returns c = (refl, c .before .before .before .put .ensures)
+returns c =
+    let a = c .before .before .before .before .before .before .before .args in
+    let sizes = set (a .head .sizes) (a .i) (sizeOf (a .plan)) in (
+      ap (λ (k : Control). record { sizes = sizes; is_open = false; slot = a .head .slot; control = k }) (c .noted .ensures),
+      c .before .before .before .before .put .ensures,
+    )
 
 pub fill-spec : {M : Type 1} → statement M
 fill-spec =
@@ -22,6 +24,6 @@ fill-spec =
     (λ c κs. search needs)
     (λ c. search needs)
     (λ c. search needs)
-    add-h
+    (λ c κs. search needs)
     (λ c. search needs)
     returns)

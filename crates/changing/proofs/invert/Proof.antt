@@ -1,33 +1,32 @@
 -- `changing::invert` meets its contract: the tests in the paper's order, and then what the plan gives is kept.
 use Prim.Native.Nat.{ℕ, _<_}
 use mathlib.Core.Path.{_≡_, refl, sym, _∙_, ap, subst}
-use mathlib.Core.Bool.{true, false}
-use mathlib.Core.List.{[], _∷_}
+use mathlib.Core.Bool.{true}
+use mathlib.Core.List.{[], _∷_, List·Memᴰ·head, List·Memᴰ·tail}
 use mathlib.Core.Option.{some}
 use borrow.Author.Needs.{needs}
-use borrow.Author.Tests.{not-true, not-false}
 use Rattle.higman.specs.Limits.{Kept, slotCount}
 use Rattle.higman.specs.Answers.{Answer, inverted}
 use Rattle.higman.specs.Refusals.{slotEmpty}
 use Rattle.higman.specs.Listing.{isSlot, slotNumber}
 use Rattle.higman.proofs.Demand3.{demand3}
 use Rattle.desk.specs.Desk.{Desk, held}
-use Rattle.desk.specs.Records.{Record, I, needsOpen, slotsNamed, isChange, reading, writing}
-use Rattle.desk.specs.Replies.{_>>=_, pass, openAmiss, outside, ofAnswer, keepIn}
+use Rattle.desk.specs.Records.{Record, I, kind, reading, writing}
+use Rattle.desk.specs.Replies.{_>>=_, pass, admission, ofAnswer, keepIn}
 use Rattle.operations.specs.declared.Making.{Making}
 use Rattle.operations.specs.Plans.{planOf}
 use Rattle.operations.specs.Answers.{making}
 use Rattle.slots.specs.Blocks.{InColumns}
 use Rattle.slots.specs.Desks.{deskOf}
-use Rattle.slots.specs.Works.{Makes, ToKeep}
+use Rattle.slots.specs.Works.{admittedBy, Makes, ToKeep}
 use Rattle.slots.proofs.Held.{slot-inside}
-use Rattle.slots.proofs.Steps.{amiss-closed, outside-first, outside-next, slot-below, refused-open, refused-slot, refused-job}
+use Rattle.slots.proofs.Steps.{admitted-named, slot-below, refused-by, refused-job}
 use Rattle.changing.proofs.Operands.{operand-none, operand-some, operand-kept, operand-plan, invert-none, invert-keeps}
 use Rattle.changing.proofs.invert.Statement.{statement}
 use Rattle.changing.proofs.invert.Tie as tie
 
 abbrev start : tie.Else1 → tie.Start
-start c = c .before .before
+start c = c .before .before .before .before .before
 
 abbrev typed : tie.Start → Record
 typed s = I (s .args .a) (s .args .c)
@@ -35,179 +34,146 @@ typed s = I (s .args .a) (s .args .c)
 abbrev desk : tie.Start → Desk
 desk s = deskOf (s .args .head) (s .args .columns .now)
 
--- no plan is open
-closed : (c : tie.Else1) → openAmiss (desk (start c)) (typed (start c)) ≡ false
-unfolding needsOpen
-closed c = amiss-closed (start c .args .head) (start c .args .columns .now) (typed (start c)) refl ∙ c .if1 .left
+-- the record is admitted, and so the two bytes name slots
+admitted : (c : tie.Else1) → admission (desk (start c)) (typed (start c)) ≡ pass tt
+unfolding kind
+admitted c =
+    let a = start c .args in
+    let call = c .before .admission in
+    call .ensures (typed (start c)) true (a .columns .now) refl ∙ ap admittedBy (c .if1 .left)
 
--- the two bytes name slots
-abbrev first : tie.Else2 → tie.Else1
-first c = c .before .before
+a-named : (c : tie.Else1) → isSlot (start c .args .a) ≡ true
+unfolding kind
+a-named c = admitted-named (desk (start c)) (typed (start c)) (admitted c) (reading (start c .args .a)) (List·Memᴰ·head refl)
 
-abbrev second : tie.Else3 → tie.Else2
-second c = c .before .before
+c-named : (c : tie.Else1) → isSlot (start c .args .c) ≡ true
+unfolding kind
+c-named c =
+    admitted-named (desk (start c)) (typed (start c)) (admitted c) (writing (start c .args .c)) (List·Memᴰ·tail (List·Memᴰ·head refl))
 
-abbrev begun : tie.Else3 → tie.Start
-begun c = start (first (second c))
-
-a-named : (c : tie.Else2) → isSlot (start (first c) .args .a) ≡ true
-a-named c = sym (c .before .is-slot .ensures) ∙ not-false (c .before .is-slot .result) (c .if2 .left)
-
-c-named : (c : tie.Else3) → isSlot (begun c .args .c) ≡ true
-c-named c = sym (c .before .is-slot2 .ensures) ∙ not-false (c .before .is-slot2 .result) (c .if3 .left)
-
-inside : (c : tie.Else3) → outside (slotsNamed (typed (begun c))) ≡ false
-unfolding slotsNamed
-inside c =
-    let a = begun c .args in
-    outside-next (reading (a .a)) (writing (a .c) ∷ []) (a-named (second c)) (outside-next (writing (a .c)) [] (c-named c) refl)
+admission-requires : tie.Need-admission-requires
+admission-requires c κs = let s = c .before .before .before in (s .args .columns .now, s .pre)
 
 returns : tie.Need-returns
-unfolding needsOpen
+unfolding kind
 returns c = λ out.
-    let s = c .before .before .before in
-    refused-open (s .args .head) (s .args .columns .now) (s .pre) (typed s) out refl (c .before .if1 .taken) (c .refused .result) (c .refused .ensures)
-
-returns-2 : tie.Need-returns-2
-unfolding slotsNamed
-returns-2 c = λ out.
-    let i = c .before .before in
-    let s = start (i .before) in
-    let no = sym (i .is-slot .ensures) ∙ not-true (i .is-slot .result) (c .before .if2 .taken) in
-    refused-slot (s .args .head) (s .args .columns .now) (s .pre) (typed s) out (closed (i .before))
-    (outside-first (reading (s .args .a)) (writing (s .args .c) ∷ []) no) (c .refused2 .result) (c .refused2 .ensures)
-
-returns-3 : tie.Need-returns-3
-unfolding slotsNamed
-returns-3 c = λ out.
-    let i = c .before .before in
-    let e = first (i .before) in
-    let s = start e in
-    let no = sym (i .is-slot2 .ensures) ∙ not-true (i .is-slot2 .result) (c .before .if3 .taken) in
-    refused-slot (s .args .head) (s .args .columns .now) (s .pre) (typed s) out (closed e)
-    (outside-next (reading (s .args .a)) (writing (s .args .c) ∷ []) (a-named (i .before)) (outside-first (writing (s .args .c)) [] no))
-    (c .refused3 .result) (c .refused3 .ensures)
+    let t = c .before .before in
+    let s = t .before .before .before .before in
+    refused-by (s .args .head) (s .args .columns .now) (s .pre) (typed s) out (s .args .a ∷ []) (s .args .c ∷ []) true refl _
+    (t .admission .ensures) (c .before .if1 .taken) (c .refused .result) (c .refused .ensures)
 
 slot-number-requires : tie.Need-slot-number-requires
-slot-number-requires c κs = a-named (second (c .before))
+slot-number-requires c κs = a-named (c .before)
 
 value-requires : tie.Need-value-requires
 value-requires c κs =
     let e = c .before .before in
-    let s = begun e in
+    let s = start e in
     subst (λ i. InColumns i (s .args .columns .now)) (sym (c .slot-number .ensures))
-    (slot-inside (s .args .head) (s .args .columns .now) (s .pre) (slotNumber (s .args .a)) (slot-below (s .args .a) (a-named (second e))))
+    (slot-inside (s .args .head) (s .args .columns .now) (s .pre) (slotNumber (s .args .a)) (slot-below (s .args .a) (a-named e)))
 
 -- where the plan was read
-abbrev read : tie.After-value → tie.Else3
+abbrev read : tie.After-value → tie.Else1
 read c = c .before .before .before
 
-returns-4 : tie.Need-returns-4
-returns-4 c = λ out.
+returns-2 : tie.Need-returns-2
+returns-2 c = λ out.
     let v = c .before .before .before in
     let e = read v in
-    let s = begun e in
+    let s = start e in
     let a = s .args in
-    let none = operand-none (a .head) (a .columns .now) (s .pre) (a .a) (a-named (second e)) (v .value .result) (v .before .slot-number .result)
-    (v .before .slot-number .ensures) (v .value .ensures) (c .before .if4 .taken) in
-    refused-job (a .head) (a .columns .now) (s .pre) (typed s) out (closed (first (second e))) (inside e) slotEmpty
-    (invert-none (desk s) (a .a) (a .c) none) (c .refused4 .result) (c .refused4 .ensures)
+    let none = operand-none (a .head) (a .columns .now) (s .pre) (a .a) (a-named e) (v .value .result) (v .before .slot-number .result)
+    (v .before .slot-number .ensures) (v .value .ensures) (c .before .if2 .taken) in
+    refused-job (a .head) (a .columns .now) (s .pre) (typed s) out (admitted e) slotEmpty
+    (invert-none (desk s) (a .a) (a .c) none) (c .refused2 .result) (c .refused2 .ensures)
 
 slot-number-requires-2 : tie.Need-slot-number-requires-2
 slot-number-requires-2 c κs = c-named (read (c .before .before .before))
 
--- where the slot holds a plan
-abbrev value-read : tie.Else4 → tie.After-value
-value-read c = c .before .before
-
-abbrev held-at : tie.Else4 → tie.Start
-held-at c = begun (read (value-read c))
-
--- the answer that is to be kept
-abbrev answer : tie.Else4 → Answer
-answer c = inverted (planOf (value-read c .value .result))
-
-module _ (c : tie.Else4) where
+-- where the slot holds a plan, and the answer that is to be kept
+module _ (c : tie.Else2) where
   abbrev v : tie.After-value
-  v = value-read c
+  v = c .before .before
 
-  abbrev e : tie.Else3
+  abbrev e : tie.Else1
   e = read v
 
   abbrev s : tie.Start
-  s = held-at c
+  s = start e
+
+  abbrev answer : Answer
+  answer = inverted (planOf (v .value .result))
 
   a-kept : Kept (planOf (v .value .result))
   a-kept =
-      operand-kept (s .args .head) (s .args .columns .now) (s .pre) (s .args .a) (a-named (second e)) (v .value .result)
-      (v .before .slot-number .result) (v .before .slot-number .ensures) (v .value .ensures) (c .if4 .left)
+      operand-kept (s .args .head) (s .args .columns .now) (s .pre) (s .args .a) (a-named e) (v .value .result)
+      (v .before .slot-number .result) (v .before .slot-number .ensures) (v .value .ensures) (c .if2 .left)
 
   a-some : held (desk s) (slotNumber (s .args .a)) ≡ some (planOf (v .value .result))
   a-some =
-      operand-some (s .args .head) (s .args .columns .now) (s .pre) (s .args .a) (a-named (second e)) (v .value .result)
-      (v .before .slot-number .result) (v .before .slot-number .ensures) (v .value .ensures) (c .if4 .left)
+      operand-some (s .args .head) (s .args .columns .now) (s .pre) (s .args .a) (a-named e) (v .value .result)
+      (v .before .slot-number .result) (v .before .slot-number .ensures) (v .value .ensures) (c .if2 .left)
 
-  makes : (made : Making) → made ≡ making (answer c) → Makes made (answer c)
+  makes : (made : Making) → made ≡ making answer → Makes made answer
   makes made q = record { tells = q; kept = λ r g. demand3 .inverted-kept _ r a-kept g }
 
-  asks : (i : ℕ) → i ≡ slotNumber (s .args .c) → ToKeep (typed s) (desk s) i (answer c)
-  unfolding isChange
+  asks : (i : ℕ) → i ≡ slotNumber (s .args .c) → ToKeep (typed s) (desk s) i answer
+  unfolding kind
   asks i q =
       record {
-        fits = closed (first (second e));
-        named = inside e;
+        admitted = admitted e;
         changes = refl;
-        keeps = invert-keeps (desk s) (s .args .a) (s .args .c) _ a-some ∙ ap (λ n. ofAnswer (answer c) >>= λ r. pass (keepIn (desk s) n r)) (sym q);
+        keeps =
+            invert-keeps (desk s) (s .args .a) (s .args .c) _ a-some
+            ∙ ap (λ n. ofAnswer answer >>= λ r. pass (keepIn (desk s) n r)) (sym q);
       }
 
 inverse-requires : tie.Need-inverse-requires
 inverse-requires c κs =
     let e = c .before .before in
-    let v = value-read e in
-    let s = held-at e in
-    operand-plan (s .args .head) (s .args .columns .now) (s .pre) (s .args .a) (a-named (second (read v))) (v .value .result)
-    (v .before .slot-number .result) (v .before .slot-number .ensures) (v .value .ensures) (e .if4 .left)
+    let v = e .before .before in
+    let s = start (read v) in
+    operand-plan (s .args .head) (s .args .columns .now) (s .pre) (s .args .a) (a-named (read v)) (v .value .result)
+    (v .before .slot-number .result) (v .before .slot-number .ensures) (v .value .ensures) (e .if2 .left)
 
 keep-requires : tie.Need-keep-requires
 keep-requires c κs =
     let n = c .before in
     let e = n .before .before in
-    let s = held-at e in
+    let r = read (e .before .before) in
+    let s = start r in
     record {
       holds = s .pre;
-      slot = subst (λ i. i < slotCount) (sym (n .slot-number2 .ensures)) (slot-below (s .args .c) (c-named (read (value-read e))));
+      slot = subst (λ i. i < slotCount) (sym (n .slot-number2 .ensures)) (slot-below (s .args .c) (c-named r));
       answer = answer e;
       makes = makes e (c .inverse .result) (c .inverse .ensures);
     }
 
-returns-5 : tie.Need-returns-5
-returns-5 c = λ out.
+returns-3 : tie.Need-returns-3
+returns-3 c = λ out.
     let k = c .before .before in
     let m = k .before in
     let n = m .before in
     let e = n .before .before in
-    k .keep .ensures (typed (held-at e)) (answer e) (makes e (m .inverse .result) (m .inverse .ensures))
+    k .keep .ensures (typed (start (read (e .before .before)))) (answer e) (makes e (m .inverse .result) (m .inverse .ensures))
     (asks e (n .slot-number2 .result) (n .slot-number2 .ensures)) out
 
 pub invert-spec : {M : Type 1} → statement M
 invert-spec =
     tie.close
     (tie.spec
+    (λ c. search needs)
+    (λ c. search needs)
+    admission-requires
     (λ c κs. search needs)
     returns
-    (λ c κs. search needs)
-    (λ c κs. search needs)
-    returns-2
-    (λ c κs. search needs)
-    (λ c κs. search needs)
-    returns-3
     slot-number-requires
     value-requires
     (λ c κs. search needs)
     (λ c. search needs)
-    returns-4
+    returns-2
     slot-number-requires-2
     inverse-requires
     keep-requires
     (λ c. search needs)
-    returns-5)
+    returns-3)

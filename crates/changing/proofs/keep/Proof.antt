@@ -1,11 +1,11 @@
 -- `changing::keep` meets its contract, whatever record asks for it.
-use Prim.Native.Nat.{_≤_, _<_}
-use mathlib.Core.Path.{_≡_, refl, sym, _∙_, ap}
+use mathlib.Core.Path.{_≡_, sym, _∙_, ap}
+use mathlib.Core.Bool.{false}
 use borrow.Author.Needs.{needs}
 use native.Mathlib.Omega.{arith}
-use Rattle.desk.specs.Limits.{maxChanges}
 use Rattle.operations.specs.declared.Answer.the-variants as Told
 use Rattle.slots.specs.declared.Reply.the-variants.{Number}
+use Rattle.slots.specs.Desks.{fullIn}
 use Rattle.slots.proofs.Windows.{pair-limit}
 use Rattle.slots.proofs.Held.{slot-inside}
 use Rattle.changing.proofs.Keeping.{keep-refused, keep-limit, keep-done, few-made}
@@ -20,17 +20,16 @@ granted : (c : tie.After-enum-told) → start c .args .made .answer ≡ Told.Gra
 granted c = c .enum-told .given .1
 
 -- and there was room for one more change
-room : (c : tie.Else1) → start (c .before .before) .args .head .changes < maxChanges
-unfolding maxChanges
-room c = omega (arith, c .if1 .left)
+room : (c : tie.Else1) → fullIn (start (c .before .before) .args .head .control) ≡ false
+room c = sym (c .before .is-full .ensures) ∙ c .if1 .left
 
 returns : tie.Need-returns
-unfolding maxChanges
 returns c = λ r answer m t out.
-    let g = c .before .before .before in
+    let f = c .before .before in
+    let g = f .before in
     let s = start g in
     let a = s .args in
-    let full : maxChanges ≤ a .head .changes = omega (arith, c .before .if1 .taken) in
+    let full = sym (f .is-full .ensures) ∙ c .before .if1 .taken in
     keep-limit (a .made) answer m (a .head) (a .columns .now) (s .pre .holds) (a .i) (s .pre .slot) r t out (granted g) full
     (c .refused2 .result) (c .refused2 .ensures)
 
@@ -73,6 +72,7 @@ keep-spec =
     (λ c. search needs)
     (λ c κs. search needs)
     (λ c. search needs)
+    (λ c κs. search needs)
     (λ c κs. search needs)
     returns
     fill-requires

@@ -12,27 +12,27 @@ use Rattle.desk_values.proofs.head_of.Statement.{statement}
 use Rattle.desk_values.proofs.head_of.Tie as tie
 
 abbrev made : Desk → Bool → ℕ → Head
-made d o slot = record { sizes = d .blocks; is_open = o; slot = slot; changes = d .changes }
+made d o slot = record { sizes = d .blocks; is_open = o; slot = slot; control = d .control }
 
 abbrev tested : ℕ → Bool → Bool
 tested o b = elim b [ true ↦ true | false ↦ isSlot o ]
 
 returns : tie.Need-returns
 returns c =
-    let d = c .before .before .args .desk in
+    let d = c .before .before .before .args .desk in
     let none : slotNumber (d .opened) ≡ 0 = omega (arith, c .if1 .taken) in
     sym (ap (λ b. made d (not b) (slotNumber (d .opened))) (eq-eqb (d .opened) 0 (c .if1 .taken)) ∙ ap (made d false) none)
 
 slot-number-requires : tie.Need-slot-number-requires
 slot-number-requires c κs =
-    let s = c .before .before in
+    let s = c .before .before .before in
     let d = s .args .desk in
     sym (ap (tested (d .opened)) (ne-eqb (d .opened) 0 (c .if1 .left))) ∙ s .pre
 
 returns-2 : tie.Need-returns-2
 returns-2 c =
     let e = c .before in
-    let d = e .before .before .args .desk in
+    let d = e .before .before .before .args .desk in
     sym (ap (λ b. made d (not b) (slotNumber (d .opened))) (ne-eqb (d .opened) 0 (e .if1 .left))
     ∙ ap (made d true) (sym (c .slot-number .ensures)))
 

@@ -11,16 +11,17 @@ use Rattle.desk_values.proofs.packed.Tie as tie
 
 returns : tie.Need-returns
 returns c =
-    let p = c .before .before .before in
+    let t = c .before in
+    let p = t .before .before .before in
     let o = p .before .before in
     let d = o .before .before in
     let s = d .before .before in
     let h = s .args .head in
     let draft = d .draft-of .ensures in
-    let sizes = c .tidied-sizes .ensures ∙ ap (λ (v : Plan). tidySizes (h .sizes) (sizeOf v)) draft in
+    let sizes = t .tidied-sizes .ensures ∙ ap (λ (v : Plan). tidySizes (h .sizes) (sizeOf v)) draft in
     let words = p .put .ensures ∙ ap (put (s .args .columns) draftBlock) draft in
     let opened = o .opened-by .ensures in
-    (λ i. record { blocks = sizes i; opened = opened i; changes = h .changes; columns = words i })
+    (λ i. record { blocks = sizes i; opened = opened i; control = h .control; columns = words i })
     ∙ desk-packed h (s .args .columns) (s .pre)
 
 pub packed-spec : {M : Type 1} → statement M

@@ -8,17 +8,16 @@ use native.Mathlib.Omega.{arith}
 use lib.Dec.{leb}
 use lib.ListN.{length}
 use Rattle.higman.specs.Limits.{maxPairs}
-use Rattle.desk.specs.Limits.{maxChanges}
 use Rattle.slots.specs.Blocks.{sizeAt, valueAt}
 use Rattle.slots.specs.Desks.{draftBlock}
 use Rattle.slots.proofs.Windows.{pair-limit}
-use Rattle.desks.specs.Tested.{slotsTest, openTest, holdsTest}
+use Rattle.desks.specs.Tested.{slotsTest, openTest, controlTest, holdsTest}
 use Rattle.desks.proofs.is_desk.Statement.{statement}
 use Rattle.desks.proofs.is_desk.Tie as tie
 
 -- the four tests
 abbrev a : tie.Start → Bool
-a s = leb (s .args .desk .head .changes) maxChanges
+a s = controlTest (s .args .desk .head .control)
 
 abbrev b : tie.Start → Bool
 b s = leb (sizeAt (s .args .desk .head) draftBlock .pairs) maxPairs
@@ -30,11 +29,10 @@ abbrev l : tie.Start → Bool
 l s = slotsTest (s .args .desk .head) (s .args .desk .columns)
 
 abbrev start : tie.Else1 → tie.Start
-start c = c .before .before .before
+start c = c .before .before .before .before .before
 
 counted : (c : tie.Else1) → a (start c) ≡ true
-unfolding maxChanges
-counted c = le-leb (start c .args .desk .head .changes) maxChanges (omega (arith, c .if1 .left))
+counted c = let t = c .before in sym (t .is-control .ensures) ∙ not-false (t .is-control .result) (c .if1 .left)
 
 small : (c : tie.Else2) → sizeAt (start (c .before .before .before) .args .desk .head) draftBlock .pairs ≤ maxPairs
 small c = omega (arith, pair-limit, c .if2 .left)
@@ -43,10 +41,11 @@ few : (c : tie.Else2) → b (start (c .before .before .before)) ≡ true
 few c = le-leb (sizeAt (start (c .before .before .before) .args .desk .head) draftBlock .pairs) maxPairs (small c)
 
 returns : tie.Need-returns
-unfolding holdsTest maxChanges
+unfolding holdsTest
 returns c =
-    let s = c .before .before .before in
-    let no : a s ≡ false = lt-leb (s .args .desk .head .changes) 4_000_000_000 (omega (arith, c .if1 .taken)) in
+    let t = c .before in
+    let s = t .before .before .before .before in
+    let no : a s ≡ false = sym (t .is-control .ensures) ∙ not-true (t .is-control .result) (c .if1 .taken) in
     sym (ap (λ x. x && b s && o s && l s) no)
 
 returns-2 : tie.Need-returns-2
@@ -85,6 +84,7 @@ pub is-desk-spec : {M : Type 1} → statement M
 is-desk-spec =
     tie.close
     (tie.spec
+    (λ c κs. search needs)
     returns
     (λ c. search needs)
     returns-2

@@ -12,7 +12,7 @@ use Rattle.records.specs.declared.Record.the-variants.{Open, Pair, Close, Follo
 use Rattle.records.specs.Reading.{Within, InBounds}
 use Rattle.operations.proofs.Signs.{read, read-is}
 use Rattle.slots.specs.Works.{Done}
-use Rattle.lines.proofs.Performed.{line-done, no-line, small-fits}
+use Rattle.lines.proofs.Performed.{line-done, line-told, no-line, small-fits}
 use Rattle.lines.proofs.perform.Statement.{statement}
 use Rattle.lines.proofs.perform.Tie as tie
 
@@ -126,7 +126,8 @@ returns-7 c =
     let r = c .before .before .before in
     let s = start (r .before .before) in
     let a = s .args in
-    line-done (a .head) (a .columns .now) (a .line .now) (a .«record») (a .out .now) _ _ _ _ _ (r .record6 .given .1) refl
+    line-told (a .head) (a .columns .now) (s .pre .asked .holds) (a .line .now) (a .«record») (a .out .now) _ _ _ _
+    (r .record6 .given .1) refl
     (c .compare .ensures (a .out .now))
 
 returns-8 : tie.Need-returns-8
@@ -135,7 +136,8 @@ returns-8 c =
     let r = p .before .before .before .before .before in
     let s = start (r .before .before) in
     let a = s .args in
-    line-done (a .head) (a .columns .now) (a .line .now) (a .«record») (a .out .now) _ _ _ _ _ (r .record7 .given .1) refl
+    line-told (a .head) (a .columns .now) (s .pre .asked .holds) (a .line .now) (a .«record») (a .out .now) _ _ _ _
+    (r .record7 .given .1) refl
     (p .route .ensures)
 
 returns-9 : tie.Need-returns-9
@@ -144,7 +146,8 @@ returns-9 c =
     let r = p .before .before .before .before in
     let s = start (r .before .before) in
     let a = s .args in
-    line-done (a .head) (a .columns .now) (a .line .now) (a .«record») (a .out .now) _ _ _ _ _ (r .record8 .given .1) refl
+    line-told (a .head) (a .columns .now) (s .pre .asked .holds) (a .line .now) (a .«record») (a .out .now) _ _ _ _
+    (r .record8 .given .1) refl
     (p .list .ensures)
 
 returns-10 : tie.Need-returns-10
@@ -161,8 +164,9 @@ returns-11 c =
     let r = c .before in
     let s = start (r .before .before) in
     let a = s .args in
-    line-done (a .head) (a .columns .now) (a .line .now) (a .«record») (a .out .now) _ _ _ _ _ (r .enum-told2 .given .1) refl
-    (c .count .ensures (a .columns .now) (a .out .now) (s .pre .asked .holds))
+    line-told (a .head) (a .columns .now) (s .pre .asked .holds) (a .line .now) (a .«record») (a .out .now) _ _ _ _
+    (r .enum-told2 .given .1) refl
+    (c .count .ensures (a .columns .now) (a .out .now))
 
 returns-12 : tie.Need-returns-12
 returns-12 c =
@@ -170,7 +174,8 @@ returns-12 c =
     let r = p .before .before in
     let s = start (r .before .before) in
     let a = s .args in
-    line-done (a .head) (a .columns .now) (a .line .now) (a .«record») (a .out .now) _ _ _ _ _ (r .enum-told3 .given .1) refl
+    line-told (a .head) (a .columns .now) (s .pre .asked .holds) (a .line .now) (a .«record») (a .out .now) _ _ _ _
+    (r .enum-told3 .given .1) refl
     (p .survey .ensures (a .columns .now) (s .pre .asked .holds))
 
 returns-13 : tie.Need-returns-13

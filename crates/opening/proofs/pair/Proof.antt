@@ -10,22 +10,23 @@ use native.Mathlib.Omega.{arith}
 use lib.Dec.{leb}
 use lib.ListN.{length, set, length-set}
 use Rattle.higman.specs.Limits.{maxPairs, isPlanWord}
-use Rattle.higman.specs.Refusals.{badWord, pairsFull}
+use Rattle.higman.specs.Refusals.{wrongState, badWord, pairsFull}
 use Rattle.higman.specs.Text.{wordOf}
 use Rattle.desk.specs.Desk.{Desk, Draft, IsDesk, withDraft, withPair}
-use Rattle.desk.specs.Records.{Record, M, needsOpen, slotsNamed, isChange}
-use Rattle.desk.specs.Replies.{silent, openAmiss, outside}
+use Rattle.desk.specs.Records.{Record, M, kind}
+use Rattle.desk.specs.Replies.{pass, silent, admission}
 use Rattle.words.specs.Bytes.{shape}
 use Rattle.higman.specs.Tables.{Pair}
 use Rattle.columns.specs.Packed.{pairOf}
 use Rattle.slots.specs.declared.Size.{Size}
+use Rattle.slots.specs.declared.Work.{Work}
 use Rattle.slots.specs.declared.Reply.the-variants.{Silent}
 use Rattle.slots.specs.Blocks.{sizeAt, valueAt}
 use Rattle.slots.specs.Desks.{draftBlock, draftIn, deskOf, HoldsDesk}
 use Rattle.slots.specs.Works.{Done}
 use Rattle.slots.proofs.Windows.{pair-limit}
 use Rattle.slots.proofs.Held.{draft-open, draft-length}
-use Rattle.slots.proofs.Steps.{amiss-open, refused-closed, refused-job, at-end, done-passed}
+use Rattle.slots.proofs.Steps.{no-plan-open, plan-open, refused-admission, refused-job, at-end, done-passed}
 use Rattle.opening.proofs.Drafted.{drafted, drafted-size, drafted-desk, holds-drafted, paired, paired-slots, draft-paired}
 use Rattle.opening.proofs.Drafted.{pair-bad, pair-full, pair-done, read-bad, read-word, read-unpacked}
 use Rattle.opening.proofs.pair.Statement.{statement}
@@ -63,21 +64,17 @@ opened c = not-false (start c .args .t1 .is_open) (c .if1 .left)
 is-draft : (c : tie.Else1) → desk (start c) .draft ≡ some (draft (start c))
 is-draft c = draft-open (start c .args .t1) (start c .args .columns .now) (opened c)
 
-fits : (c : tie.Else1) → openAmiss (desk (start c)) (typed (start c)) ≡ false
-unfolding needsOpen
-fits c =
-    let a = start c .args in
-    amiss-open (a .t1) (a .columns .now) (typed (start c)) refl ∙ ap (λ b. elim b [ true ↦ false | false ↦ true ]) (opened c)
-
-inside : (s : tie.Start) → outside (slotsNamed (typed s)) ≡ false
-unfolding slotsNamed
-inside s = refl
+admitted : (c : tie.Else1) → admission (desk (start c)) (typed (start c)) ≡ pass tt
+unfolding kind
+admitted c = plan-open (start c .args .t1) (start c .args .columns .now) (typed (start c)) false refl (opened c)
 
 returns : tie.Need-returns
-unfolding needsOpen
+unfolding kind
 returns c = λ out.
     let s = c .before .before .before .before .before in
-    refused-closed (s .args .t1) (s .args .columns .now) (s .pre) (typed s) out refl (not-true (s .args .t1 .is_open) (c .before .if1 .taken))
+    let h = s .args .t1 in
+    refused-admission h (s .args .columns .now) (s .pre) (typed s) out wrongState
+    (no-plan-open h (s .args .columns .now) (typed s) false refl (not-true (h .is_open) (c .before .if1 .taken)))
     (c .refused .result) (c .refused .ensures)
 
 -- the from-word that was read is one
@@ -117,7 +114,7 @@ returns-2 c = λ out.
     let s = first r in
     let o = r .before .before in
     let bad = read-bad (draft s .shape) (s .args .from .now) (sym (r .read .ensures) ∙ e .enum-told .given .1) in
-    refused-job (s .args .t1) (s .args .columns .now) (s .pre) (typed s) out (fits o) (inside s) badWord
+    refused-job (s .args .t1) (s .args .columns .now) (s .pre) (typed s) out (admitted o) badWord
     (pair-bad (desk s) (draft s) (is-draft o) (s .args .from .now) (s .args .to .now) (ap (λ b. b && isPlanWord (draft s .shape) (wordOf (s .args .to .now))) bad))
     (c .refused2 .result) (c .refused2 .ensures)
 
@@ -129,7 +126,7 @@ returns-3 c = λ out.
     let s = second r in
     let o = between r .before .before in
     let bad = read-bad (draft s .shape) (s .args .to .now) (sym (r .read2 .ensures) ∙ e .enum-told2 .given .1) in
-    refused-job (s .args .t1) (s .args .columns .now) (s .pre) (typed s) out (fits o) (inside s) badWord
+    refused-job (s .args .t1) (s .args .columns .now) (s .pre) (typed s) out (admitted o) badWord
     (pair-bad (desk s) (draft s) (is-draft o) (s .args .from .now) (s .args .to .now) (ap₂ _&&_ (from-is (r .before)) bad))
     (c .refused3 .result) (c .refused3 .ensures)
 
@@ -139,7 +136,7 @@ returns-4 c = λ out.
     let s = second (both k) in
     let o = between (both k) .before .before in
     let many : maxPairs ≤ length (draft s .rows) = omega (arith, pair-limit, draft-length (s .args .t1) (s .args .columns .now) (s .pre), c .before .if2 .taken) in
-    refused-job (s .args .t1) (s .args .columns .now) (s .pre) (typed s) out (fits o) (inside s) pairsFull
+    refused-job (s .args .t1) (s .args .columns .now) (s .pre) (typed s) out (admitted o) pairsFull
     (pair-full (desk s) (draft s) (is-draft o) (s .args .from .now) (s .args .to .now) (words-are k) (le-leb maxPairs (length (draft s .rows)) many))
     (c .refused4 .result) (c .refused4 .ensures)
 
@@ -150,7 +147,7 @@ slice-write-columns-2 c =
     omega (arith, s .pre .sized, length-set (s .args .columns .now) (2048 + n) (from-read (both (c .before) .before)))
 
 returns-5 : tie.Need-returns-5
-unfolding isChange valueAt
+unfolding kind valueAt
 returns-5 c = λ out.
     let k = c .before in
     let s = second (both k) in
@@ -174,9 +171,12 @@ returns-5 c = λ out.
     ∙ ap (withDraft (desk s)) (draft-paired columns (s .pre .sized) n few x y h (h .slot) (size s .arity) (size s .roots) refl
     (drafted h (h .slot) next) (drafted-size h columns columns′ (s .pre) same (h .slot) next) ∙ ap (withPair (draft s)) unpacked) in
     let room : length (draft s .rows) < maxPairs = omega (arith, pair-limit, draft-length h columns (s .pre)) in
-    let step = at-end (desk s) (typed s) (fits o) (inside s) (withDraft (desk s) (withPair (draft s) pair), silent)
+    let step = at-end (desk s) (typed s) (admitted o) (withDraft (desk s) (withPair (draft s) pair), silent)
     (pair-done (desk s) (draft s) (is-draft o) (a .from .now) (a .to .now) (words-are k) (lt-leb maxPairs (length (draft s .rows)) room)) refl in
-    subst (λ b. Done (typed s) h columns out (record { head = record { sizes = set (h .sizes) draftBlock next; is_open = b; slot = h .slot; changes = h .changes }; reply = Silent }) columns′ out) (sym (opened o))
+    let sizes = set (h .sizes) draftBlock next in
+    let left : Bool → Work = λ b.
+    record { head = record { sizes = sizes; is_open = b; slot = h .slot; control = h .control }; reply = Silent } in
+    subst (λ b. Done (typed s) h columns out (left b) columns′ out) (sym (opened o))
     (done-passed h columns (s .pre) (typed s) out (withDraft (desk s) (withPair (draft s) pair), silent) step
     (record { head = drafted h (h .slot) next; reply = Silent }) columns′ out
     (λ d. holds-drafted h columns columns′ (s .pre) same (h .slot) next (omega (arith, pair-limit)) (subst IsDesk (sym desk′) d)) desk′ refl refl)

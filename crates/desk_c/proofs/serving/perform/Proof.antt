@@ -14,6 +14,7 @@ use mathlib.Core.List.{List}
 use mir.Syntax.{w32}
 use Rattle.operations.proofs.Signs.{read, read-is}
 use Rattle.slots.specs.Works.{Done}
+use Rattle.slots.proofs.Steps.{done-told}
 use Rattle.desk_c.specs.declared.Job.{Job}
 use Rattle.desk_c.specs.Calls.{jobRecord}
 use Rattle.desk_c.proofs.Jobs.{job-done, no-job}
@@ -182,7 +183,7 @@ returns-6 c =
     let j = a .job in
     job-done j (a .head) (a .columns .now) _ _ (S (j .a) (j .b)) (rest5 (t .before)
     ∙ ap (at5 j) (eq-eqb (j .letter) (byte "S") (t .if6 .taken)))
-    (q .compare .ensures)
+    (λ out. done-told (a .head) (a .columns .now) (s .pre) (S (j .a) (j .b)) out (q .compare .result) out (q .compare .ensures out))
 
 returns-7 : tie.Need-returns-7
 returns-7 c =
@@ -202,7 +203,7 @@ returns-8 c =
     let a = s .args in
     let j = a .job in
     job-done j (a .head) (a .columns .now) _ _ T (rest7 (t .before) ∙ ap (at7 j) (eq-eqb (j .letter) (byte "T") (t .if8 .taken)))
-    (λ out. q .count .ensures (a .columns .now) out (s .pre))
+    (λ out. done-told (a .head) (a .columns .now) (s .pre) T out (q .count .result) out (q .count .ensures (a .columns .now) out))
 
 returns-9 : tie.Need-returns-9
 returns-9 c =

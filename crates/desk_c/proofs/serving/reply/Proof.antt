@@ -31,29 +31,37 @@ returns-3 : tie.Need-returns-3
 returns-3 c = λ d line out₀ columns′ k.
     let w = c .before .before in
     let t = w .before .before in
-    let (e, q) = passed-of (lineOperation d line) _ (sym (k .reply) ∙ t .enum-told .given .1) tt in
-    replied-wrote d line out₀ columns′ _ (w .wrote .result) (w .wrote .ensures d line out₀ columns′ k) e q
+    let a = t .before .before .before .args in
+    let o = lineOperation d line in
+    let (e, q) = passed-of o _ (sym (k .reply) ∙ t .enum-told .given .1) refl in
+    replied-wrote d o out₀ columns′ (a .out .now) (a .work) k (w .wrote .result) _ (w .wrote .ensures) e q
 
 returns-4 : tie.Need-returns-4
 returns-4 c = λ d line out₀ columns′ k.
     let w = c .before .before in
     let t = w .before .before in
-    let (e, q) = passed-of (lineOperation d line) _ (sym (k .reply) ∙ t .enum-told2 .given .1) tt in
-    replied-wrote d line out₀ columns′ _ (w .wrote2 .result) (w .wrote2 .ensures d line out₀ columns′ k) e q
+    let a = t .before .before .before .args in
+    let o = lineOperation d line in
+    let (e, q) = passed-of o _ (sym (k .reply) ∙ t .enum-told2 .given .1) refl in
+    replied-wrote d o out₀ columns′ (a .out .now) (a .work) k (w .wrote2 .result) _ (w .wrote2 .ensures) e q
 
 returns-5 : tie.Need-returns-5
 returns-5 c = λ d line out₀ columns′ k.
     let w = c .before .before in
     let t = w .before .before in
-    let (e, q) = passed-of (lineOperation d line) _ (sym (k .reply) ∙ t .enum-told3 .given .1) tt in
-    replied-wrote d line out₀ columns′ _ (w .wrote3 .result) (w .wrote3 .ensures d line out₀ columns′ k) e q
+    let a = t .before .before .before .args in
+    let o = lineOperation d line in
+    let (e, q) = passed-of o _ (sym (k .reply) ∙ t .enum-told3 .given .1) refl in
+    replied-wrote d o out₀ columns′ (a .out .now) (a .work) k (w .wrote3 .result) _ (w .wrote3 .ensures) e q
 
 returns-6 : tie.Need-returns-6
 returns-6 c = λ d line out₀ columns′ k.
     let w = c .before .before in
     let t = w .before .before in
-    let (e, q) = passed-of (lineOperation d line) _ (sym (k .reply) ∙ t .enum-told4 .given .1) tt in
-    replied-wrote d line out₀ columns′ _ (w .wrote4 .result) (w .wrote4 .ensures d line out₀ columns′ k) e q
+    let a = t .before .before .before .args in
+    let o = lineOperation d line in
+    let (e, q) = passed-of o _ (sym (k .reply) ∙ t .enum-told4 .given .1) refl in
+    replied-wrote d o out₀ columns′ (a .out .now) (a .work) k (w .wrote4 .result) _ (w .wrote4 .ensures) e q
 
 pub reply-spec : {M : Type 1} → statement M
 reply-spec =

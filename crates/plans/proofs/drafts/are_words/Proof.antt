@@ -12,7 +12,7 @@ use Rattle.words.specs.Packed.{unpack}
 use Rattle.higman.specs.Limits.{isPlanWord}
 use Rattle.words.specs.Bytes.{shape}
 use Rattle.columns.specs.Packed.{wordsOf}
-use Rattle.plans.proofs.Checks.{check-fails, check-passes, check-done, check-map}
+use Rattle.words.proofs.Checks.{check-fails, check-passes, check-done, check-map}
 use Rattle.plans.proofs.drafts.are_words.Statement.{statement}
 use Rattle.plans.proofs.drafts.are_words.Tie as tie
 
