@@ -26,7 +26,7 @@ use Rattle.columns.specs.Packed.{wordsOf, table, sorted}
 use Rattle.columns.specs.Columns.{Extending}
 use Rattle.columns.proofs.Rows.{table-length}
 use Rattle.columns.proofs.Extensions.{block-run}
-use Rattle.tables.specs.Lines.{pairLines, planOf}
+use Rattle.tables.specs.Lines.{pairLines, planOfColumns}
 use Rattle.tables.specs.Routing.{IsCode}
 use Rattle.operations.proofs.Codes.{searchable, code-digits}
 use Rattle.desk.specs.Bytes.{okLine}
@@ -44,7 +44,7 @@ short-fits p k w short =
 
 module _ {from to code out : List ℕ} (a : AskedOfFront from to code out) where
   abbrev plan : Plan
-  plan = planOf (a .arity) (a .roots) from to
+  plan = planOfColumns (a .arity) (a .roots) from to
 
   abbrev inside : Table
   inside = block (table from to) (wordOf code)

@@ -13,7 +13,7 @@ use Rattle.higman.specs.Listing.{isSlot, slotNumber}
 use Rattle.higman.proofs.Tests.{and-left}
 use Rattle.columns.specs.Packed.{table}
 use Rattle.words.specs.Bytes.{shape}
-use Rattle.tables.specs.Lines.{planOf as planIn}
+use Rattle.tables.specs.Lines.{planOfColumns}
 use Rattle.desk.specs.Desk.{held}
 use Rattle.operations.specs.Plans.{planOf, inTable, zeros, LentPlan}
 use Rattle.slots.specs.declared.Head.{Head}
@@ -30,7 +30,7 @@ module _ (h : Head) (columns : List ℕ) where
 
   -- the plan that a slot lends
   abbrev pub lentPlan : ℕ → Plan
-  lentPlan i = planIn (sizeAt h i .arity) (sizeAt h i .roots) (lentAt i (fromPlace i)) (lentAt i (toPlace i))
+  lentPlan i = planOfColumns (sizeAt h i .arity) (sizeAt h i .roots) (lentAt i (fromPlace i)) (lentAt i (toPlace i))
 
 -- a slot's block
 module _ (h : Head) (columns : List ℕ) (H : HoldsDesk h columns) (i : ℕ) (k : i < slotCount) where
@@ -88,8 +88,8 @@ module _ {h : Head} {columns : List ℕ} {a i : ℕ} (n : Named h columns a i) w
 
     -- the parts as they were lent
     module _ {from to : List ℕ} (f : from ≡ lentAt h columns i (fromPlace i)) (t : to ≡ lentAt h columns i (toPlace i)) where
-      pub parts-plan : planIn (sizeAt h i .arity) (sizeAt h i .roots) from to ≡ lentPlan h columns i
-      parts-plan = ap₂ (planIn (sizeAt h i .arity) (sizeAt h i .roots)) f t
+      pub parts-plan : planOfColumns (sizeAt h i .arity) (sizeAt h i .roots) from to ≡ lentPlan h columns i
+      parts-plan = ap₂ (planOfColumns (sizeAt h i .arity) (sizeAt h i .roots)) f t
 
       pub parts-lent : LentPlan (sizeAt h i .arity) (sizeAt h i .roots) from to
       parts-lent =

@@ -7,7 +7,7 @@ use Rattle.higman.specs.Text.{Bytes, wordOf}
 use Rattle.higman.specs.Answers.{routed, TooShort}
 use Rattle.higman.specs.Fronts.{block}
 use Rattle.columns.specs.Packed.{table}
-use Rattle.tables.specs.Lines.{planOf}
+use Rattle.tables.specs.Lines.{planOfColumns}
 use Rattle.operations.specs.Plans.{LentPlan}
 use Rattle.desk.specs.Records.{Record}
 use Rattle.desk.specs.Replies.{okBlock}
@@ -28,7 +28,7 @@ pub record AskedOfFront (from to code out : List ℕ) : Type 0 where
   pub arity : ℕ
   pub roots : ℕ
   pub lent : LentPlan arity roots from to
-  pub short : routed (planOf arity roots from to) (wordOf code) ≡ TooShort
+  pub short : routed (planOfColumns arity roots from to) (wordOf code) ≡ TooShort
   pub space : maxReply ≤ length out
 
 -- what is then replied: the block of the code (change request E1)

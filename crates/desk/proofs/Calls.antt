@@ -16,7 +16,7 @@ use Rattle.desk.specs.Desk.{Desk, IsDesk, isDesk, dropped}
 use Rattle.desk.specs.Replies.{Reply, Outcome, refuse, pass, _>>=_, Effect, settle}
 use Rattle.desk.specs.Bytes.{replyBytes}
 use Rattle.desk.specs.Buffers.{Work, Lent, lent, outputOf, deskLeft, lentCall, replyOf, plainCall}
-use Rattle.desk.specs.Theorems.{CallsExact}
+use Rattle.desk.specs.Theorems.{LentCallsExact}
 use Rattle.desk.proofs.Desks.{desk-test}
 
 -- the test for a desk, by what the desk is
@@ -124,9 +124,9 @@ plain-no-desk d work h = rw (h, plainCall)
 abbrev settled : Desk → Outcome Effect → Desk × Outcome Reply
 settled d o = (settle d o .0, replyOf o)
 
-pub calls-exact : CallsExact
+pub lent-calls-exact : LentCallsExact
 unfolding _>>=_
-calls-exact =
+lent-calls-exact =
     record {
       no-desk = λ d work buffer h. call-no-desk d work buffer (desk-false d h);
       refused = λ d work buffer n c h e. call-on-desk d work buffer h ∙ ap (λ o. onDesk d o buffer) e ∙ stopped d n c buffer;

@@ -35,11 +35,11 @@ use Rattle.desk.specs.Replies.{operation, admission, recordOf, lineOpera
 use Rattle.desk.specs.Replies.{_when_}
 use Rattle.desk.specs.Bytes.{columnField, replyBytes}
 use Rattle.desk.specs.Conditions.{refusalOf}
-use Rattle.desk.specs.Demands.{operationNumbers, refusalNumbers, Done, Refused, Demand1}
+use Rattle.desk.specs.Demands.{operationNumbers, refusalNumbers, DoneLine, RefusedLine, Demand1}
 use Rattle.desk.proofs.Outcomes.{refusal-drops}
 use Rattle.desk.proofs.Stays.{desk-stays}
 use Rattle.desk.proofs.Desks.{desk-test}
-use Rattle.desk.proofs.Calls.{calls-exact}
+use Rattle.desk.proofs.Calls.{lent-calls-exact}
 use Rattle.desk.specs.Grammar.{NoRecord}
 use Rattle.desk.proofs.Lines.{Read, read-or-not, not-read, line-of-record}
 use Rattle.desk.proofs.Conditions.{first-condition}
@@ -273,11 +273,11 @@ responded : (d : Desk) (line : Bytes) (o : Outcome Effect) → lineOperation d l
 unfolding respondLine
 responded d line o e = ap (settle d) e
 
-answered : (d : Desk) (line : Bytes) → Done d line ⊎ Refused d line
+answered : (d : Desk) (line : Bytes) → DoneLine d line ⊎ RefusedLine d line
 unfolding replyBytes
 answered d line = go (lineOperation d line) refl
   where
-    go : (o : Outcome Effect) → lineOperation d line ≡ o → Done d line ⊎ Refused d line
+    go : (o : Outcome Effect) → lineOperation d line ≡ o → DoneLine d line ⊎ RefusedLine d line
     go (pass x) e = inl (x, e, responded d line (pass x) e)
     go (refuse n c) e =
         let r = responded d line (refuse n c) e in
@@ -311,5 +311,5 @@ demand1 =
       record-line = line-of-record;
       first-condition = first-condition;
       desk-test = desk-test;
-      calls = calls-exact;
+      calls = lent-calls-exact;
     }

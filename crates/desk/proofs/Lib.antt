@@ -1,5 +1,5 @@
 -- The arguments, each file after those it leans on. The terms of the statements of specs/Theorems.antt are in Outcomes (RefusalDrops),
--- Stays (DeskStays), TypedLines (AcceptedFromLines), Desks (DeskTest), Surveys (SurveyExact), Calls (CallsExact), Session (FedInPieces,
+-- Stays (DeskStays), TypedLines (AcceptedFromLines), Desks (DeskTest), Surveys (SurveyExact), Calls (LentCallsExact), Session (FedInPieces,
 -- SessionFed), ReadBack (TypedIn, ListingReadBack) and Sheets (NoShorterSheet); that of specs/Grammar.antt is in Grammar; those of
 -- specs/Demands.antt in Replies (RepliesExact, DeskParts), Exercises (ExercisesFixed), Demand1, Demand2 and Demands; that of
 -- specs/Cases.antt in Cases.

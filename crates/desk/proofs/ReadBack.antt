@@ -28,7 +28,7 @@ use Rattle.desk.specs.Desk.{Draft, Desk, countOf, withDraft, withPair, c
 use Rattle.desk.specs.Records.{Record, P, M, E, parse, recordFields, recordText, noTab, hasDigits, wellFormed}
 use Rattle.desk.specs.Replies.{pass, Effect, silent, okNumber, newDraft, operation, settle, respondLine}
 use Rattle.desk.specs.Bytes.{replyBytes}
-use Rattle.desk.specs.Session.{State, idle, grown, feedByte, feed}
+use Rattle.desk.specs.Session.{State, idle, withByte, feedByte, feed}
 use Rattle.desk.specs.Theorems.{TypedIn, ListingReadBack}
 use Rattle.desk.proofs.OpenPlans.{typedPair, open-pass, pair-pass, close-pass}
 use Rattle.desk.proofs.Fields.{no-tab-cons, word-no-tab}
@@ -156,7 +156,7 @@ byte-kept : (d : Desk) (l : Bytes) (b : ℕ) → eqb b lineEnd ≡ false → len
     → feedByte (record { desk = d; line = l; overlong = false }) b
     ≡ (record { desk = d; line = l ++ (b ∷ []); overlong = false }, [])
 unfolding feedByte
-byte-kept d l b e h = rw (e, feedByte, so (ltb (length l) maxLine) (lt→ltb (length l) maxLine h), grown)
+byte-kept d l b e h = rw (e, feedByte, so (ltb (length l) maxLine) (lt→ltb (length l) maxLine h), withByte)
 
 feed-line : (d : Desk) (l x rest : Bytes) → Without lineEnd x → length (l ++ x) ≤ maxLine
     → feed (record { desk = d; line = l; overlong = false }) (x ++ lineEnd ∷ rest) ≡ after (respondLine d (l ++ x)) rest

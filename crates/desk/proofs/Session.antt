@@ -17,7 +17,7 @@ use Rattle.desk.specs.Limits.{maxLine}
 use Rattle.desk.specs.Desk.{Desk, dropped}
 use Rattle.desk.specs.Replies.{_>>=_, refuse, settle, recordOf, lineOperation, respondLine, run}
 use Rattle.desk.specs.Bytes.{replyBytes}
-use Rattle.desk.specs.Session.{unended, State, idle, grown, effectOf, lineEnded, feedByte, feed, finish, linesFrom, repliesTo}
+use Rattle.desk.specs.Session.{unended, State, idle, withByte, effectOf, lineEnded, feedByte, feed, finish, linesFrom, repliesTo}
 use Rattle.desk.specs.Session.{fedWhole}
 use Rattle.desk.specs.Session.{session}
 use Rattle.desk.specs.Theorems.{LinesExact, thenFed, LinesFed, feedBoth, feedPieces, FedInPieces, SessionFed}
@@ -48,13 +48,13 @@ begun-effect {d} (lost l h) = by-length (leb (length l) maxLine) refl
     by-length true e = let h′ : length l ≤ maxLine = leb→le (length l) maxLine (T-of e) in absurd (omega arith)
     by-length false e = rw (e, settle, _>>=_, recordOf)
 
-begun-grown : {d : Desk} {s : State} {l : Bytes} (b : ℕ) → Begun d s l → Begun d (grown s b) (l ++ (b ∷ []))
-begun-grown {d} b (kept l h) = by-room (ltb (length l) maxLine) refl
+begun-with-byte : {d : Desk} {s : State} {l : Bytes} (b : ℕ) → Begun d s l → Begun d (withByte s b) (l ++ (b ∷ []))
+begun-with-byte {d} b (kept l h) = by-room (ltb (length l) maxLine) refl
   where
-    by-room : (t : Bool) → ltb (length l) maxLine ≡ t → Begun d (grown (record { desk = d; line = l; overlong = false }) b) (l ++ (b ∷ []))
-    by-room true e = rw (e, grown) (kept (l ++ (b ∷ [])) (let h′ : length l < maxLine = ltb→lt (length l) maxLine (T-of e) in simp length-append (omega arith)))
-    by-room false e = rw (e, grown) (lost (l ++ (b ∷ [])) (let h′ : maxLine ≤ length l = nltb→le (length l) maxLine (not-T (ltb (length l) maxLine) (λ t. clash (so (ltb (length l) maxLine) t) e)) in simp length-append (omega arith)))
-begun-grown b (lost l h) = lost (l ++ (b ∷ [])) (simp length-append (omega arith))
+    by-room : (t : Bool) → ltb (length l) maxLine ≡ t → Begun d (withByte (record { desk = d; line = l; overlong = false }) b) (l ++ (b ∷ []))
+    by-room true e = rw (e, withByte) (kept (l ++ (b ∷ [])) (let h′ : length l < maxLine = ltb→lt (length l) maxLine (T-of e) in simp length-append (omega arith)))
+    by-room false e = rw (e, withByte) (lost (l ++ (b ∷ [])) (let h′ : maxLine ≤ length l = nltb→le (length l) maxLine (not-T (ltb (length l) maxLine) (λ t. clash (so (ltb (length l) maxLine) t) e)) in simp length-append (omega arith)))
+begun-with-byte b (lost l h) = lost (l ++ (b ∷ [])) (simp length-append (omega arith))
 
 fed-cons : (s : State) (b : ℕ) (input : Bytes)
     → fedWhole s (b ∷ input) ≡ feedByte s b .1 ++ fedWhole (feedByte s b .0) input
@@ -65,7 +65,7 @@ byte-ends : (s : State) (b : ℕ) → eqb b lineEnd ≡ true → feedByte s b �
 unfolding feedByte
 byte-ends s b e = rw (e, feedByte)
 
-pub byte-inside : (s : State) (b : ℕ) → eqb b lineEnd ≡ false → feedByte s b ≡ (grown s b, [])
+pub byte-inside : (s : State) (b : ℕ) → eqb b lineEnd ≡ false → feedByte s b ≡ (withByte s b, [])
 unfolding feedByte
 byte-inside s b e = rw (e, feedByte)
 
@@ -83,10 +83,10 @@ unfolding run
 fed-lines [] g = last-lines g
 fed-lines (b ∷ input) {d} {s} {l} g =
     fed-cons s b input
-    ∙ by-byte (eqb b lineEnd) refl (λ e. fed-lines input (kept [] zero-le)) (fed-lines input (begun-grown b g))
+    ∙ by-byte (eqb b lineEnd) refl (λ e. fed-lines input (kept [] zero-le)) (fed-lines input (begun-with-byte b g))
   where
     by-byte : (t : Bool) → eqb b lineEnd ≡ t → ((e : Desk) → fedWhole (idle e) input ≡ repliesTo e (linesFrom [] input))
-        → fedWhole (grown s b) input ≡ repliesTo d (linesFrom (l ++ (b ∷ [])) input)
+        → fedWhole (withByte s b) input ≡ repliesTo d (linesFrom (l ++ (b ∷ [])) input)
         → feedByte s b .1 ++ fedWhole (feedByte s b .0) input ≡ repliesTo d (linesFrom l (b ∷ input))
     by-byte true e next more = rw (byte-ends s b e, e, linesFrom, begun-effect g, next (respondLine d l .0))
     by-byte false e next more = rw (byte-inside s b e, e, linesFrom) more
@@ -130,7 +130,7 @@ unfolding feed feedByte
 fed-line [] rest {d} {s} {l} g h = ap (λ e. thenFed e rest) (begun-effect g ∙ ap (respondLine d) (sym (append-nil l)))
 fed-line (b ∷ line) rest {d} {s} {l} g h =
     rw (byte-inside s b (inside-first b line h))
-    (fed-line line rest (begun-grown b g) (inside-rest b line h) ∙ ap (λ x. thenFed (respondLine d x) rest) (append-assoc l (b ∷ []) line))
+    (fed-line line rest (begun-with-byte b g) (inside-rest b line h) ∙ ap (λ x. thenFed (respondLine d x) rest) (append-assoc l (b ∷ []) line))
 
 -- and one that the input ends
 pub fed-last : (line : Bytes) {d : Desk} {s : State} {l : Bytes} → Begun d s l → T (unended line)
@@ -138,9 +138,9 @@ pub fed-last : (line : Bytes) {d : Desk} {s : State} {l : Bytes} → Begun d s l
 unfolding feed
 fed-last [] {d} {s} {l} g h = subst (Begun d s) (sym (append-nil l)) g
 fed-last (b ∷ line) {d} {s} {l} g h =
-    let more = fed-last line (begun-grown b g) (inside-rest b line h) in
+    let more = fed-last line (begun-with-byte b g) (inside-rest b line h) in
     subst (λ x. Begun d (feed (x .0) line .0) (l ++ b ∷ line)) (sym (byte-inside s b (inside-first b line h)))
-    (subst (Begun d (feed (grown s b) line .0)) (append-assoc l (b ∷ []) line) more)
+    (subst (Begun d (feed (withByte s b) line .0)) (append-assoc l (b ∷ []) line) more)
 
 pub finished : {d : Desk} {s : State} {b : ℕ} {l : Bytes} → Begun d s (b ∷ l)
     → finish s ≡ (dropped (respondLine d (b ∷ l) .0), replyBytes (respondLine d (b ∷ l) .1))

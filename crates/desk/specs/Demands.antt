@@ -32,7 +32,7 @@ use Rattle.desk.specs.Bytes.{replyBytes}
 use Rattle.desk.specs.Conditions.{conditions, firstOf, refusalOf}
 use Rattle.desk.specs.Theorems.{RefusalDrops, DeskStays, DeskTest, SurveyExact, LinesExact, LinesFed, FedInPieces, SessionFed}
 use Rattle.desk.specs.Theorems.{TypedIn, AcceptedFromLines, BlockReplied}
-use Rattle.desk.specs.Theorems.{ListingReadBack, CallsExact}
+use Rattle.desk.specs.Theorems.{ListingReadBack, LentCallsExact}
 use Rattle.desk.specs.Grammar.{NoRecord, TextExact}
 
 -- the numbers that the operation of a record may be refused with; 13, 14 and 15 are of library calls
@@ -58,11 +58,11 @@ unfoldable pub refusalNumbers : List ℕ
 refusalNumbers = noRecord ∷ operationNumbers
 
 -- a line's job is done, with this effect
-abbrev pub Done : Desk → Bytes → Type 0
-Done d line = (e : Effect) × (lineOperation d line ≡ pass e) × (respondLine d line ≡ e)
+abbrev pub DoneLine : Desk → Bytes → Type 0
+DoneLine d line = (e : Effect) × (lineOperation d line ≡ pass e) × (respondLine d line ≡ e)
 
 -- a line is refused with a number, and its whole output is a line of its own
-pub record Refused (d : Desk) (line : Bytes) : Type 0 where
+pub record RefusedLine (d : Desk) (line : Bytes) : Type 0 where
   pub number : ℕ
   pub column : Option Letter
   pub numbered : List·Memᴰ number refusalNumbers
@@ -74,7 +74,7 @@ pub record Refused (d : Desk) (line : Bytes) : Type 0 where
 
 -- Demand 1: any bytes, a job done or a numbered refusal that changes nothing.
 pub record Demand1 : Type 0 where
-  pub answered : (d : Desk) (line : Bytes) → Done d line ⊎ Refused d line
+  pub answered : (d : Desk) (line : Bytes) → DoneLine d line ⊎ RefusedLine d line
   -- "Any refusal drops an open plan and changes nothing else."
   pub refusal-drops : RefusalDrops
   pub desk-stays : DeskStays
@@ -89,7 +89,7 @@ pub record Demand1 : Type 0 where
   pub first-condition : (d : Desk) → IsDesk d → (r : Record) → refusalOf (operation d r) ≡ firstOf (conditions d r)
   -- the test for a desk says what one is, and library calls put 15 first and 14 last
   pub desk-test : DeskTest
-  pub calls : CallsExact
+  pub calls : LentCallsExact
 
 -- What becomes of a desk that is changed, gets an open plan or loses it.
 pub record DeskParts : Type 0 where

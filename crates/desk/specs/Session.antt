@@ -51,8 +51,8 @@ abbrev pub idle : Desk → State
 idle d = record { desk = d; line = []; overlong = false }
 
 -- one more byte of a line
-abbrev pub grown : State → ℕ → State
-grown s b =
+abbrev pub withByte : State → ℕ → State
+withByte s b =
     elim
     (s .overlong) [
       | true ↦ s
@@ -72,7 +72,7 @@ lineEnded s = let e = effectOf s in (idle (e .0), replyBytes (e .1))
 
 -- "lines ended by byte 10"
 unfoldable pub feedByte : State → ℕ → State × Bytes
-feedByte s b = elim (eqb b lineEnd) [ true ↦ lineEnded s | false ↦ (grown s b, []) ]
+feedByte s b = elim (eqb b lineEnd) [ true ↦ lineEnded s | false ↦ (withByte s b, []) ]
 
 unfoldable pub feed : State → Bytes → State × Bytes
 feed s [] = (s, [])

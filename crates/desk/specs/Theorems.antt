@@ -1,6 +1,6 @@
 -- The statements. Of one line: RefusalDrops, DeskStays, DeskTest, SurveyExact, BlockReplied and NoShorterSheet. Of a session: LinesExact,
 -- LinesFed, FedInPieces (wherever its input is cut), SessionFed (what the state holds of a line is enough), TypedIn,
--- AcceptedFromLines and ListingReadBack. Of a library call: CallsExact. proofs/ has one term of each. Read Conditions.antt next.
+-- AcceptedFromLines and ListingReadBack. Of a library call: LentCallsExact. proofs/ has one term of each. Read Conditions.antt next.
 use Prim.Native.Nat.{ℕ, _≤_, _<_}
 use mathlib.Core.Path.{_≡_}
 use mathlib.Core.Logic.{_↔_, _⊎_}
@@ -173,7 +173,7 @@ abbrev pub NoShorterSheet : Type 0
 NoShorterSheet = (d : Desk) → IsDesk d → (c : ℕ) (e : Effect) → operation d (L c) ≡ pass e → ShortestSheet d c e
 
 -- Library calls: 15 first, then the refusals of the work itself, 14 last; what is lent and the desk after each of them.
-pub record CallsExact : Type 0 where
+pub record LentCallsExact : Type 0 where
   -- no desk: 15, and everything is left as it came
   pub no-desk : (d : Desk) (work : Work) (buffer : Bytes) → (IsDesk d → ⊥)
       → lentCall d work buffer ≡ (d, record { buffer = buffer; answer = refuse invalidValue none })

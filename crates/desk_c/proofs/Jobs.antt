@@ -10,7 +10,7 @@ use Rattle.desk.specs.Records.{Record}
 use Rattle.desk.specs.Replies.{Outcome as OutcomeOf, refuse, pass, _>>=_, Effect, settle, operation}
 use Rattle.desk.specs.Buffers.{plainCall, replyOf}
 use Rattle.desk.proofs.Outcomes.{Passes, stops, passes, NoRefusal, Answered as Replying, any-then, operation-answers}
-use Rattle.desk.proofs.Calls.{calls-exact}
+use Rattle.desk.proofs.Calls.{lent-calls-exact}
 use Rattle.slots.specs.declared.Head.{Head}
 use Rattle.slots.specs.declared.Reply.{Reply}
 use Rattle.slots.specs.declared.Reply.the-variants.{Silent, Ok, Number, Written, Refused, RefusedIn}
@@ -117,8 +117,8 @@ plain-left d D j w columns′ k v p a q =
     (λ i. record { desk = desk i; answer = answer i }) ∙ sym (ap plainOf (by (jobWork j d) refl))
   where
     by : (o : OutcomeOf Effect) → jobWork j d ≡ o → plainCall d (jobWork j) ≡ (settle d (jobWork j d) .0, replyOf (jobWork j d))
-    by (refuse n c) e = calls-exact .plain-refused d (jobWork j) n c D e ∙ ap (λ o. (settle d o .0, replyOf o)) (sym e)
-    by (pass x) e = calls-exact .plain-done d (jobWork j) x D e ∙ ap (λ o. (settle d o .0, replyOf o)) (sym e)
+    by (refuse n c) e = lent-calls-exact .plain-refused d (jobWork j) n c D e ∙ ap (λ o. (settle d o .0, replyOf o)) (sym e)
+    by (pass x) e = lent-calls-exact .plain-done d (jobWork j) x D e ∙ ap (λ o. (settle d o .0, replyOf o)) (sym e)
 
 module _ (h : Head) (columns : List ℕ) (j : Job) (w : Work) (columns′ : List ℕ) (k : JobDone j h columns w columns′) where
   pub job-leaves : Leaves (deskOf h columns) (jobWork j (deskOf h columns)) w columns′

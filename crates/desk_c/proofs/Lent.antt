@@ -12,7 +12,7 @@ use Rattle.desk.specs.Desk.{Desk as DeskOf, IsDesk, dropped}
 use Rattle.desk.specs.Replies.{Outcome as OutcomeOf, refuse, pass, _>>=_, Effect, settle, lineOperation, respondLine}
 use Rattle.desk.specs.Bytes.{replyBytes}
 use Rattle.desk.specs.Buffers.{Lent, outputOf}
-use Rattle.desk.proofs.Calls.{calls-exact}
+use Rattle.desk.proofs.Calls.{lent-calls-exact}
 use Rattle.replies.specs.Sizes.{maxReply}
 use Rattle.replies.proofs.EveryReply.{replies-fit}
 use Rattle.slots.specs.declared.Head.{Head}
@@ -64,7 +64,7 @@ module _ (h : Head) (columns : List ℕ) (H : HoldsDesk h columns) (line out out
       let (c, f, g) = refused-by o n l (sym (R .outcome) ∙ e) in
       let desk = p ∙ ap packedDesk (R .desk ∙ ap (λ x. settle d x .0) f) in
       lent-by call (dropped d) (record { buffer = out; answer = refuse n c })
-      (calls-exact .refused d (λ x. lineOperation x line) out n c (H .is-desk) f) s
+      (lent-calls-exact .refused d (λ x. lineOperation x line) out n c (H .is-desk) f) s
       (q ∙ (λ i. refusedWith (desk i) n (g i))) out refl
 
   module _ (n : ℕ) (w : r .outcome ≡ Wrote n) where
@@ -87,7 +87,7 @@ module _ (h : Head) (columns : List ℕ) (H : HoldsDesk h columns) (line out out
         let (e, f, g) = done in
         let desk = p ∙ ap packedDesk (dropped-is h columns) in
         lent-by call (dropped d) (record { buffer = out; answer = refuse bufferTooShort none })
-        (calls-exact .no-room d (λ x. lineOperation x line) out e (H .is-desk) f (omega arith)) s
+        (lent-calls-exact .no-room d (λ x. lineOperation x line) out e (H .is-desk) f (omega arith)) s
         (q ∙ ap (λ x. refusedWith x bufferTooShort 0) desk) out refl
 
     pub call-done : n ≤ length out → n ≤ length out₀ → (v : Desk) → v ≡ packedDesk (deskOf (r .head) columns′) → (out″ : List ℕ)
@@ -100,6 +100,6 @@ module _ (h : Head) (columns : List ℕ) (H : HoldsDesk h columns) (line out out
         let shown : take n out′ ≡ bytes = ap (take n) (R .output e f) ∙ ap (λ m. take m (written out₀ 0 bytes)) g
         ∙ shown-same out₀ 0 bytes (omega arith) in
         lent-by call (e .0) (record { buffer = written out 0 bytes; answer = pass (length bytes) })
-        (calls-exact .done d (λ x. lineOperation x line) out e (H .is-desk) f (omega arith))
+        (lent-calls-exact .done d (λ x. lineOperation x line) out e (H .is-desk) f (omega arith))
         (record { desk = v; answer = record { number = 0; column = 0; length = n } })
         (λ i. record { desk = desk i; answer = record { number = 0; column = 0; length = g i } }) out″ (q ∙ ap (written out 0) shown)

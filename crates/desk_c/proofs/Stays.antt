@@ -15,7 +15,7 @@ use Rattle.desk.specs.Bytes.{replyBytes}
 use Rattle.desk.specs.Buffers.{Work, lentCall, plainCall}
 use Rattle.desk.proofs.Outcomes.{Passes, stops, passes, passed, any-then}
 use Rattle.desk.proofs.Stays.{operation-stays, dropped-desk}
-use Rattle.desk.proofs.Calls.{calls-exact}
+use Rattle.desk.proofs.Calls.{lent-calls-exact}
 use Rattle.desk_values.specs.declared.Desk.{Desk}
 use Rattle.desk_values.specs.Values.{deskIn, isDeskValue, packedDesk, Whole}
 use Rattle.desk_values.proofs.Taken.{desk-values}
@@ -38,20 +38,20 @@ module _ (d : DeskOf) (D : IsDesk d) (work : Work) (k : Keeps work d) where
 
       by-room : (e : Effect) → work d ≡ pass e → (b : Bool) → leb (length (replyBytes (e .1))) (length out) ≡ b
           → IsDesk (lentCall d work out .0)
-      by-room e p true r = left (e .0) (ap (λ c. c .0) (calls-exact .done d work out e D p (leb-true _ _ r))) (passed k e p)
-      by-room e p false r = left (dropped d) (ap (λ c. c .0) (calls-exact .no-room d work out e D p (leb-false _ _ r)))
+      by-room e p true r = left (e .0) (ap (λ c. c .0) (lent-calls-exact .done d work out e D p (leb-true _ _ r))) (passed k e p)
+      by-room e p false r = left (dropped d) (ap (λ c. c .0) (lent-calls-exact .no-room d work out e D p (leb-false _ _ r)))
           (dropped-desk d D)
 
       by : (o : Outcome Effect) → work d ≡ o → IsDesk (lentCall d work out .0)
-      by (refuse n c) p = left (dropped d) (ap (λ c. c .0) (calls-exact .refused d work out n c D p)) (dropped-desk d D)
+      by (refuse n c) p = left (dropped d) (ap (λ c. c .0) (lent-calls-exact .refused d work out n c D p)) (dropped-desk d D)
       by (pass e) p = by-room e p (leb (length (replyBytes (e .1))) (length out)) refl
 
   plain-left-desk : IsDesk (plainCall d work .0)
   plain-left-desk = by (work d) refl
     where
       by : (o : Outcome Effect) → work d ≡ o → IsDesk (plainCall d work .0)
-      by (refuse n c) p = subst IsDesk (sym (ap (λ c. c .0) (calls-exact .plain-refused d work n c D p))) (dropped-desk d D)
-      by (pass e) p = subst IsDesk (sym (ap (λ c. c .0) (calls-exact .plain-done d work e D p))) (passed k e p)
+      by (refuse n c) p = subst IsDesk (sym (ap (λ c. c .0) (lent-calls-exact .plain-refused d work n c D p))) (dropped-desk d D)
+      by (pass e) p = subst IsDesk (sym (ap (λ c. c .0) (lent-calls-exact .plain-done d work e D p))) (passed k e p)
 
 line-keeps : (line : Bytes) (d : DeskOf) → IsDesk d → Keeps (λ x. lineOperation x line) d
 unfolding lineOperation

@@ -66,7 +66,7 @@ fn wrote(work: Work, out: &mut [u8]) -> Replied
     ensures { λ r. ⌜ WroteBy work (now (out .entry)) r (now (out .exit)) ⌝ }
 {
     let reply = work.reply;
-    let sent = lines::settle(reply, out);
+    let sent = lines::write_reply(reply, out);
     let head = work.head;
     Replied {
         head: head,

@@ -15,7 +15,7 @@ use Rattle.desk.specs.Limits.{maxLine}
 use Rattle.desk.specs.Desk.{Desk}
 use Rattle.desk.specs.Replies.{Effect, respondLine}
 use Rattle.desk.specs.Bytes.{replyBytes}
-use Rattle.desk.specs.Session.{unended, State as StateOf, idle, grown, effectOf, feed}
+use Rattle.desk.specs.Session.{unended, State as StateOf, idle, withByte, effectOf, feed}
 use Rattle.desk.proofs.Session.{feed-append, Begun, kept, lost, begun-effect, byte-inside, inside-first, inside-rest, fed-line, fed-last}
 use Rattle.replies.specs.Sizes.{maxReply}
 use Rattle.replies.proofs.Images.{written-lent}
@@ -36,7 +36,7 @@ unfolding feed
 quiet s [] u = refl
 quiet s (b ∷ part) u =
     ap (λ x. x .1 ++ feed (x .0) part .1) (byte-inside s b (inside-first b part u))
-    ∙ quiet (grown s b) part (inside-rest b part u)
+    ∙ quiet (withByte s b) part (inside-rest b part u)
 
 -- a line that has begun is held in one way
 begun-one : {d : Desk} {s t : StateOf} {l : Bytes} → Begun d s l → Begun d t l → s ≡ t

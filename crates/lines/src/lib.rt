@@ -37,7 +37,7 @@ pub fn dropped(head: Head) -> Head
 }
 
 // The reply is written, unless it stands in the output already.
-pub fn settle(reply: Reply, out: &mut [u8]) -> Sent
+pub fn write_reply(reply: Reply, out: &mut [u8]) -> Sent
     requires { ⌜ maxReply ≤ length (now out) ⌝ }
     ensures { λ r. ⌜ SettledBy reply (now (out .entry)) r (now (out .exit)) ⌝ }
 {
@@ -163,7 +163,7 @@ pub fn step(head: Head, columns: &mut [u64], line: &[u8], out: &mut [u8]) -> Ste
     let record = records::read(line);
     let work = perform(head, columns, line, record, out);
     let reply = work.reply;
-    let sent = settle(reply, out);
+    let sent = write_reply(reply, out);
     if sent.refuses {
         let left = dropped(work.head);
         return Stepped {

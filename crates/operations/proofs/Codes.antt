@@ -20,7 +20,7 @@ use Rattle.higman.proofs.KeptPlans.{in-range}
 use Rattle.higman.proofs.PlanWords.{ways-of-word}
 use Rattle.words.specs.Bytes.{shape}
 use Rattle.columns.specs.Packed.{table}
-use Rattle.tables.specs.Lines.{planOf}
+use Rattle.tables.specs.Lines.{planOfColumns}
 use Rattle.tables.specs.Routing.{IsCode, Searchable, matchedDigits, further, routedIn, routedInto}
 use Rattle.tables.specs.declared.routing.Routed.{Routed}
 use Rattle.tables.specs.declared.routing.Routed.the-variants as Table
@@ -92,7 +92,7 @@ module _ (s : Shape) (from : List Word) (code : List ℕ) where
 
 module _ (arity roots : ℕ) (from to : List ℕ) (lent : LentPlan arity roots from to) (code : List ℕ) where
   abbrev answer : Of.Route
-  answer = routed (planOf arity roots from to) (wordOf code)
+  answer = routed (planOfColumns arity roots from to) (wordOf code)
 
   pub searchable : Searchable from
   searchable =

@@ -25,7 +25,7 @@ use Rattle.words.proofs.Packed.{packed-word}
 use Rattle.words.specs.Bytes.{shape}
 use Rattle.columns.specs.Packed.{wordsOf, table}
 use Rattle.columns.proofs.WordOrder.{sorted-of-ordered}
-use Rattle.tables.specs.Lines.{planOf as planIn}
+use Rattle.tables.specs.Lines.{planOfColumns}
 use Rattle.tables.specs.Spreading.{packedWords, Plain, Operand}
 use Rattle.columns.proofs.Rearranged.{froms-table, tos-table}
 use Rattle.operations.specs.declared.Plan.{Plan}
@@ -58,7 +58,7 @@ module _ (arity roots : ℕ) (from to : List ℕ) (lent : LentPlan arity roots f
   abbrev t : Table
   t = table from to
 
-  K : Kept (planIn arity roots from to)
+  K : Kept (planOfColumns arity roots from to)
   K = lent .kept
 
   arity-low : 1 ≤ s .arity

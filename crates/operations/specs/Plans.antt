@@ -16,7 +16,7 @@ use Rattle.words.specs.Packed.{packOn, pack, unpackIn, unpack}
 use Rattle.words.specs.Bytes.{shape}
 use Rattle.operations.specs.declared.Plan.{Plan}
 use Rattle.columns.specs.Packed.{wordsOf, rows}
-use Rattle.tables.specs.Lines.{planOf as planIn}
+use Rattle.tables.specs.Lines.{planOfColumns}
 
 abbrev pub shapeOf : Plan → Shape
 shapeOf p = shape (p .arity) (p .roots)
@@ -55,7 +55,7 @@ isPlan p = inTable p && isKept (planOf p)
 -- two lent columns that hold a kept plan, as the first places of a plan's columns do
 pub record LentPlan (arity roots : ℕ) (from to : List ℕ) : Type 0 where
   pub paired : length from ≡ length to
-  pub kept : Kept (planIn arity roots from to)
+  pub kept : Kept (planOfColumns arity roots from to)
 
 -- a packed column with zeros behind
 abbrev pub column : List Word → List ℕ

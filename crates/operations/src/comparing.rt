@@ -5,7 +5,7 @@ ghost use lib.ListN.{length};
 ghost use Rattle.higman.specs.Tables.{sameTable};
 ghost use Rattle.higman.specs.Answers.{same};
 ghost use Rattle.columns.specs.Packed.{table};
-ghost use Rattle.tables.specs.Lines.{planOf};
+ghost use Rattle.tables.specs.Lines.{planOfColumns};
 ghost use Rattle.operations.specs.Plans.{LentPlan};
 ghost use Rattle.operations.specs.Answers.{likeness};
 use crate::Likeness;
@@ -42,8 +42,8 @@ pub fn same(
 ) -> Likeness
     requires { ⌜ LentPlan «a_arity» «a_roots» (now «a_from») (now «a_to») ⌝ }
     requires { ⌜ LentPlan «b_arity» «b_roots» (now «b_from») (now «b_to») ⌝ }
-    ensures { λ r. ⌜ r ≡ likeness (same (planOf «a_arity» «a_roots» (now («a_from» .entry)) (now («a_to» .entry)))
-        (planOf «b_arity» «b_roots» (now («b_from» .entry)) (now («b_to» .entry)))) ⌝ }
+    ensures { λ r. ⌜ r ≡ likeness (same (planOfColumns «a_arity» «a_roots» (now («a_from» .entry)) (now («a_to» .entry)))
+        (planOfColumns «b_arity» «b_roots» (now («b_from» .entry)) (now («b_to» .entry)))) ⌝ }
 {
     if a_arity != b_arity {
         return Likeness::Refused(numbers::SHAPES_DIFFER);

@@ -3,7 +3,7 @@
 ghost use mathlib.Core.Path.{_≡_};
 ghost use lib.ListN.{length};
 ghost use Rattle.higman.specs.Listing.{isSlot};
-ghost use Rattle.tables.specs.Lines.{planOf};
+ghost use Rattle.tables.specs.Lines.{planOfColumns};
 ghost use Rattle.operations.specs.Plans.{LentPlan};
 ghost use Rattle.operations.specs.Listing.{listingFor, listedFor};
 use crate::Listed;
@@ -22,8 +22,8 @@ pub fn is_slot(slot: u8) -> bool
 // Writes the listing at the front of the buffer. 8, 14.
 pub fn list(slot: u8, arity: u8, roots: u8, from: &[u64], to: &[u64], out: &mut [u8]) -> Listed
     requires { ⌜ LentPlan arity roots (now from) (now to) ⌝ }
-    ensures { λ r. ⌜ r ≡ listingFor slot (planOf arity roots (now (from .entry)) (now (to .entry))) (length (now (out .entry))) ⌝ }
-    ensures { λ _. ⌜ now (out .exit) ≡ listedFor slot (planOf arity roots (now (from .entry)) (now (to .entry))) (now (out .entry)) ⌝ }
+    ensures { λ r. ⌜ r ≡ listingFor slot (planOfColumns arity roots (now (from .entry)) (now (to .entry))) (length (now (out .entry))) ⌝ }
+    ensures { λ _. ⌜ now (out .exit) ≡ listedFor slot (planOfColumns arity roots (now (from .entry)) (now (to .entry))) (now (out .entry)) ⌝ }
 {
     if !is_slot(slot) {
         return Listed::Refused(numbers::SLOT_OUTSIDE);

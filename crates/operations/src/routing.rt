@@ -9,7 +9,7 @@ ghost use Rattle.higman.specs.Answers.{routed};
 ghost use Rattle.higman.specs.Text.{wordOf};
 ghost use Rattle.words.specs.Bytes.{shape};
 ghost use Rattle.columns.specs.Packed.{wordsOf};
-ghost use Rattle.tables.specs.Lines.{planOf};
+ghost use Rattle.tables.specs.Lines.{planOfColumns};
 ghost use Rattle.tables.specs.Routing.{further};
 ghost use Rattle.operations.specs.Plans.{LentPlan};
 ghost use Rattle.operations.specs.Routing.{matchedIn, routingIn, imageInto};
@@ -46,9 +46,9 @@ pub fn unmatched<'a>(arity: u8, roots: u8, from: &[u64], code: &'a [u8]) -> &'a 
 // Writes a code's image at the front of the buffer. 4, 13, 14.
 pub fn route(arity: u8, roots: u8, from: &[u64], to: &[u64], code: &[u8], out: &mut [u8]) -> Route
     requires { ⌜ LentPlan arity roots (now from) (now to) ⌝ }
-    ensures { λ r. ⌜ r ≡ routingIn (routed (planOf arity roots (now (from .entry)) (now (to .entry))) (wordOf (now (code .entry))))
+    ensures { λ r. ⌜ r ≡ routingIn (routed (planOfColumns arity roots (now (from .entry)) (now (to .entry))) (wordOf (now (code .entry))))
         (length (now (out .entry))) ⌝ }
-    ensures { λ _. ⌜ now (out .exit) ≡ imageInto (routed (planOf arity roots (now (from .entry)) (now (to .entry)))
+    ensures { λ _. ⌜ now (out .exit) ≡ imageInto (routed (planOfColumns arity roots (now (from .entry)) (now (to .entry)))
         (wordOf (now (code .entry)))) (now (out .entry)) ⌝ }
 {
     if !is_code(code, arity, roots) {

@@ -13,17 +13,17 @@ use Rattle.operations.specs.declared.Listed.the-variants.{Bytes, Refused}
 use Rattle.operations.specs.Plans.{planOf, isPlan}
 use Rattle.operations.specs.Listing.{listingFor, listedFor}
 use Rattle.operations.proofs.Lists.{list-no-slot, list-no-room, list-written}
-use Rattle.plans.specs.Listing.{listing, listedBuffer}
+use Rattle.plans.specs.Listing.{listingAnswer, listedBuffer}
 
 module _ (p : Plan) (slot : ℕ) (out : List ℕ) where
-  pub listing-no-plan : isPlan p ≡ false → (Refused invalidValue ≡ listing p slot (length out)) × (out ≡ listedBuffer p slot out)
-  unfolding listing listedBuffer
-  listing-no-plan h = (sym (rw (h, listing)), sym (rw (h, listedBuffer)))
+  pub listing-no-plan : isPlan p ≡ false → (Refused invalidValue ≡ listingAnswer p slot (length out)) × (out ≡ listedBuffer p slot out)
+  unfolding listingAnswer listedBuffer
+  listing-no-plan h = (sym (rw (h, listingAnswer)), sym (rw (h, listedBuffer)))
 
   module _ (h : isPlan p ≡ true) where
-    listing-is : listingFor slot (planOf p) (length out) ≡ listing p slot (length out)
-    unfolding listing
-    listing-is = sym (rw (h, listing))
+    listing-is : listingFor slot (planOf p) (length out) ≡ listingAnswer p slot (length out)
+    unfolding listingAnswer
+    listing-is = sym (rw (h, listingAnswer))
 
     buffer-is : listedFor slot (planOf p) out ≡ listedBuffer p slot out
     unfolding listedBuffer
@@ -31,18 +31,18 @@ module _ (p : Plan) (slot : ℕ) (out : List ℕ) where
 
     pub listing-plan : (r : Listed) (out′ : List ℕ)
         → (r ≡ listingFor slot (planOf p) (length out)) × (out′ ≡ listedFor slot (planOf p) out)
-        → (r ≡ listing p slot (length out)) × (out′ ≡ listedBuffer p slot out)
+        → (r ≡ listingAnswer p slot (length out)) × (out′ ≡ listedBuffer p slot out)
     listing-plan r out′ (e, f) = (e ∙ listing-is, f ∙ buffer-is)
 
-    pub listing-no-slot : isSlot slot ≡ false → (Refused slotOutside ≡ listing p slot (length out)) × (out ≡ listedBuffer p slot out)
+    pub listing-no-slot : isSlot slot ≡ false → (Refused slotOutside ≡ listingAnswer p slot (length out)) × (out ≡ listedBuffer p slot out)
     listing-no-slot k = listing-plan (Refused slotOutside) out (list-no-slot (planOf p) slot out k)
 
     module _ (k : isSlot slot ≡ true) where
       pub listing-no-room : length out < length (linesOf slot (planOf p))
-          → (Refused bufferTooShort ≡ listing p slot (length out)) × (out ≡ listedBuffer p slot out)
+          → (Refused bufferTooShort ≡ listingAnswer p slot (length out)) × (out ≡ listedBuffer p slot out)
       listing-no-room l = listing-plan (Refused bufferTooShort) out (list-no-room (planOf p) slot out k l)
 
       pub listing-written : length (linesOf slot (planOf p)) ≤ length out → (r : ℕ) (out′ : List ℕ)
           → Wrote (linesOf slot (planOf p)) out 0 out′ r
-          → (Bytes r ≡ listing p slot (length out)) × (out′ ≡ listedBuffer p slot out)
+          → (Bytes r ≡ listingAnswer p slot (length out)) × (out′ ≡ listedBuffer p slot out)
       listing-written l r out′ w = listing-plan (Bytes r) out′ (list-written (planOf p) slot out k l r out′ w)

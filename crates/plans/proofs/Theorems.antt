@@ -18,7 +18,7 @@ use Rattle.operations.specs.declared.Plan.{Plan}
 use Rattle.operations.specs.declared.Listed.{Listed}
 use Rattle.operations.specs.declared.Listed.the-variants.{Bytes, Refused}
 use Rattle.operations.specs.Plans.{planOf, packed}
-use Rattle.plans.specs.Listing.{listing, listedBuffer}
+use Rattle.plans.specs.Listing.{listingAnswer, listedBuffer}
 use Rattle.plans.specs.Theorems.{Handed, Lists, ListingsExact, LibraryExact}
 use Rattle.plans.proofs.Lists.{listing-no-slot, listing-no-room, listing-written}
 use Rattle.plans.proofs.Handed.{held-packed, words-pack, values-hold}
@@ -42,7 +42,7 @@ module _ (v : Plan) (slot : ℕ) (out : List ℕ) (h : Handed v) where
     written-in-front : lines ++ drop (length lines) out ≡ written out 0 lines
     written-in-front = let start : length lines ≡ 0 + length lines = omega arith in ap (λ n. lines ++ drop n out) start
 
-    answers : (Bytes (length lines) ≡ listing v slot (length out)) × (lines ++ drop (length lines) out ≡ listedBuffer v slot out)
+    answers : (Bytes (length lines) ≡ listingAnswer v slot (length out)) × (lines ++ drop (length lines) out ≡ listedBuffer v slot out)
     answers =
         listing-written v slot out (h .taken) k room (length lines) (lines ++ drop (length lines) out)
         (record { place = omega arith; contents = written-in-front })

@@ -35,7 +35,7 @@ use Rattle.plans.specs.Answers.{judgementNumber, judgementColumn}
 use Rattle.operations.specs.Answers.{answerNumber, likenessNumber, likenessValue}
 use Rattle.plans.specs.Routing.{matched, matching, routing, routedBuffer}
 use Rattle.operations.specs.Routing.{routingNumber, routingLength}
-use Rattle.plans.specs.Listing.{listing, listedBuffer}
+use Rattle.plans.specs.Listing.{listingAnswer, listedBuffer}
 use Rattle.operations.specs.Listing.{listedNumber, listedLength}
 
 -- A column of a draft: at the first n places words that M takes, not one "that is empty, too long or has a wrong digit", and "its unused
@@ -158,7 +158,7 @@ pub record MatchingExact : Type 0 where
 
 -- L refuses, and leaves the buffer as it was
 pub record ListRefused (v : Plan) (slot : ℕ) (out : List ℕ) (number : ℕ) : Type 0 where
-  pub answer : listing v slot (length out) ≡ Listed.Refused number
+  pub answer : listingAnswer v slot (length out) ≡ Listed.Refused number
   pub buffer : listedBuffer v slot out ≡ out
 
 -- two plans of different shapes

@@ -20,8 +20,8 @@ use Rattle.operations.specs.Plans.{planOf, inTable, isPlan, packed, blank}
 use Rattle.operations.specs.Listing.{listingFor, listedFor}
 
 -- L: 15, 8, 14
-unfoldable pub listing : Plan → ℕ → ℕ → Listed
-listing p slot room =
+unfoldable pub listingAnswer : Plan → ℕ → ℕ → Listed
+listingAnswer p slot room =
     elim (isPlan p) [ true ↦ listingFor slot (planOf p) room | false ↦ Refused invalidValue ]
 
 -- what the buffer then holds
@@ -33,8 +33,8 @@ listedBuffer p slot out =
 abbrev value : Plan
 value = packed (record { shape = shape 2 1; rows = row 1 1 ∷ [] })
 
-listing-example : (listing value 66 16 ≡ Bytes 16) × (listing value 66 15 ≡ Refused 14) × (listing value 73 16 ≡ Refused 8) × (listing blank 73 16 ≡ Refused 15)
-unfolding listing slotCount isPlan inTable isKept shapeInRange granted maxPairs maxDigits verdict keep normalForm normal joined
+listing-example : (listingAnswer value 66 16 ≡ Bytes 16) × (listingAnswer value 66 15 ≡ Refused 14) × (listingAnswer value 73 16 ≡ Refused 8) × (listingAnswer blank 73 16 ≡ Refused 15)
+unfolding listingAnswer slotCount isPlan inTable isKept shapeInRange granted maxPairs maxDigits verdict keep normalForm normal joined
     packed blank pack packOn unpack unpackIn
 listing-example = (refl, refl, refl, refl)
 

@@ -27,7 +27,7 @@ use Rattle.operations.specs.declared.Listed.the-variants.{Bytes}
 use Rattle.operations.specs.Plans.{shapeOf, planOf, pairAt, inTable, isPlan, packed}
 use Rattle.operations.specs.Answers.{granting, value21}
 use Rattle.plans.specs.Answers.{following, inverting, raising, alike}
-use Rattle.plans.specs.Listing.{listing, listedBuffer}
+use Rattle.plans.specs.Listing.{listingAnswer, listedBuffer}
 use Rattle.plans.specs.CallsExact.{CallsExact}
 
 -- "A plan word packs into 64 bits, four bits a digit, its last digit lowest and zeros above."
@@ -134,7 +134,7 @@ pub record ValueDemand3 : Type 0 where
 
 -- L answers the length of these bytes and writes them at the front of the buffer: "On success only the bytes of the output change".
 pub record Lists (v : Plan) (slot : ℕ) (out bytes : List ℕ) : Type 0 where
-  pub answer : listing v slot (length out) ≡ Bytes (length bytes)
+  pub answer : listingAnswer v slot (length out) ≡ Bytes (length bytes)
   pub front : take (length bytes) (listedBuffer v slot out) ≡ bytes
   pub rest : drop (length bytes) (listedBuffer v slot out) ≡ drop (length bytes) out
 
@@ -171,6 +171,6 @@ identityOf-example = refl
 
 -- 1→1 in slot B, the 16 bytes of its listing in a buffer of 17
 lists-example : Lists (value21 (row 1 1 ∷ [])) 66 (replicate 17 7) (linesOf 66 (record { shape = shape 2 1; rows = row 1 1 ∷ [] }))
-unfolding listing listedBuffer slotCount packed isPlan inTable isKept shapeInRange granted maxPairs maxDigits
+unfolding listingAnswer listedBuffer slotCount packed isPlan inTable isKept shapeInRange granted maxPairs maxDigits
     verdict keep normalForm normal joined pack packOn unpack unpackIn
 lists-example = record { answer = refl; front = refl; rest = refl }

@@ -2,7 +2,7 @@
 // then the columns that a plan lends.
 ghost use mathlib.Core.Path.{_≡_};
 ghost use lib.ListN.{length};
-ghost use Rattle.plans.specs.Listing.{listing, listedBuffer};
+ghost use Rattle.plans.specs.Listing.{listingAnswer, listedBuffer};
 use crate::kept;
 use operations::Listed;
 use operations::Plan;
@@ -11,7 +11,7 @@ use operations::numbers;
 
 // L: writes the listing at the front of the buffer. 15, 8, 14.
 pub fn list(p: Plan, slot: u8, out: &mut [u8]) -> Listed
-    ensures { λ r. ⌜ r ≡ listing p slot (length (now (out .entry))) ⌝ }
+    ensures { λ r. ⌜ r ≡ listingAnswer p slot (length (now (out .entry))) ⌝ }
     ensures { λ _. ⌜ now (out .exit) ≡ listedBuffer p slot (now (out .entry)) ⌝ }
 {
     if !kept::is_plan(p) {

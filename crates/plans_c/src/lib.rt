@@ -17,7 +17,7 @@ ghost use Rattle.operations.specs.Answers.{answerNumber};
 ghost use Rattle.operations.specs.Closing.{reasonNumber};
 ghost use Rattle.plans.specs.Answers.{judged, keeping, following, inverting, raising, alike};
 ghost use Rattle.plans.specs.Routing.{matching, routing, routedBuffer};
-ghost use Rattle.plans.specs.Listing.{listing, listedBuffer};
+ghost use Rattle.plans.specs.Listing.{listingAnswer, listedBuffer};
 ghost use Rattle.plans_c.specs.Numbers.{verdictOf, keptOf, madeOf, comparedOf, routedOf, listedOf};
 
 // The verdict on a draft: 0 for an accepted one, and the letter of the column, F or T, beside 6 and 7.
@@ -254,7 +254,7 @@ pub extern "C" fn plans_route(p: Plan, code: &[u8], out: &mut [u8]) -> Written
 // L: the listing of a plan for a slot's letter.
 #[no_mangle]
 pub extern "C" fn plans_list(p: Plan, slot: u8, out: &mut [u8]) -> Written
-    ensures { λ r. ⌜ r ≡ listedOf (listing p slot (length (now (out .entry)))) ⌝ }
+    ensures { λ r. ⌜ r ≡ listedOf (listingAnswer p slot (length (now (out .entry)))) ⌝ }
     ensures { λ _. ⌜ now (out .exit) ≡ listedBuffer p slot (now (out .entry)) ⌝ }
 {
     listed_of(plans::listing::list(p, slot, out))

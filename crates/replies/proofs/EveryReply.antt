@@ -22,7 +22,7 @@ use Rattle.desk.specs.Records.{Record, P, M, E, F, I, K, S, W, L, C, T, U, X}
 use Rattle.desk.specs.Replies.{okNumber, okWord, refuses, Effect, Outcome, refuse, pass, ofRoute, closed, job, operation, recordOf}
 use Rattle.desk.specs.Replies.{lineOperation, respondLine}
 use Rattle.desk.specs.Bytes.{replyBytes}
-use Rattle.desk.specs.Demands.{refusalNumbers, Done, Refused}
+use Rattle.desk.specs.Demands.{refusalNumbers, DoneLine, RefusedLine}
 use Rattle.desk.proofs.Outcomes.{Passes, stops, passes, passes-then, any-then, passed, plan-held, passes-operation}
 use Rattle.desk.proofs.OpenPlans.{close-steps}
 use Rattle.desk.proofs.Demand1.{demand1}
@@ -115,7 +115,7 @@ module _ (d : Desk) (D : IsDesk d) where
   reply-fits : (line : Bytes) → length (replyBytes (respondLine d line .1)) ≤ maxReply
   reply-fits line = by-answer (demand1 .answered d line)
     where
-      by-answer : Done d line ⊎ Refused d line → length (replyBytes (respondLine d line .1)) ≤ maxReply
+      by-answer : DoneLine d line ⊎ RefusedLine d line → length (replyBytes (respondLine d line .1)) ≤ maxReply
       by-answer (inl (e, done, effect)) = as-known effect (passed (line-fits line) e done)
       by-answer (inr r) =
           subst (λ x. length (replyBytes x) ≤ maxReply) (sym (r .replied)) (refusal-fits (r .number) (r .column) (r .numbered))

@@ -18,8 +18,8 @@ pub done-length : (s : State) → Places s → length (done s) ≡ s .write
 done-length s p = rows-length (s .write) (s .out-from) (s .out-to) (omega arith) (omega arith)
 
 -- what is written before a step is still there behind it
-pub grown : (s s′ : State) (rest reduced : Table) → Places s → Places s′ → Step s s′ rest reduced → s .write ≤ s′ .write
-grown s s′ rest reduced p p′ x =
+pub write-grows : (s s′ : State) (rest reduced : Table) → Places s → Places s′ → Step s s′ rest reduced → s .write ≤ s′ .write
+write-grows s s′ rest reduced p p′ x =
     omega (arith, done-length s p, done-length s′ p′, ap length (x .written), length-append (done s) reduced)
 
 -- one pair is read and one written

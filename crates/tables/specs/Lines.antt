@@ -10,5 +10,5 @@ use Rattle.columns.specs.Packed.{table}
 abbrev pub pairLines : ℕ → List ℕ → List ℕ → List ℕ
 pairLines letter from to = joinLines (map (pairLine letter) (table from to))
 
-abbrev pub planOf : ℕ → ℕ → List ℕ → List ℕ → Plan
-planOf arity roots from to = record { shape = shape arity roots; rows = table from to }
+abbrev pub planOfColumns : ℕ → ℕ → List ℕ → List ℕ → Plan
+planOfColumns arity roots from to = record { shape = shape arity roots; rows = table from to }

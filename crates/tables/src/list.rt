@@ -9,7 +9,7 @@ ghost use Rattle.higman.specs.Listing.{openRecord, pairLine, pairRecord, closeR
 ghost use Rattle.words.specs.Bytes.{shape};
 ghost use Rattle.words.specs.Writing.{Wrote};
 ghost use Rattle.columns.specs.Packed.{pairOf, table};
-ghost use Rattle.tables.specs.Lines.{pairLines, planOf};
+ghost use Rattle.tables.specs.Lines.{pairLines, planOfColumns};
 use words::writing;
 
 // The bytes of the P record and the E record.
@@ -68,8 +68,8 @@ pub fn pair_lines(letter: u8, from: &[u64], to: &[u64], out: &mut [u8], at: usiz
 // Writes the listing of a plan at the front of the buffer, and returns its length.
 pub fn list_into(slot: u8, arity: u8, roots: u8, from: &[u64], to: &[u64], out: &mut [u8]) -> usize
     requires { ⌜ (arity ≤ 9) × (roots ≤ 9) × (length (now from) ≡ length (now to))
-        × (length (listing slot (planOf arity roots (now from) (now to))) ≤ length (now out)) ⌝ }
-    ensures { λ r. ⌜ Wrote (listing slot (planOf arity roots (now (from .entry)) (now (to .entry))))
+        × (length (listing slot (planOfColumns arity roots (now from) (now to))) ≤ length (now out)) ⌝ }
+    ensures { λ r. ⌜ Wrote (listing slot (planOfColumns arity roots (now (from .entry)) (now (to .entry))))
         (now (out .entry)) 0 (now (out .exit)) r ⌝ }
 {
     let pairs_at = open_line(slot, arity, roots, out, 0);

@@ -10,7 +10,7 @@ use lib.ListN.{length}
 use Rattle.higman.specs.Limits.{Plan}
 use Rattle.higman.specs.Refusals.{slotEmpty}
 use Rattle.higman.specs.Listing.{isSlot, listing}
-use Rattle.tables.specs.Lines.{planOf as planIn}
+use Rattle.tables.specs.Lines.{planOfColumns}
 use Rattle.desk.specs.Records.{Record, L, kind, reading}
 use Rattle.desk.specs.Replies.{lists}
 use Rattle.desk.specs.Bytes.{replyBytes}
@@ -98,7 +98,7 @@ plan c = lentPlan (asked (numbered c) .args .t1) (asked (numbered c) .args .colu
 
 lent : (c : tie.After-part2)
     → let z = sizeAt (asked (numbered c) .args .t1) (numbered c .slot-number .result) in
-    planIn (z .arity) (z .roots) (c .before .part .result .now) (c .part2 .result .now) ≡ plan c
+    planOfColumns (z .arity) (z .roots) (c .before .part .result .now) (c .part2 .result .now) ≡ plan c
 lent c = parts-plan (named (numbered c)) (full c) (c .before .part .ensures) (c .part2 .ensures)
 
 room : (c : tie.After-part2) → let a = asked (numbered c) .args in length (listing (a .a) (plan c)) ≤ length (a .out .now)

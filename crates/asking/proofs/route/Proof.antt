@@ -20,7 +20,7 @@ use Rattle.higman.specs.Words.{Word}
 use Rattle.higman.specs.Tables.{Table}
 use Rattle.higman.specs.Fronts.{block}
 use Rattle.higman.specs.Buffers.{written}
-use Rattle.tables.specs.Lines.{planOf as planIn}
+use Rattle.tables.specs.Lines.{planOfColumns}
 use Rattle.desk.specs.Desk.{Desk}
 use Rattle.desk.specs.Records.{Record, W, kind, reading}
 use Rattle.desk.specs.Replies.{okWord, okBlock, job}
@@ -115,7 +115,7 @@ plan c = lentPlan (asked (numbered c) .args .t1) (asked (numbered c) .args .colu
 
 lent : (c : tie.After-part2)
     → let z = sizeAt (asked (numbered c) .args .t1) (numbered c .slot-number .result) in
-    planIn (z .arity) (z .roots) (c .before .part .result .now) (c .part2 .result .now) ≡ plan c
+    planOfColumns (z .arity) (z .roots) (c .before .part .result .now) (c .part2 .result .now) ≡ plan c
 lent c = parts-plan (named (numbered c)) (full c) (c .before .part .ensures) (c .part2 .ensures)
 
 -- the output behind the place of `ok⇥`, which is lent to the route

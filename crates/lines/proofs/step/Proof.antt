@@ -27,16 +27,16 @@ perform-requires c κs =
     }
 
 -- where the record was done, and where the reply was settled
-abbrev performed : tie.After-settle → tie.After-perform
+abbrev performed : tie.After-write-reply → tie.After-perform
 performed c = c .before .before .before .before .before .before
 
-abbrev begun : tie.After-settle → tie.Start
+abbrev begun : tie.After-write-reply → tie.Start
 begun c = start (performed c .before .before .before)
 
-abbrev desk : tie.After-settle → Desk
+abbrev desk : tie.After-write-reply → Desk
 desk c = deskOf (begun c .args .head) (begun c .args .columns .now)
 
-done : (c : tie.After-settle) → let p = performed c in let a = begun c .args in
+done : (c : tie.After-write-reply) → let p = performed c in let a = begun c .args in
     DoneBy (desk c) (lineOperation (desk c) (a .line .now)) (a .out .now) (p .perform .result) (p .perform .last .1 .0)
     (p .perform .last .1 .1 .1 .1 .0)
 unfolding lineOperation
@@ -54,15 +54,15 @@ returns : tie.Need-returns
 returns c =
     let t = c .before .before .before .before in
     let a = begun t .args in
-    answered-refused (desk t) (a .line .now) (a .out .now) _ _ (performed t .perform .result) (done t) _ (t .settle .result)
-    (t .settle .ensures) (c .before .if1 .taken) (c .dropped .result) (c .dropped .ensures)
+    answered-refused (desk t) (a .line .now) (a .out .now) _ _ (performed t .perform .result) (done t) _ (t .write-reply .result)
+    (t .write-reply .ensures) (c .before .if1 .taken) (c .dropped .result) (c .dropped .ensures)
 
 returns-2 : tie.Need-returns-2
 returns-2 c =
     let t = c .before .before .before .before in
     let a = begun t .args in
-    answered-done (desk t) (a .line .now) (a .out .now) _ _ (performed t .perform .result) (done t) _ (t .settle .result)
-    (t .settle .ensures) (c .before .if1 .left)
+    answered-done (desk t) (a .line .now) (a .out .now) _ _ (performed t .perform .result) (done t) _ (t .write-reply .result)
+    (t .write-reply .ensures) (c .before .if1 .left)
 
 pub step-spec : {M : Type 1} → statement M
 step-spec =

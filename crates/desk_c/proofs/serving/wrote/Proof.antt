@@ -7,7 +7,7 @@ use Rattle.desk_c.proofs.serving.wrote.Tie as tie
 returns : tie.Need-returns
 returns c =
     let s = c .before .before .before in
-    record { sent = s .settle .result; settled = s .settle .ensures; replied = refl }
+    record { sent = s .write-reply .result; settled = s .write-reply .ensures; replied = refl }
 
 pub wrote-spec : {M : Type 1} → statement M
 wrote-spec =

@@ -8,7 +8,7 @@ use Rattle.words.specs.Packed.{unpack}
 use Rattle.words.specs.Bytes.{shape}
 use Rattle.columns.specs.Packed.{table}
 use Rattle.columns.proofs.Rearranged.{froms-table}
-use Rattle.tables.specs.Lines.{planOf}
+use Rattle.tables.specs.Lines.{planOfColumns}
 use Rattle.operations.specs.declared.Likeness.the-variants.{Alike}
 use Rattle.operations.proofs.SameShapes.{arity-differs, roots-differ}
 use Rattle.operations.proofs.Compared.{not-compared, rows-compared, lengths-differ}
@@ -20,10 +20,10 @@ abbrev start : tie.After-shared-slice-known4 → tie.Start
 start c = c .before .before .before .before
 
 abbrev first : tie.Start → Plan
-first s = let a = s .args in planOf (a .a-arity) (a .a-roots) (a .a-from .now) (a .a-to .now)
+first s = let a = s .args in planOfColumns (a .a-arity) (a .a-roots) (a .a-from .now) (a .a-to .now)
 
 abbrev second : tie.Start → Plan
-second s = let a = s .args in planOf (a .b-arity) (a .b-roots) (a .b-from .now) (a .b-to .now)
+second s = let a = s .args in planOfColumns (a .b-arity) (a .b-roots) (a .b-from .now) (a .b-to .now)
 
 -- a table has as many pairs as its columns have places
 table-length : (from to : List ℕ) → length from ≡ length to → length (table from to) ≡ length from

@@ -9,7 +9,7 @@ use Rattle.higman.specs.Limits.{Plan}
 use Rattle.higman.specs.Listing.{isSlot, listing}
 use Rattle.higman.proofs.KeptPlans.{in-range}
 use Rattle.words.specs.Bytes.{shape}
-use Rattle.tables.specs.Lines.{planOf}
+use Rattle.tables.specs.Lines.{planOfColumns}
 use Rattle.operations.proofs.KeptValues.{lent-few}
 use Rattle.operations.proofs.Lists.{list-no-slot, list-no-room, list-written}
 use Rattle.operations.proofs.listing.list.Statement.{statement}
@@ -19,7 +19,7 @@ abbrev start : tie.After-is-slot → tie.Start
 start c = c .before .before .before .before
 
 abbrev plan : tie.Start → Plan
-plan s = let a = s .args in planOf (a .arity) (a .roots) (a .from .now) (a .to .now)
+plan s = let a = s .args in planOfColumns (a .arity) (a .roots) (a .from .now) (a .to .now)
 
 -- where the byte is a slot's
 slot : (c : tie.Else1) → isSlot (start (c .before) .args .slot) ≡ true

@@ -9,7 +9,7 @@ use Rattle.higman.specs.Limits.{isCode}
 use Rattle.higman.specs.Answers.{Route, routed}
 use Rattle.higman.specs.Text.{wordOf}
 use Rattle.words.specs.Bytes.{shape}
-use Rattle.tables.specs.Lines.{planOf}
+use Rattle.tables.specs.Lines.{planOfColumns}
 use Rattle.operations.specs.Routing.{routingIn, imageInto}
 use Rattle.operations.proofs.KeptValues.{lent-operand}
 use Rattle.operations.proofs.Codes.{route-no-code, code-digits, replied, route-found}
@@ -20,7 +20,7 @@ abbrev start : tie.After-is-code → tie.Start
 start c = c .before .before .before .before .before
 
 abbrev answer : tie.Start → Route
-answer s = let a = s .args in routed (planOf (a .arity) (a .roots) (a .from .now) (a .to .now)) (wordOf (a .code .now))
+answer s = let a = s .args in routed (planOfColumns (a .arity) (a .roots) (a .from .now) (a .to .now)) (wordOf (a .code .now))
 
 -- where the code is one that the plan routes
 code : (c : tie.Else1) →

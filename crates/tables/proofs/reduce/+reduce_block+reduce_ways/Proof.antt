@@ -11,7 +11,7 @@ use Rattle.words.proofs.Sizes.{length-child}
 use Rattle.words.proofs.child.Reads as child-reads
 use Rattle.tables.specs.Reduction.{Block, State, state, ahead}
 use Rattle.tables.proofs.Cuts.{block-place, Split}
-use Rattle.tables.proofs.Steps.{grown, copy-places, join-places, copied, divided, rejoined, passed, part, behind, followed}
+use Rattle.tables.proofs.Steps.{write-grows, copy-places, join-places, copied, divided, rejoined, passed, part, behind, followed}
 use Rattle.tables.proofs.reduce.join.Reads as join-reads
 use Rattle.tables.proofs.reduce.reduce_block.Reads as reduce-block
 use Rattle.tables.proofs.reduce.reduce_block.Kinds as reduce-block-kinds
@@ -150,7 +150,7 @@ block-join-requires t c κs =
     let z = c .before .before .before .before .before .before .before .before .before .before .before .before .before .before .before in
     let p = r .reduce-ways .ensures .0 in
     let s = split-at t (r .before .before .before) in
-    let g = grown (block-state t z) (ways-state t r) _ _ (z .pre .1 .0) p (r .reduce-ways .ensures .1 (s .parts)) in
+    let g = write-grows (block-state t z) (ways-state t r) _ _ (z .pre .1 .0) p (r .reduce-ways .ensures .1 (s .parts)) in
     (z .pre .1 .1, z .pre .1 .2, g, omega (arith, p .from-room, p .within, p .behind), omega (arith, p .to-room, p .within, p .behind))
 
 block-same-length-3 : (t : ℕ) → reduce-block-lts.Need-same-length-3 (block-calls t) (block-at t) reduce-block.Post

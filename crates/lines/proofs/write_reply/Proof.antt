@@ -1,12 +1,12 @@
--- `lines::settle` meets its contract, by the form of the reply.
+-- `lines::write_reply` meets its contract, by the form of the reply.
 use mathlib.Core.Path.{sym, _∙_, ap}
 use borrow.Author.Needs.{needs}
 use native.Mathlib.Omega.{arith}
 use Rattle.replies.proofs.Sizes.{rooms, ok-number-size}
 use Rattle.lines.specs.Lines.{isRefusal}
 use Rattle.lines.proofs.Settled.{wrote-silent, wrote-standing, wrote-ok, wrote-number, wrote-refusal, wrote-column}
-use Rattle.lines.proofs.settle.Statement.{statement}
-use Rattle.lines.proofs.settle.Tie as tie
+use Rattle.lines.proofs.write_reply.Statement.{statement}
+use Rattle.lines.proofs.write_reply.Tie as tie
 
 abbrev start : tie.After-slice-known → tie.Start
 start c = c .before
@@ -81,8 +81,8 @@ returns-6 c =
       wrote = λ q out₀ t o. wrote-column q out₀ (a .out .now) o _ _ (x .0) (x .1 .0) (sym e ∙ t) (w .no-column .ensures);
     }
 
-pub settle-spec : {M : Type 1} → statement M
-settle-spec =
+pub write-reply-spec : {M : Type 1} → statement M
+write-reply-spec =
     tie.close
     (tie.spec
     (λ c. search needs)
