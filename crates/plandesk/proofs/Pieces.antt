@@ -1,19 +1,18 @@
 -- A piece that is fed in parts, and pieces one after the other: each part is taken whole or leaves no room, so that with room for the
--- longest reply some of it is taken; and what was fed to a state that some input leads to is one that a longer input leads to.
+-- longest reply some of it is taken; and what is fed to a state that was reached reaches further.
 use Prim.Native.Nat.{ℕ, zero, suc, _+_, _-_, _≤_, _<_}
 use mathlib.Core.Path.{_≡_, refl, sym, _∙_, ap, subst}
 use mathlib.Core.List.{List, [], _++_}
 use native.Mathlib.Omega.{arith}
 use lib.ListN.{length, take, drop, length-drop}
 use lib.Seq.{take-add, take-all}
-use Rattle.desk.specs.Desk.{freshDesk}
-use Rattle.desk.specs.Session.{State as StateOf, idle, feed}
+use Rattle.desk.specs.Session.{State as StateOf, feed}
 use Rattle.desk.proofs.Session.{feed-append}
 use Rattle.replies.specs.Sizes.{maxReply}
 use Rattle.desk_core.specs.declared.feeding.State.{State}
 use Rattle.desk_core.specs.declared.feeding.Fed.{Fed}
 use Rattle.desk_core.specs.Feeding.{stateOf, HoldsState, FedBy}
-use Rattle.plandesk.specs.Session.{FedAll, Reached}
+use Rattle.plandesk.specs.Session.{FedAll, ReachedFrom}
 
 -- some bytes and then some more
 fed-then : (s t : StateOf) (x y : List ℕ) → t ≡ feed s x .0 → feed t y .0 ≡ feed s (x ++ y) .0
@@ -77,15 +76,16 @@ module _ (s₀ : State) (piece : List ℕ) where
         λ e. f .stopped (λ q. omega (arith, e, q, long, more)) in
         positive (r .taken) (λ e. omega (arith, none-written e, full e, room))
 
--- a state that some input leads to, and a piece more
-pub reached-fresh : (s : State) → HoldsState s → stateOf s ≡ idle freshDesk → Reached s
-unfolding feed
-reached-fresh s H e = record { holds = H; input = []; state = e }
+-- nothing leads from a state to itself, and to a state that was reached a piece more leads on
+pub reached-at-once : (s : State) → HoldsState s → ReachedFrom s s
+reached-at-once s H = record { input = []; fed = fed-none s H }
 
-pub reached-next : (s : State) (piece : List ℕ) (s′ : State) → Reached s → FedAll s piece s′ → Reached s′
-reached-next s piece s′ k f =
+pub reached-next : (s₀ s : State) (piece : List ℕ) (s′ : State) → ReachedFrom s₀ s → FedAll s piece s′ → ReachedFrom s₀ s′
+reached-next s₀ s piece s′ k f =
     record {
-      holds = f .holds;
       input = k .input ++ piece;
-      state = f .state ∙ fed-then (idle freshDesk) (stateOf s) (k .input) piece (k .state);
+      fed = record {
+        holds = f .holds;
+        state = f .state ∙ fed-then (stateOf s₀) (stateOf s) (k .input) piece (k .fed .state);
+      };
     }

@@ -7,7 +7,7 @@ ghost use Prim.Native.Nat.{_≤_};
 ghost use lib.ListN.{length, take};
 ghost use Rattle.replies.specs.Sizes.{maxReply};
 ghost use Rattle.desk_core.specs.Feeding.{HoldsState};
-ghost use Rattle.plandesk.specs.Session.{FedAll, Reached};
+ghost use Rattle.plandesk.specs.Session.{FedAll, ReachedFrom};
 use desk_core::feeding;
 use desk_core::feeding::State;
 use libc::STDERR_FILENO;
@@ -142,14 +142,15 @@ fn turn(state: State, input: &mut [u8], out: &mut [u8]) -> Turned
     }
 }
 
-// All of the input, from a fresh desk on. The turns are counted because a loop must end; no machine makes so many.
-fn read_all(out: &mut [u8]) -> Ended
+// All of the input, from a state on. The turns are counted because a loop must end; no machine makes so many.
+fn read_all(start: State, out: &mut [u8]) -> Ended
+    requires { ⌜ HoldsState start ⌝ }
     requires { ⌜ maxReply ≤ length (now out) ⌝ }
     ensures { λ r. ⌜ HoldsState (r .state) ⌝ }
-    ensures { λ r. ⌜ (r .whole ≡ true → Reached (r .state)) ⌝ }
+    ensures { λ r. ⌜ (r .whole ≡ true → ReachedFrom start (r .state)) ⌝ }
 {
     let mut input = io::large_buffer();
-    let mut state = feeding::fresh();
+    let mut state = start;
     let mut turns = u64::MAX;
     while 0 < turns {
         let t = turn(state, &mut input, out);
@@ -175,11 +176,12 @@ fn read_all(out: &mut [u8]) -> Ended
     }
 }
 
-// All of the input, and its end.
+// All of the input, from a fresh desk on, and its end.
 fn run(out: &mut [u8])
     requires { ⌜ maxReply ≤ length (now out) ⌝ }
 {
-    let ended = read_all(out);
+    let fresh = feeding::fresh();
+    let ended = read_all(fresh, out);
     if !ended.whole {
         return;
     }
