@@ -1,13 +1,13 @@
--- The operands of a change: what a slot holds by the value that was read of its block; the jobs of F, I, K and C, which are refused
--- where a slot is empty and else keep an answer; and the job of X, which has no operand.
-use Prim.Native.Nat.{ℕ, _<_}
-use mathlib.Core.Path.{_≡_, refl, sym, _∙_, ap, subst}
+-- The operands of a change: what a slot holds by the value of its block; the jobs of F, I, K and C, which are refused where a slot is
+-- empty and else keep an answer; and the job of X, which has no operand.
+use Prim.Native.Nat.{ℕ}
+use mathlib.Core.Path.{_≡_, _∙_, ap}
 use mathlib.Core.Bool.{Bool, true, false, not}
 use mathlib.Core.List.{List}
 use mathlib.Core.Option.{none, some}
 use lib.IntN.{ℤ}
 use Rattle.higman.specs.Words.{Shape}
-use Rattle.higman.specs.Limits.{Plan as PlanOf, Kept, slotCount, powerInRange, shapeInRange}
+use Rattle.higman.specs.Limits.{Plan as PlanOf, powerInRange, shapeInRange}
 use Rattle.higman.specs.Answers.{followed, inverted, powered}
 use Rattle.higman.specs.Exercises.{exercise}
 use Rattle.higman.specs.Refusals.{shapeOutside, slotEmpty, powerOutside}
@@ -15,41 +15,26 @@ use Rattle.higman.specs.Listing.{isSlot, slotNumber}
 use Rattle.desk.specs.Desk.{Desk, held, changed}
 use Rattle.desk.specs.Records.{F, I, K, C, X}
 use Rattle.desk.specs.Replies.{_>>=_, _when_, Outcome, refuse, pass, Effect, ok, job, planIn, ofAnswer, keepIn}
-use Rattle.operations.specs.declared.Plan.{Plan}
-use Rattle.operations.specs.Plans.{planOf, isPlan}
 use Rattle.slots.specs.declared.Head.{Head}
 use Rattle.slots.specs.Blocks.{valueAt}
 use Rattle.slots.specs.Desks.{deskOf, HoldsDesk}
 use Rattle.slots.proofs.Held.{slot-empty, slot-full, slot-kept, slot-plan}
 use Rattle.slots.proofs.Steps.{slot-below}
+use Rattle.changing.specs.Operands.{ReadOf}
 
-module _ (h : Head) (columns : List ℕ) (H : HoldsDesk h columns) (a : ℕ) (named : isSlot a ≡ true) (v : Plan) (i : ℕ) (at : i ≡ slotNumber a)
-    (e : v ≡ valueAt h columns i) where
-  is-value : v ≡ valueAt h columns (slotNumber a)
-  is-value = e ∙ ap (valueAt h columns) at
-
-  below : slotNumber a < slotCount
-  below = slot-below a named
-
-  pub operand-none : v .pairs ≡ 0 → held (deskOf h columns) (slotNumber a) ≡ none
-  unfolding valueAt
-  operand-none z = slot-empty h columns (slotNumber a) below (sym (ap (λ (x : Plan). x .pairs) is-value) ∙ z)
-
-  module _ (z : v .pairs ≡ 0 → ⊥) where
-    full : valueAt h columns (slotNumber a) .pairs ≡ 0 → ⊥
-    full q = z (ap (λ (x : Plan). x .pairs) is-value ∙ q)
-
-    pub operand-some : held (deskOf h columns) (slotNumber a) ≡ some (planOf v)
-    unfolding valueAt
-    operand-some = slot-full h columns (slotNumber a) below full ∙ ap (λ x. some (planOf x)) (sym is-value)
-
-    pub operand-kept : Kept (planOf v)
-    unfolding valueAt
-    operand-kept = subst (λ x. Kept (planOf x)) (sym is-value) (slot-kept h columns H (slotNumber a) below full)
-
-    pub operand-plan : isPlan v ≡ true
-    unfolding valueAt
-    operand-plan = subst (λ x. isPlan x ≡ true) (sym is-value) (slot-plan h columns H (slotNumber a) below full)
+pub read-of-slot : (h : Head) (columns : List ℕ) → HoldsDesk h columns → (a : ℕ) → isSlot a ≡ true
+    → ReadOf (deskOf h columns) a (valueAt h columns (slotNumber a))
+unfolding valueAt
+read-of-slot h columns H a named =
+    let below = slot-below a named in
+    record {
+      empty = slot-empty h columns (slotNumber a) below;
+      full = λ some-pairs. record {
+        there = slot-full h columns (slotNumber a) below some-pairs;
+        kept = slot-kept h columns H (slotNumber a) below some-pairs;
+        is-plan = slot-plan h columns H (slotNumber a) below some-pairs;
+      };
+    }
 
 -- the plan in a slot, as the jobs ask for it
 none-in : (d : Desk) (a : ℕ) → held d (slotNumber a) ≡ none → planIn d a ≡ refuse slotEmpty none

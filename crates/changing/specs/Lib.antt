@@ -1,2 +1,3 @@
--- What a function beneath the records promises; the records themselves promise what slots' Works.antt says.
+-- What the functions beneath the records promise; the records themselves promise what slots' Works.antt says.
 pub mod Faults
+pub mod Operands

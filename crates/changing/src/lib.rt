@@ -1,12 +1,14 @@
 // The records that keep a plan or empty a slot (document 01, "Records"): "E, F, I, K and C raise the count by one", and so does X (change
 // request E3). Each of them is refused where the count is at its limit. "Operands are read before c is written, so letters may repeat."
 ghost use mathlib.Core.Path.{_≡_};
-ghost use mathlib.Core.Bool.{false};
+ghost use mathlib.Core.Bool.{true, false};
+ghost use Rattle.higman.specs.Listing.{isSlot};
 ghost use Rattle.desk.specs.Records.{E, F, I, K, C, X};
 ghost use Rattle.slots.specs.Blocks.{InColumns, put, filledHead};
-ghost use Rattle.slots.specs.Desks.{fullIn, HoldsDesk};
+ghost use Rattle.slots.specs.Desks.{fullIn, deskOf, HoldsDesk};
 ghost use Rattle.slots.specs.Works.{Keepable, DoneKeeping, DoneSilently};
 ghost use Rattle.changing.specs.Faults.{faultyIn};
+ghost use Rattle.changing.specs.Operands.{ReadOf};
 use operations::Answer;
 use operations::Making;
 use operations::Plan;
@@ -106,6 +108,15 @@ pub fn close(head: Head, columns: &mut [u64]) -> Work
     }
 }
 
+// What a slot holds that a record reads: its plan, or a value with no pairs where it is empty.
+fn operand(head: Head, columns: &[u64], a: u8) -> Plan
+    requires { ⌜ HoldsDesk head (now columns) ⌝ }
+    requires { ⌜ isSlot a ≡ true ⌝ }
+    ensures { λ r. ⌜ ReadOf (deskOf head (now (columns .entry))) a r ⌝ }
+{
+    blocks::value(head, columns, slots::slot_number(a))
+}
+
 // F: 2, 8, 9, 10, 11, 16.
 pub fn follow(head: Head, columns: &mut [u64], a: u8, b: u8, c: u8) -> Work
     requires { ⌜ HoldsDesk head (now columns) ⌝ }
@@ -115,11 +126,11 @@ pub fn follow(head: Head, columns: &mut [u64], a: u8, b: u8, c: u8) -> Work
     if refusal != 0 {
         return slots::refused(head, refusal);
     }
-    let first = blocks::value(head, columns, slots::slot_number(a));
+    let first = operand(head, columns, a);
     if first.pairs == 0 {
         return slots::refused(head, numbers::SLOT_EMPTY);
     }
-    let second = blocks::value(head, columns, slots::slot_number(b));
+    let second = operand(head, columns, b);
     if second.pairs == 0 {
         return slots::refused(head, numbers::SLOT_EMPTY);
     }
@@ -140,7 +151,7 @@ pub fn invert(head: Head, columns: &mut [u64], a: u8, c: u8) -> Work
     if refusal != 0 {
         return slots::refused(head, refusal);
     }
-    let plan = blocks::value(head, columns, slots::slot_number(a));
+    let plan = operand(head, columns, a);
     if plan.pairs == 0 {
         return slots::refused(head, numbers::SLOT_EMPTY);
     }
@@ -164,7 +175,7 @@ pub fn power(head: Head, columns: &mut [u64], a: u8, k: i32, c: u8) -> Work
     if !following::is_power(k) {
         return slots::refused(head, operations::numbers::POWER_OUTSIDE);
     }
-    let plan = blocks::value(head, columns, slots::slot_number(a));
+    let plan = operand(head, columns, a);
     if plan.pairs == 0 {
         return slots::refused(head, numbers::SLOT_EMPTY);
     }

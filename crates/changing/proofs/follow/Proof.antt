@@ -1,27 +1,25 @@
 -- `changing::follow` meets its contract: the tests in the paper's order, and then what the two plans give is kept.
 use Prim.Native.Nat.{ℕ, _<_}
 use mathlib.Core.Path.{_≡_, refl, sym, _∙_, ap, subst}
-use mathlib.Core.Option.{some}
 use mathlib.Core.Bool.{true}
 use mathlib.Core.List.{[], _∷_, List·Memᴰ·head, List·Memᴰ·tail}
 use borrow.Author.Needs.{needs}
-use Rattle.higman.specs.Limits.{Kept, slotCount}
+use Rattle.higman.specs.Limits.{slotCount}
 use Rattle.higman.specs.Answers.{Answer, followed}
 use Rattle.higman.specs.Refusals.{slotEmpty}
 use Rattle.higman.specs.Listing.{isSlot, slotNumber}
 use Rattle.higman.proofs.Demand3.{demand3}
-use Rattle.desk.specs.Desk.{Desk, held}
+use Rattle.desk.specs.Desk.{Desk}
 use Rattle.desk.specs.Records.{Record, F, kind, reading, writing}
 use Rattle.desk.specs.Replies.{_>>=_, pass, admission, ofAnswer, keepIn}
 use Rattle.operations.specs.declared.Making.{Making}
-use Rattle.operations.specs.Plans.{planOf, isPlan}
+use Rattle.operations.specs.Plans.{planOf}
 use Rattle.operations.specs.Answers.{making}
-use Rattle.slots.specs.Blocks.{InColumns, valueAt}
 use Rattle.slots.specs.Desks.{deskOf}
 use Rattle.slots.specs.Works.{admittedBy, Makes, ToKeep}
-use Rattle.slots.proofs.Held.{slot-inside}
 use Rattle.slots.proofs.Steps.{admitted-named, slot-below, refused-by, refused-job}
-use Rattle.changing.proofs.Operands.{operand-none, operand-some, operand-kept, operand-plan, follow-first, follow-second, follow-keeps}
+use Rattle.changing.specs.Operands.{HeldPlan}
+use Rattle.changing.proofs.Operands.{follow-first, follow-second, follow-keeps}
 use Rattle.changing.proofs.follow.Statement.{statement}
 use Rattle.changing.proofs.follow.Tie as tie
 
@@ -66,24 +64,17 @@ returns c = λ out.
     refused-by (a .head) (a .columns .now) (s .pre) (typed s) out (a .a ∷ a .b ∷ []) (a .c ∷ []) true refl _ (t .admission .ensures)
     (c .before .if1 .taken) (c .refused .result) (c .refused .ensures)
 
-slot-number-requires : tie.Need-slot-number-requires
-slot-number-requires c κs = a-named (c .before)
+operand-requires : tie.Need-operand-requires
+operand-requires c κs = let e = c .before in (start e .pre, a-named e)
 
-value-requires : tie.Need-value-requires
-value-requires c κs =
-    let e = c .before .before in
-    let s = start e in
-    subst (λ i. InColumns i (s .args .columns .now)) (sym (c .slot-number .ensures))
-    (slot-inside (s .args .head) (s .args .columns .now) (s .pre) (slotNumber (s .args .a)) (slot-below (s .args .a) (a-named e)))
+-- where the first slot was read, and then the second
+abbrev one : tie.After-operand → tie.Else1
+one c = c .before .before
 
--- where the first plan was read, and then the second
-abbrev one : tie.After-value → tie.Else1
-one c = c .before .before .before
+abbrev two : tie.After-operand2 → tie.Else2
+two c = c .before .before
 
-abbrev two : tie.After-value2 → tie.Else2
-two c = c .before .before .before
-
-abbrev before-two : tie.After-value2 → tie.After-value
+abbrev before-two : tie.After-operand2 → tie.After-operand
 before-two c = two c .before .before
 
 returns-2 : tie.Need-returns-2
@@ -92,31 +83,17 @@ returns-2 c = λ out.
     let e = one v in
     let s = start e in
     let a = s .args in
-    let none = operand-none (a .head) (a .columns .now) (s .pre) (a .a) (a-named e) (v .value .result) (v .before .slot-number .result)
-    (v .before .slot-number .ensures) (v .value .ensures) (c .before .if2 .taken) in
     refused-job (a .head) (a .columns .now) (s .pre) (typed s) out (admitted e) slotEmpty
-    (follow-first (desk s) (a .a) (a .b) (a .c) none) (c .refused2 .result) (c .refused2 .ensures)
+    (follow-first (desk s) (a .a) (a .b) (a .c) (v .operand .ensures .empty (c .before .if2 .taken))) (c .refused2 .result)
+    (c .refused2 .ensures)
 
-slot-number-requires-2 : tie.Need-slot-number-requires-2
-slot-number-requires-2 c κs = b-named ((one (c .before .before .before)))
-
-value-requires-2 : tie.Need-value-requires-2
-value-requires-2 c κs =
-    let e = one (c .before .before .before .before) in
-    let s = start e in
-    subst (λ i. InColumns i (s .args .columns .now)) (sym (c .slot-number2 .ensures))
-    (slot-inside (s .args .head) (s .args .columns .now) (s .pre) (slotNumber (s .args .b)) (slot-below (s .args .b) (b-named e)))
+operand-requires-2 : tie.Need-operand-requires-2
+operand-requires-2 c κs = let e = one (c .before .before .before) in (start e .pre, b-named e)
 
 -- the plan in the first slot
-first-some : (c : tie.Else2)
-    → let v = c .before .before in let s = start (one v) in held (desk s) (slotNumber (s .args .a)) ≡ some (planOf (v .value .result))
-first-some c =
-    let v = c .before .before in
-    let e = one v in
-    let s = start e in
-    let a = s .args in
-    operand-some (a .head) (a .columns .now) (s .pre) (a .a) (a-named e) (v .value .result) (v .before .slot-number .result)
-    (v .before .slot-number .ensures) (v .value .ensures) (c .if2 .left)
+first-held : (c : tie.Else2)
+    → let v = c .before .before in let s = start (one v) in HeldPlan (desk s) (s .args .a) (v .operand .result)
+first-held c = c .before .before .operand .ensures .full (c .if2 .left)
 
 returns-3 : tie.Need-returns-3
 returns-3 c = λ out.
@@ -124,20 +101,15 @@ returns-3 c = λ out.
     let e = one (before-two v) in
     let s = start e in
     let a = s .args in
-    let none = operand-none (a .head) (a .columns .now) (s .pre) (a .b) (b-named e) (v .value2 .result) (v .before .slot-number2 .result)
-    (v .before .slot-number2 .ensures) (v .value2 .ensures) (c .before .if3 .taken) in
     refused-job (a .head) (a .columns .now) (s .pre) (typed s) out (admitted e) slotEmpty
-    (follow-second (desk s) (a .a) (a .b) (a .c) (planOf (before-two v .value .result)) (first-some (two v)) none) (c .refused3 .result)
-    (c .refused3 .ensures)
-
-slot-number-requires-3 : tie.Need-slot-number-requires-3
-slot-number-requires-3 c κs = c-named (one (before-two (c .before .before .before)))
+    (follow-second (desk s) (a .a) (a .b) (a .c) _ (first-held (two v) .there) (v .operand2 .ensures .empty (c .before .if3 .taken)))
+    (c .refused3 .result) (c .refused3 .ensures)
 
 -- where both slots hold plans
-abbrev second-read : tie.Else3 → tie.After-value2
+abbrev second-read : tie.Else3 → tie.After-operand2
 second-read c = c .before .before
 
-abbrev first-read : tie.Else3 → tie.After-value
+abbrev first-read : tie.Else3 → tie.After-operand
 first-read c = before-two (second-read c)
 
 abbrev all-named : tie.Else3 → tie.Else1
@@ -146,47 +118,25 @@ all-named c = one (first-read c)
 abbrev both : tie.Else3 → tie.Start
 both c = start (all-named c)
 
+slot-number-requires : tie.Need-slot-number-requires
+slot-number-requires c κs = c-named (all-named (c .before))
+
 -- the answer that is to be kept
 abbrev answer : tie.Else3 → Answer
-answer c = followed (planOf (first-read c .value .result)) (planOf (second-read c .value2 .result))
+answer c = followed (planOf (first-read c .operand .result)) (planOf (second-read c .operand2 .result))
 
 module _ (c : tie.Else3) where
-  abbrev u : tie.After-value
-  u = first-read c
-
-  abbrev v : tie.After-value2
-  v = second-read c
-
   abbrev s : tie.Start
   s = both c
 
-  a-kept : Kept (planOf (u .value .result))
-  a-kept =
-      operand-kept (s .args .head) (s .args .columns .now) (s .pre) (s .args .a) (a-named (all-named c)) (u .value .result)
-      (u .before .slot-number .result) (u .before .slot-number .ensures) (u .value .ensures) (two v .if2 .left)
+  a-held : HeldPlan (desk s) (s .args .a) (first-read c .operand .result)
+  a-held = first-held (two (second-read c))
 
-  b-kept : Kept (planOf (v .value2 .result))
-  b-kept =
-      operand-kept (s .args .head) (s .args .columns .now) (s .pre) (s .args .b) (b-named (all-named c)) (v .value2 .result)
-      (v .before .slot-number2 .result) (v .before .slot-number2 .ensures) (v .value2 .ensures) (c .if3 .left)
-
-  a-plan : isPlan (u .value .result) ≡ true
-  a-plan =
-      operand-plan (s .args .head) (s .args .columns .now) (s .pre) (s .args .a) (a-named (all-named c)) (u .value .result)
-      (u .before .slot-number .result) (u .before .slot-number .ensures) (u .value .ensures) (two v .if2 .left)
-
-  b-plan : isPlan (v .value2 .result) ≡ true
-  b-plan =
-      operand-plan (s .args .head) (s .args .columns .now) (s .pre) (s .args .b) (b-named (all-named c)) (v .value2 .result)
-      (v .before .slot-number2 .result) (v .before .slot-number2 .ensures) (v .value2 .ensures) (c .if3 .left)
-
-  second-some : held (desk s) (slotNumber (s .args .b)) ≡ some (planOf (v .value2 .result))
-  second-some =
-      operand-some (s .args .head) (s .args .columns .now) (s .pre) (s .args .b) (b-named (all-named c)) (v .value2 .result)
-      (v .before .slot-number2 .result) (v .before .slot-number2 .ensures) (v .value2 .ensures) (c .if3 .left)
+  b-held : HeldPlan (desk s) (s .args .b) (second-read c .operand2 .result)
+  b-held = second-read c .operand2 .ensures .full (c .if3 .left)
 
   makes : (made : Making) → made ≡ making (answer c) → Makes made (answer c)
-  makes made q = record { tells = q; kept = λ r g. demand3 .followed-kept _ _ r a-kept b-kept g }
+  makes made q = record { tells = q; kept = λ r g. demand3 .followed-kept _ _ r (a-held .kept) (b-held .kept) g }
 
   asks : (i : ℕ) → i ≡ slotNumber (s .args .c) → ToKeep (typed s) (desk s) i (answer c)
   unfolding kind
@@ -194,11 +144,13 @@ module _ (c : tie.Else3) where
       record {
         admitted = admitted (all-named c);
         changes = refl;
-        keeps = follow-keeps (desk s) (s .args .a) (s .args .b) (s .args .c) _ _ (first-some (two v)) second-some ∙ ap (λ n. ofAnswer (answer c) >>= λ r. pass (keepIn (desk s) n r)) (sym q);
+        keeps =
+            follow-keeps (desk s) (s .args .a) (s .args .b) (s .args .c) _ _ (a-held .there) (b-held .there)
+            ∙ ap (λ n. ofAnswer (answer c) >>= λ r. pass (keepIn (desk s) n r)) (sym q);
       }
 
 compose-requires : tie.Need-compose-requires
-compose-requires c κs = let e = c .before .before in (a-plan e, b-plan e)
+compose-requires c κs = let e = c .before .before in (a-held e .is-plan, b-held e .is-plan)
 
 keep-requires : tie.Need-keep-requires
 keep-requires c κs =
@@ -207,7 +159,7 @@ keep-requires c κs =
     let s = both e in
     record {
       holds = s .pre;
-      slot = subst (λ i. i < slotCount) (sym (n .slot-number3 .ensures)) (slot-below (s .args .c) (c-named (all-named e)));
+      slot = subst (λ i. i < slotCount) (sym (n .slot-number .ensures)) (slot-below (s .args .c) (c-named (all-named e)));
       answer = answer e;
       makes = makes e (c .compose .result) (c .compose .ensures);
     }
@@ -219,7 +171,7 @@ returns-4 c = λ out.
     let n = m .before in
     let e = n .before .before in
     k .keep .ensures (typed (both e)) (answer e) (makes e (m .compose .result) (m .compose .ensures))
-    (asks e (n .slot-number3 .result) (n .slot-number3 .ensures)) out
+    (asks e (n .slot-number .result) (n .slot-number .ensures)) out
 
 pub follow-spec : {M : Type 1} → statement M
 follow-spec =
@@ -230,17 +182,15 @@ follow-spec =
     admission-requires
     (λ c κs. search needs)
     returns
-    slot-number-requires
-    value-requires
+    operand-requires
     (λ c κs. search needs)
     (λ c. search needs)
     returns-2
-    slot-number-requires-2
-    value-requires-2
+    operand-requires-2
     (λ c κs. search needs)
     (λ c. search needs)
     returns-3
-    slot-number-requires-3
+    slot-number-requires
     compose-requires
     keep-requires
     (λ c. search needs)

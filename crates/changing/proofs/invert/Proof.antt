@@ -3,25 +3,23 @@ use Prim.Native.Nat.{ℕ, _<_}
 use mathlib.Core.Path.{_≡_, refl, sym, _∙_, ap, subst}
 use mathlib.Core.Bool.{true}
 use mathlib.Core.List.{[], _∷_, List·Memᴰ·head, List·Memᴰ·tail}
-use mathlib.Core.Option.{some}
 use borrow.Author.Needs.{needs}
-use Rattle.higman.specs.Limits.{Kept, slotCount}
+use Rattle.higman.specs.Limits.{slotCount}
 use Rattle.higman.specs.Answers.{Answer, inverted}
 use Rattle.higman.specs.Refusals.{slotEmpty}
 use Rattle.higman.specs.Listing.{isSlot, slotNumber}
 use Rattle.higman.proofs.Demand3.{demand3}
-use Rattle.desk.specs.Desk.{Desk, held}
+use Rattle.desk.specs.Desk.{Desk}
 use Rattle.desk.specs.Records.{Record, I, kind, reading, writing}
 use Rattle.desk.specs.Replies.{_>>=_, pass, admission, ofAnswer, keepIn}
 use Rattle.operations.specs.declared.Making.{Making}
 use Rattle.operations.specs.Plans.{planOf}
 use Rattle.operations.specs.Answers.{making}
-use Rattle.slots.specs.Blocks.{InColumns}
 use Rattle.slots.specs.Desks.{deskOf}
 use Rattle.slots.specs.Works.{admittedBy, Makes, ToKeep}
-use Rattle.slots.proofs.Held.{slot-inside}
 use Rattle.slots.proofs.Steps.{admitted-named, slot-below, refused-by, refused-job}
-use Rattle.changing.proofs.Operands.{operand-none, operand-some, operand-kept, operand-plan, invert-none, invert-keeps}
+use Rattle.changing.specs.Operands.{HeldPlan}
+use Rattle.changing.proofs.Operands.{invert-none, invert-keeps}
 use Rattle.changing.proofs.invert.Statement.{statement}
 use Rattle.changing.proofs.invert.Tie as tie
 
@@ -37,10 +35,7 @@ desk s = deskOf (s .args .head) (s .args .columns .now)
 -- the record is admitted, and so the two bytes name slots
 admitted : (c : tie.Else1) → admission (desk (start c)) (typed (start c)) ≡ pass tt
 unfolding kind
-admitted c =
-    let a = start c .args in
-    let call = c .before .admission in
-    call .ensures (typed (start c)) true (a .columns .now) refl ∙ ap admittedBy (c .if1 .left)
+admitted c = c .before .admission .ensures (typed (start c)) true (start c .args .columns .now) refl ∙ ap admittedBy (c .if1 .left)
 
 a-named : (c : tie.Else1) → isSlot (start c .args .a) ≡ true
 unfolding kind
@@ -62,19 +57,12 @@ returns c = λ out.
     refused-by (s .args .head) (s .args .columns .now) (s .pre) (typed s) out (s .args .a ∷ []) (s .args .c ∷ []) true refl _
     (t .admission .ensures) (c .before .if1 .taken) (c .refused .result) (c .refused .ensures)
 
-slot-number-requires : tie.Need-slot-number-requires
-slot-number-requires c κs = a-named (c .before)
+operand-requires : tie.Need-operand-requires
+operand-requires c κs = let e = c .before in (start e .pre, a-named e)
 
-value-requires : tie.Need-value-requires
-value-requires c κs =
-    let e = c .before .before in
-    let s = start e in
-    subst (λ i. InColumns i (s .args .columns .now)) (sym (c .slot-number .ensures))
-    (slot-inside (s .args .head) (s .args .columns .now) (s .pre) (slotNumber (s .args .a)) (slot-below (s .args .a) (a-named e)))
-
--- where the plan was read
-abbrev read : tie.After-value → tie.Else1
-read c = c .before .before .before
+-- where the slot was read
+abbrev read : tie.After-operand → tie.Else1
+read c = c .before .before
 
 returns-2 : tie.Need-returns-2
 returns-2 c = λ out.
@@ -82,17 +70,12 @@ returns-2 c = λ out.
     let e = read v in
     let s = start e in
     let a = s .args in
-    let none = operand-none (a .head) (a .columns .now) (s .pre) (a .a) (a-named e) (v .value .result) (v .before .slot-number .result)
-    (v .before .slot-number .ensures) (v .value .ensures) (c .before .if2 .taken) in
     refused-job (a .head) (a .columns .now) (s .pre) (typed s) out (admitted e) slotEmpty
-    (invert-none (desk s) (a .a) (a .c) none) (c .refused2 .result) (c .refused2 .ensures)
-
-slot-number-requires-2 : tie.Need-slot-number-requires-2
-slot-number-requires-2 c κs = c-named (read (c .before .before .before))
+    (invert-none (desk s) (a .a) (a .c) (v .operand .ensures .empty (c .before .if2 .taken))) (c .refused2 .result) (c .refused2 .ensures)
 
 -- where the slot holds a plan, and the answer that is to be kept
 module _ (c : tie.Else2) where
-  abbrev v : tie.After-value
+  abbrev v : tie.After-operand
   v = c .before .before
 
   abbrev e : tie.Else1
@@ -102,20 +85,13 @@ module _ (c : tie.Else2) where
   s = start e
 
   abbrev answer : Answer
-  answer = inverted (planOf (v .value .result))
+  answer = inverted (planOf (v .operand .result))
 
-  a-kept : Kept (planOf (v .value .result))
-  a-kept =
-      operand-kept (s .args .head) (s .args .columns .now) (s .pre) (s .args .a) (a-named e) (v .value .result)
-      (v .before .slot-number .result) (v .before .slot-number .ensures) (v .value .ensures) (c .if2 .left)
-
-  a-some : held (desk s) (slotNumber (s .args .a)) ≡ some (planOf (v .value .result))
-  a-some =
-      operand-some (s .args .head) (s .args .columns .now) (s .pre) (s .args .a) (a-named e) (v .value .result)
-      (v .before .slot-number .result) (v .before .slot-number .ensures) (v .value .ensures) (c .if2 .left)
+  a-held : HeldPlan (desk s) (s .args .a) (v .operand .result)
+  a-held = v .operand .ensures .full (c .if2 .left)
 
   makes : (made : Making) → made ≡ making answer → Makes made answer
-  makes made q = record { tells = q; kept = λ r g. demand3 .inverted-kept _ r a-kept g }
+  makes made q = record { tells = q; kept = λ r g. demand3 .inverted-kept _ r (a-held .kept) g }
 
   asks : (i : ℕ) → i ≡ slotNumber (s .args .c) → ToKeep (typed s) (desk s) i answer
   unfolding kind
@@ -124,17 +100,15 @@ module _ (c : tie.Else2) where
         admitted = admitted e;
         changes = refl;
         keeps =
-            invert-keeps (desk s) (s .args .a) (s .args .c) _ a-some
+            invert-keeps (desk s) (s .args .a) (s .args .c) _ (a-held .there)
             ∙ ap (λ n. ofAnswer answer >>= λ r. pass (keepIn (desk s) n r)) (sym q);
       }
 
+slot-number-requires : tie.Need-slot-number-requires
+slot-number-requires c κs = c-named (read (c .before .before .before))
+
 inverse-requires : tie.Need-inverse-requires
-inverse-requires c κs =
-    let e = c .before .before in
-    let v = e .before .before in
-    let s = start (read v) in
-    operand-plan (s .args .head) (s .args .columns .now) (s .pre) (s .args .a) (a-named (read v)) (v .value .result)
-    (v .before .slot-number .result) (v .before .slot-number .ensures) (v .value .ensures) (e .if2 .left)
+inverse-requires c κs = a-held (c .before .before) .is-plan
 
 keep-requires : tie.Need-keep-requires
 keep-requires c κs =
@@ -144,7 +118,7 @@ keep-requires c κs =
     let s = start r in
     record {
       holds = s .pre;
-      slot = subst (λ i. i < slotCount) (sym (n .slot-number2 .ensures)) (slot-below (s .args .c) (c-named r));
+      slot = subst (λ i. i < slotCount) (sym (n .slot-number .ensures)) (slot-below (s .args .c) (c-named r));
       answer = answer e;
       makes = makes e (c .inverse .result) (c .inverse .ensures);
     }
@@ -156,7 +130,7 @@ returns-3 c = λ out.
     let n = m .before in
     let e = n .before .before in
     k .keep .ensures (typed (start (read (e .before .before)))) (answer e) (makes e (m .inverse .result) (m .inverse .ensures))
-    (asks e (n .slot-number2 .result) (n .slot-number2 .ensures)) out
+    (asks e (n .slot-number .result) (n .slot-number .ensures)) out
 
 pub invert-spec : {M : Type 1} → statement M
 invert-spec =
@@ -167,12 +141,11 @@ invert-spec =
     admission-requires
     (λ c κs. search needs)
     returns
-    slot-number-requires
-    value-requires
+    operand-requires
     (λ c κs. search needs)
     (λ c. search needs)
     returns-2
-    slot-number-requires-2
+    slot-number-requires
     inverse-requires
     keep-requires
     (λ c. search needs)

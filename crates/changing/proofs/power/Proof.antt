@@ -3,29 +3,27 @@ use Prim.Native.Nat.{ℕ, _<_}
 use mathlib.Core.Path.{_≡_, refl, sym, _∙_, ap, subst}
 use mathlib.Core.Bool.{true}
 use mathlib.Core.List.{[], _∷_, List·Memᴰ·head, List·Memᴰ·tail}
-use mathlib.Core.Option.{some}
 use borrow.Author.Needs.{needs}
 use borrow.Author.Tests.{not-true, not-false}
 use lib.IntN.{ℤ}
 use mir.Syntax.{w32}
-use Rattle.higman.specs.Limits.{Kept, slotCount, powerInRange}
+use Rattle.higman.specs.Limits.{slotCount, powerInRange}
 use Rattle.higman.specs.Answers.{Answer, powered}
 use Rattle.higman.specs.Refusals.{slotEmpty, powerOutside}
 use Rattle.higman.specs.Listing.{isSlot, slotNumber}
 use Rattle.higman.proofs.Demand3.{demand3}
-use Rattle.desk.specs.Desk.{Desk, held}
+use Rattle.desk.specs.Desk.{Desk}
 use Rattle.desk.specs.Records.{Record, K, kind, reading, writing}
 use Rattle.desk.specs.Replies.{_>>=_, pass, admission, ofAnswer, keepIn}
 use Rattle.operations.specs.declared.Making.{Making}
 use Rattle.operations.specs.Plans.{planOf}
 use Rattle.operations.specs.Answers.{making}
 use Rattle.operations.proofs.Signs.{read as read-back, read-is}
-use Rattle.slots.specs.Blocks.{InColumns}
 use Rattle.slots.specs.Desks.{deskOf}
 use Rattle.slots.specs.Works.{admittedBy, Makes, ToKeep}
-use Rattle.slots.proofs.Held.{slot-inside}
 use Rattle.slots.proofs.Steps.{admitted-named, slot-below, refused-by, refused-job}
-use Rattle.changing.proofs.Operands.{operand-none, operand-some, operand-kept, operand-plan, power-none, power-empty, power-keeps}
+use Rattle.changing.specs.Operands.{HeldPlan}
+use Rattle.changing.proofs.Operands.{power-none, power-empty, power-keeps}
 use Rattle.changing.proofs.power.Statement.{statement}
 use Rattle.changing.proofs.power.Tie as tie
 
@@ -86,19 +84,12 @@ returns-2 c = λ out.
     refused-job (a .head) (a .columns .now) (s .pre) (typed s) out (admitted e) powerOutside
     (power-none (desk s) (a .a) (a .k) (a .c) no) (c .refused2 .result) (c .refused2 .ensures)
 
-slot-number-requires : tie.Need-slot-number-requires
-slot-number-requires c κs = a-named (within (c .before))
+operand-requires : tie.Need-operand-requires
+operand-requires c κs = let e = within (c .before) in (start e .pre, a-named e)
 
-value-requires : tie.Need-value-requires
-value-requires c κs =
-    let e = within (c .before .before) in
-    let s = start e in
-    subst (λ i. InColumns i (s .args .columns .now)) (sym (c .slot-number .ensures))
-    (slot-inside (s .args .head) (s .args .columns .now) (s .pre) (slotNumber (s .args .a)) (slot-below (s .args .a) (a-named e)))
-
--- where the plan was read
-abbrev read : tie.After-value → tie.Else1
-read c = within (c .before .before .before)
+-- where the slot was read
+abbrev read : tie.After-operand → tie.Else1
+read c = within (c .before .before)
 
 returns-3 : tie.Need-returns-3
 returns-3 c = λ out.
@@ -106,77 +97,62 @@ returns-3 c = λ out.
     let e = read v in
     let s = start e in
     let a = s .args in
-    let none = operand-none (a .head) (a .columns .now) (s .pre) (a .a) (a-named e) (v .value .result) (v .before .slot-number .result)
-    (v .before .slot-number .ensures) (v .value .ensures) (c .before .if3 .taken) in
     refused-job (a .head) (a .columns .now) (s .pre) (typed s) out (admitted e) slotEmpty
-    (power-empty (desk s) (a .a) (a .k) (a .c) (in-range (v .before .before .before)) none) (c .refused3 .result) (c .refused3 .ensures)
+    (power-empty (desk s) (a .a) (a .k) (a .c) (in-range (v .before .before)) (v .operand .ensures .empty (c .before .if3 .taken)))
+    (c .refused3 .result) (c .refused3 .ensures)
 
-slot-number-requires-2 : tie.Need-slot-number-requires-2
-slot-number-requires-2 c κs = c-named (read (c .before .before .before))
-
--- where the slot holds a plan
-abbrev value-read : tie.Else3 → tie.After-value
-value-read c = c .before .before
-
-abbrev held-at : tie.Else3 → tie.Start
-held-at c = start (read (value-read c))
-
--- the answer that is to be kept
-abbrev answer : tie.Else3 → Answer
-answer c = powered (planOf (value-read c .value .result)) (held-at c .args .k)
-
+-- where the slot holds a plan, and the answer that is to be kept
 module _ (c : tie.Else3) where
-  abbrev v : tie.After-value
-  v = value-read c
+  abbrev v : tie.After-operand
+  v = c .before .before
 
   abbrev e : tie.Else1
   e = read v
 
   abbrev s : tie.Start
-  s = held-at c
+  s = start e
 
-  a-kept : Kept (planOf (v .value .result))
-  a-kept =
-      operand-kept (s .args .head) (s .args .columns .now) (s .pre) (s .args .a) (a-named e) (v .value .result)
-      (v .before .slot-number .result) (v .before .slot-number .ensures) (v .value .ensures) (c .if3 .left)
+  abbrev answer : Answer
+  answer = powered (planOf (v .operand .result)) (s .args .k)
 
-  a-some : held (desk s) (slotNumber (s .args .a)) ≡ some (planOf (v .value .result))
-  a-some =
-      operand-some (s .args .head) (s .args .columns .now) (s .pre) (s .args .a) (a-named e) (v .value .result)
-      (v .before .slot-number .result) (v .before .slot-number .ensures) (v .value .ensures) (c .if3 .left)
+  a-held : HeldPlan (desk s) (s .args .a) (v .operand .result)
+  a-held = v .operand .ensures .full (c .if3 .left)
 
-  makes : (made : Making) → made ≡ making (answer c) → Makes made (answer c)
-  makes made q = record { tells = q; kept = λ r g. demand3 .powered-kept _ r _ a-kept g }
+  makes : (made : Making) → made ≡ making (powered (planOf (v .operand .result)) (read-back w32 (s .args .k))) → Makes made answer
+  makes made q =
+      record {
+        tells = q ∙ ap (λ k. making (powered (planOf (v .operand .result)) k)) (number s);
+        kept = λ r g. demand3 .powered-kept _ r _ (a-held .kept) g;
+      }
 
-  asks : (i : ℕ) → i ≡ slotNumber (s .args .c) → ToKeep (typed s) (desk s) i (answer c)
+  asks : (i : ℕ) → i ≡ slotNumber (s .args .c) → ToKeep (typed s) (desk s) i answer
   unfolding kind
   asks i q =
       record {
         admitted = admitted e;
         changes = refl;
         keeps =
-            power-keeps (desk s) (s .args .a) (s .args .k) (s .args .c) (in-range (v .before .before .before)) _ a-some
-            ∙ ap (λ n. ofAnswer (answer c) >>= λ r. pass (keepIn (desk s) n r)) (sym q);
+            power-keeps (desk s) (s .args .a) (s .args .k) (s .args .c) (in-range (v .before .before)) _ (a-held .there)
+            ∙ ap (λ n. ofAnswer answer >>= λ r. pass (keepIn (desk s) n r)) (sym q);
       }
 
+slot-number-requires : tie.Need-slot-number-requires
+slot-number-requires c κs = c-named (read (c .before .before .before))
+
 power-requires : tie.Need-power-requires
-power-requires c κs =
-    let e = c .before .before in
-    let v = value-read e in
-    let s = held-at e in
-    operand-plan (s .args .head) (s .args .columns .now) (s .pre) (s .args .a) (a-named (read v)) (v .value .result)
-    (v .before .slot-number .result) (v .before .slot-number .ensures) (v .value .ensures) (e .if3 .left)
+power-requires c κs = a-held (c .before .before) .is-plan
 
 keep-requires : tie.Need-keep-requires
 keep-requires c κs =
     let n = c .before in
     let e = n .before .before in
-    let s = held-at e in
+    let r = read (e .before .before) in
+    let s = start r in
     record {
       holds = s .pre;
-      slot = subst (λ i. i < slotCount) (sym (n .slot-number2 .ensures)) (slot-below (s .args .c) (c-named (read (value-read e))));
+      slot = subst (λ i. i < slotCount) (sym (n .slot-number .ensures)) (slot-below (s .args .c) (c-named r));
       answer = answer e;
-      makes = makes e (c .power .result) (c .power .ensures ∙ ap (λ k. making (powered (planOf (value-read e .value .result)) k)) (number s));
+      makes = makes e (c .power .result) (c .power .ensures);
     }
 
 returns-4 : tie.Need-returns-4
@@ -185,8 +161,8 @@ returns-4 c = λ out.
     let m = k .before in
     let n = m .before in
     let e = n .before .before in
-    k .keep .ensures (typed (held-at e)) (answer e) (makes e (m .power .result) (m .power .ensures ∙ ap (λ k. making (powered (planOf (value-read e .value .result)) k)) (number (held-at e))))
-    (asks e (n .slot-number2 .result) (n .slot-number2 .ensures)) out
+    k .keep .ensures (typed (start (read (e .before .before)))) (answer e) (makes e (m .power .result) (m .power .ensures))
+    (asks e (n .slot-number .result) (n .slot-number .ensures)) out
 
 pub power-spec : {M : Type 1} → statement M
 power-spec =
@@ -200,12 +176,11 @@ power-spec =
     (λ c κs. search needs)
     (λ c κs. search needs)
     returns-2
-    slot-number-requires
-    value-requires
+    operand-requires
     (λ c κs. search needs)
     (λ c. search needs)
     returns-3
-    slot-number-requires-2
+    slot-number-requires
     power-requires
     keep-requires
     (λ c. search needs)
