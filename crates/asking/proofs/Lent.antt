@@ -19,7 +19,7 @@ use Rattle.operations.specs.Plans.{planOf, inTable, zeros, LentPlan}
 use Rattle.slots.specs.declared.Head.{Head}
 use Rattle.slots.specs.Blocks.{sizeAt, fromPlace, toPlace, valueAt}
 use Rattle.slots.specs.Desks.{deskOf, HoldsDesk}
-use Rattle.slots.proofs.Windows.{pair-limit}
+use Rattle.columns.proofs.Limits.{pair-limit}
 use Rattle.slots.proofs.Held.{slots-eight, slot-empty, slot-full, slot-kept}
 use Rattle.slots.proofs.Steps.{slot-below}
 

@@ -31,7 +31,8 @@ use Rattle.slots.specs.declared.Size.{Size}
 use Rattle.slots.specs.declared.Head.{Head}
 use Rattle.slots.specs.Blocks.{sizeAt, fromPlace, toPlace, valueAt}
 use Rattle.slots.specs.Desks.{slotAt, deskOf, HoldsDesk}
-use Rattle.slots.proofs.Windows.{pair-limit, written-length}
+use Rattle.columns.proofs.Limits.{pair-limit}
+use Rattle.slots.proofs.Windows.{written-length}
 use Rattle.slots.proofs.Held.{slots-eight, slot-kept}
 use Rattle.asking.specs.Arranged.{slotFirst, heldAmong, heldInOrder}
 use Rattle.asking.proofs.Lent.{few-pairs}

@@ -12,3 +12,6 @@ pub mod Rearranged
 pub mod Rows
 pub mod Halves
 pub mod Merging
+pub mod Limits
+pub mod Lists
+pub mod Splitting

@@ -15,8 +15,12 @@ ghost use Rattle.columns.specs.Packed.{wordsOf, inOrder, sorted};
 ghost use Rattle.columns.specs.Columns.{PartedAt, placeIn, Extending, Walkable, AtBlock, coveredFrom, Walked};
 
 pub mod sorting;
+pub mod splits;
 
 use words::MAX_WAYS;
+
+// The pairs that a plan has at most: `maxPairs` of higman's Limits.antt.
+pub const MAX_PAIRS: usize = 128;
 
 // The places of a column from start on, up to end, which is not among them.
 pub struct Run {

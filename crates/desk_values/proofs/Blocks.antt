@@ -23,7 +23,7 @@ use Rattle.slots.specs.declared.Size.{Size}
 use Rattle.slots.specs.declared.Head.{Head}
 use Rattle.slots.specs.Blocks.{noSize, columnsSize, sizeAt, sizeOf, fromPlace, toPlace, valueAt, put, InColumns}
 use Rattle.slots.specs.Desks.{slotAt, draftBlock, draftIn, draftOf, deskOf, HoldsDesk}
-use Rattle.slots.proofs.Windows.{pair-limit}
+use Rattle.columns.proofs.Limits.{pair-limit}
 use Rattle.slots.proofs.Held.{slots-eight, slot-plan}
 use Rattle.slots.proofs.Windows.{put-length, put-from, put-to, put-before}
 use Rattle.desk_values.specs.declared.Desk.{Desk}

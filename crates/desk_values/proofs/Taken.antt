@@ -27,7 +27,7 @@ use Rattle.slots.specs.declared.Size.{Size}
 use Rattle.slots.specs.declared.Head.{Head}
 use Rattle.slots.specs.Blocks.{blockCount, columnsSize, noSize, sizeAt, sizeOf, fromPlace, toPlace, valueAt}
 use Rattle.slots.specs.Desks.{heldBy, slotAt, draftBlock, draftIn, draftOf, deskOf, HoldsDesk}
-use Rattle.slots.proofs.Windows.{pair-limit}
+use Rattle.columns.proofs.Limits.{pair-limit}
 use Rattle.slots.proofs.Held.{slots-eight, same-count}
 use Rattle.changing.proofs.Keeping.{kept-held, kept-in-table}
 use Rattle.desks.specs.Tested.{holdsTest}

@@ -27,7 +27,7 @@ use Rattle.operations.proofs.Verdicts.{words-of-plan, froms-rows, tos-rows}
 use Rattle.slots.specs.declared.Head.{Head}
 use Rattle.slots.specs.Blocks.{blockCount, columnsSize, fromPlace, toPlace, sizeAt, valueAt}
 use Rattle.slots.specs.Desks.{draftBlock, heldBy, slotAt, slotsOf, draftIn, draftOf, controlOf, deskOf, HoldsDesk}
-use Rattle.slots.proofs.Windows.{pair-limit}
+use Rattle.columns.proofs.Limits.{pair-limit}
 use Rattle.slots.proofs.Held.{held-at, slot-plan}
 use Rattle.changing.proofs.Drafts.{open-draft, draft-columns}
 use Rattle.desks.specs.Tested.{slotTest, slotsTest, wordsTest, openTest, controlTest, holdsTest, HoldsExact}

@@ -1,6 +1,4 @@
--- The laws that the proofs of the functions cite: lists, a word that is split, a column that grows, and words that are shuffled.
-pub mod Lists
-pub mod Splitting
+-- The laws that the proofs of the functions cite: a column that grows, and words that are shuffled.
 pub mod Growing
 pub mod Turns
 pub mod Shuffling

@@ -9,8 +9,8 @@ use Rattle.higman.specs.Words.{Word}
 use Rattle.higman.specs.Exercises.{nextDraw, exchanged, shuffled}
 use Rattle.words.specs.Packed.{unpack}
 use Rattle.columns.specs.Packed.{wordsOf}
-use Rattle.exercises.proofs.Lists.{map-set}
-use Rattle.exercises.proofs.Splitting.{word-at}
+use Rattle.columns.proofs.Lists.{map-set}
+use Rattle.columns.proofs.Splitting.{word-at}
 
 pub exchanged-words : (column : List ℕ) (n i j : ℕ) → i < n → j < n
     → wordsOf (take n (set (set column i (getD column j 0)) j (getD column i 0))) ≡ exchanged (wordsOf (take n column)) i j

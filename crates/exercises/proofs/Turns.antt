@@ -16,7 +16,7 @@ use Rattle.higman.proofs.KeptPlans.{in-range, arity-of-range}
 use Rattle.higman.proofs.Splits.{grown-nonempty}
 use Rattle.columns.specs.Packed.{wordsOf}
 use Rattle.columns.specs.Columns.{wordAt}
-use Rattle.exercises.proofs.Splitting.{word-at}
+use Rattle.columns.proofs.Splitting.{word-at}
 use Rattle.exercises.proofs.Growing.{next-column, next-draw, next-size, next-fit, next-outgrown, size-below}
 
 -- a column, the number of its words and the last draw, after k splits

@@ -1,32 +1,16 @@
--- What is asked of a column of words that is split, grown or shuffled, and what comes of growing one. What is right is said by higman's
--- Exercises.antt: `expandedAt`, `grown` and `shuffled`.
-use Prim.Native.Nat.{ℕ, _+_, _-_, _≤_, _<_}
+-- What is asked of a column of words that is grown or shuffled, and what comes of growing one. What is right is said by higman's
+-- Exercises.antt: `grown` and `shuffled`.
+use Prim.Native.Nat.{ℕ, _≤_}
 use mathlib.Core.Path.{_≡_}
 use mathlib.Core.Bool.{true}
-use mathlib.Core.List.{List}
 use lib.Dec.{T}
 use lib.ListN.{length, take}
 use Rattle.higman.specs.Words.{Shape}
 use Rattle.higman.specs.Bases.{all}
-use Rattle.higman.specs.Limits.{shapeInRange, seedInRange, fits, maxPairs, maxDigits}
+use Rattle.higman.specs.Limits.{shapeInRange, seedInRange, fits, maxPairs}
 use Rattle.higman.specs.Exercises.{drawn, grown}
 use Rattle.columns.specs.Packed.{wordsOf}
-use Rattle.columns.specs.Columns.{wordAt}
 use Rattle.exercises.specs.declared.splits.Grown.{Grown}
-
--- words from the place behind up to the place count may be moved up to another place
-pub record Moved (behind count to : ℕ) : Type 0 where
-  pub forward : behind ≤ count
-  pub upward : behind ≤ to
-  pub room : to + (count - behind) ≤ maxPairs
-
--- the word at a place may be split into n parts: it is one of the words, with room for one more digit, and there is room for the parts
-pub record Splittable (column : List ℕ) (count place n : ℕ) : Type 0 where
-  pub listed : place < count
-  pub shorter : length (wordAt column place) < maxDigits
-  pub some-parts : 1 ≤ n
-  pub digits : n ≤ 9
-  pub room : count + (n - 1) ≤ maxPairs
 
 -- the belts may be split so many times by the draws that follow one: there is room for the words
 pub record Growable (s : Shape) (x k : ℕ) : Type 0 where

@@ -29,7 +29,7 @@ use Rattle.slots.specs.declared.Size.{Size}
 use Rattle.slots.specs.declared.Head.{Head}
 use Rattle.slots.specs.Blocks.{noSize, sizeAt, fromPlace, toPlace, valueAt}
 use Rattle.slots.specs.Desks.{draftBlock, heldBy, slotAt, draftIn, controlOf, deskOf, HoldsDesk}
-use Rattle.slots.proofs.Windows.{pair-limit}
+use Rattle.columns.proofs.Limits.{pair-limit}
 use Rattle.slots.proofs.Held.{slots-eight, same-count}
 
 -- the head with another size of the open plan

@@ -33,14 +33,11 @@ use Rattle.operations.specs.Plans.{planOf, inTable, isPlan, LentPlan}
 use Rattle.operations.proofs.Plan.{the-row}
 use Rattle.operations.proofs.Sizes.{from-long, to-long}
 use Rattle.operations.proofs.Values.{few-in-table}
+use Rattle.columns.proofs.Limits.{pair-limit}
 
 -- numbers that hold words of a shape in range are packed
 packed-column : (s : Shape) (l : List ℕ) → T (shapeInRange s) → ((w : Word) → List·Memᴰ w (wordsOf l) → T (isPlanWord s w)) → packedWords l
 packed-column s l r h = all-of isPacked l (λ x m. packed-word s x r (h (unpack x) (Memᴰ·map unpack m)))
-
-pub pair-limit : maxPairs ≡ 128
-unfolding maxPairs
-pair-limit = refl
 
 -- a kept plan is a value in a table that holds one
 pub kept-plan : (p : Plan) → T (isPlan p) → T (inTable p) × Kept (planOf p)

@@ -11,8 +11,8 @@ pub mod numbers;
 pub mod routing;
 pub mod shapes;
 
-// The pairs that a plan has at most: `maxPairs` of higman's Limits.antt.
-pub const MAX_PAIRS: usize = 128;
+// The pairs that a plan has at most.
+pub const MAX_PAIRS: usize = columns::MAX_PAIRS;
 
 // A shape and the pairs of a plan, or of a draft of one, at the first places of two columns; the other places are zero. Programs in C
 // and Rust hold it too (the crate `plans_c`).

@@ -55,7 +55,8 @@ use Rattle.words.proofs.Checks.{check-map}
 use Rattle.plans.proofs.DraftChecks.{draft-of, test-draft, judged-none}
 use Rattle.operations.proofs.Values.{pairs-by-place}
 use Rattle.plans.proofs.Accepted.{keeping-of, none-kept as not-kept}
-use Rattle.operations.proofs.KeptValues.{pair-limit, kept}
+use Rattle.columns.proofs.Limits.{pair-limit}
+use Rattle.operations.proofs.KeptValues.{kept}
 use Rattle.plans.proofs.Answered.{first-no-plan, second-no-plan, both-plans}
 use Rattle.operations.proofs.SameShapes.{shapes-differ}
 use Rattle.plans.proofs.Answered.{first-not-alike, second-not-alike, both-compared}

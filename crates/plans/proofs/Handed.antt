@@ -32,7 +32,8 @@ use Rattle.operations.proofs.Plan.{the-row}
 use Rattle.operations.proofs.Sizes.{from-long, to-long}
 use Rattle.operations.proofs.Values.{pairs-by-place}
 use Rattle.operations.proofs.Filled.{filled-packed}
-use Rattle.operations.proofs.KeptValues.{kept-plan, pair-limit, pairs-few, kept, plain}
+use Rattle.columns.proofs.Limits.{pair-limit}
+use Rattle.operations.proofs.KeptValues.{kept-plan, pairs-few, kept, plain}
 use Rattle.operations.proofs.Repacked.{holds, packed-is-plan}
 
 -- a number that holds a word of at most maxDigits digits has 64 bits

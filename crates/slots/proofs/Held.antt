@@ -24,7 +24,8 @@ use Rattle.slots.specs.declared.Size.{Size}
 use Rattle.slots.specs.declared.Head.{Head}
 use Rattle.slots.specs.Blocks.{InColumns, noSize, sizeAt, fromPlace, toPlace, valueAt, put, sizeOf, filledHead}
 use Rattle.slots.specs.Desks.{draftBlock, heldBy, slotAt, draftIn, deskOf, HoldsDesk}
-use Rattle.slots.proofs.Windows.{pair-limit, put-length, put-from, put-to, put-before, put-behind}
+use Rattle.columns.proofs.Limits.{pair-limit}
+use Rattle.slots.proofs.Windows.{put-length, put-from, put-to, put-before, put-behind}
 
 pub slots-eight : slotCount ≡ 8
 unfolding slotCount

@@ -12,10 +12,7 @@ use Rattle.higman.specs.Buffers.{written}
 use Rattle.operations.specs.declared.Plan.{Plan}
 use Rattle.operations.specs.Filled.{filling}
 use Rattle.slots.specs.Blocks.{InColumns, fromPlace, toPlace, put}
-
-pub pair-limit : maxPairs ≡ 128
-unfolding maxPairs
-pair-limit = refl
+use Rattle.columns.proofs.Limits.{pair-limit}
 
 -- a column that is full has no zeros behind it
 pub filling-full : (l : List ℕ) → length l ≡ maxPairs → filling maxPairs l ≡ l

@@ -6,7 +6,7 @@ use native.Mathlib.Omega.{arith}
 use Rattle.operations.specs.declared.Answer.the-variants as Told
 use Rattle.slots.specs.declared.Reply.the-variants.{Number}
 use Rattle.slots.specs.Desks.{fullIn}
-use Rattle.slots.proofs.Windows.{pair-limit}
+use Rattle.columns.proofs.Limits.{pair-limit}
 use Rattle.slots.proofs.Held.{slot-inside}
 use Rattle.changing.proofs.Keeping.{keep-refused, keep-limit, keep-done, few-made}
 use Rattle.changing.proofs.keep.Statement.{statement}

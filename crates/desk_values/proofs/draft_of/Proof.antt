@@ -12,7 +12,7 @@ use Rattle.higman.specs.Limits.{maxPairs}
 use Rattle.operations.specs.Filled.{filling}
 use Rattle.slots.specs.Blocks.{fromPlace, toPlace, sizeAt, valueAt}
 use Rattle.slots.specs.Desks.{draftBlock}
-use Rattle.slots.proofs.Windows.{pair-limit}
+use Rattle.columns.proofs.Limits.{pair-limit}
 use Rattle.desk_values.specs.Values.{draftValue}
 use Rattle.desk_values.proofs.Blocks.{draft-closed, draft-filled}
 use Rattle.desk_values.proofs.draft_of.Statement.{statement}

@@ -10,7 +10,7 @@ use lib.ListN.{length}
 use Rattle.higman.specs.Limits.{maxPairs}
 use Rattle.slots.specs.Blocks.{sizeAt, valueAt}
 use Rattle.slots.specs.Desks.{draftBlock}
-use Rattle.slots.proofs.Windows.{pair-limit}
+use Rattle.columns.proofs.Limits.{pair-limit}
 use Rattle.desks.specs.Tested.{slotsTest, openTest, controlTest, holdsTest}
 use Rattle.desks.proofs.is_desk.Statement.{statement}
 use Rattle.desks.proofs.is_desk.Tie as tie

@@ -15,7 +15,7 @@ use Rattle.operations.specs.declared.Plan.{Plan}
 use Rattle.operations.specs.Plans.{shapeOf}
 use Rattle.slots.specs.Blocks.{fromPlace, toPlace, sizeAt, valueAt}
 use Rattle.slots.specs.Desks.{draftBlock}
-use Rattle.slots.proofs.Windows.{pair-limit}
+use Rattle.columns.proofs.Limits.{pair-limit}
 use Rattle.slots.proofs.Held.{slots-eight}
 use Rattle.desks.specs.Tested.{wordsTest}
 use Rattle.desks.proofs.is_open_plan.Statement.{statement}

@@ -25,7 +25,7 @@ use Rattle.words.specs.Bytes.{shape}
 use Rattle.columns.specs.Packed.{wordsOf}
 use Rattle.operations.specs.Plans.{packed}
 use Rattle.operations.specs.Answers.{granting}
-use Rattle.operations.proofs.KeptValues.{pair-limit}
+use Rattle.columns.proofs.Limits.{pair-limit}
 use Rattle.exercises.proofs.Made.{refused-seed, refused-pairs, grown-room, refused-from, refused-to, made, table-made, columns-reducible}
 use Rattle.exercises.proofs.make.Statement.{statement}
 use Rattle.exercises.proofs.make.Tie as tie

@@ -24,7 +24,7 @@ use Rattle.slots.specs.declared.Reply.the-variants.{Silent}
 use Rattle.slots.specs.Blocks.{sizeAt, valueAt}
 use Rattle.slots.specs.Desks.{draftBlock, draftIn, deskOf, HoldsDesk}
 use Rattle.slots.specs.Works.{Done}
-use Rattle.slots.proofs.Windows.{pair-limit}
+use Rattle.columns.proofs.Limits.{pair-limit}
 use Rattle.slots.proofs.Held.{draft-open, draft-length}
 use Rattle.slots.proofs.Steps.{no-plan-open, plan-open, refused-admission, refused-job, at-end, done-passed}
 use Rattle.opening.proofs.Drafted.{drafted, drafted-size, drafted-desk, holds-drafted, paired, paired-slots, draft-paired}

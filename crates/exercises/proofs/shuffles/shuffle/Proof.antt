@@ -10,7 +10,7 @@ use Rattle.higman.specs.Limits.{seedInRange}
 use Rattle.higman.specs.Exercises.{nextDraw, shuffled}
 use Rattle.higman.proofs.Draws.{seed-of-test, test-of-seed, next-seed}
 use Rattle.columns.specs.Packed.{wordsOf}
-use Rattle.operations.proofs.KeptValues.{pair-limit}
+use Rattle.columns.proofs.Limits.{pair-limit}
 use Rattle.exercises.proofs.Shuffling.{exchanged-words, shuffled-step, shuffled-end}
 use Rattle.exercises.proofs.shuffles.shuffle.Statement.{statement}
 use Rattle.exercises.proofs.shuffles.shuffle.Tie as tie

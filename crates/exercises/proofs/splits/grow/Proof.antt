@@ -18,7 +18,7 @@ use Rattle.words.specs.Bytes.{shape}
 use Rattle.words.proofs.Limit.{limit}
 use Rattle.columns.specs.Packed.{wordsOf}
 use Rattle.columns.specs.Columns.{wordAt}
-use Rattle.operations.proofs.KeptValues.{pair-limit}
+use Rattle.columns.proofs.Limits.{pair-limit}
 use Rattle.exercises.proofs.Growing.{belts-fit, fitting}
 use Rattle.exercises.proofs.Turns.{Growing, some-word, place-below, room-after, outgrown-now, grown-on}
 use Rattle.exercises.proofs.splits.grow.Statement.{statement}

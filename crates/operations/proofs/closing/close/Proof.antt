@@ -19,7 +19,7 @@ use Rattle.operations.specs.declared.Verdict.the-variants.{Accepted}
 use Rattle.operations.specs.declared.Closed.{Closed}
 use Rattle.operations.specs.Plans.{packed}
 use Rattle.operations.specs.Closing.{faultOf, verdictOf}
-use Rattle.operations.proofs.KeptValues.{pair-limit}
+use Rattle.columns.proofs.Limits.{pair-limit}
 use Rattle.operations.proofs.Verdicts.{verdictBy, closing-by, verdict-by-columns, words-of-plan, accepted-bases}
 use Rattle.operations.proofs.Reordered.{SortedFront, front-keys-room, front-values-room, front-keys-long, front-values-long}
 use Rattle.operations.proofs.Reordered.{front-reducible, front-kept}

@@ -20,7 +20,8 @@ use Rattle.columns.proofs.Rows.{rows-length}
 use Rattle.operations.specs.Plans.{shapeOf, rowsOf, planOf}
 use Rattle.operations.specs.Answers.{granting, making}
 use Rattle.operations.proofs.Filled.{filled-packed}
-use Rattle.operations.proofs.KeptValues.{pair-limit, pairs-few, from-room, to-room, kept, plain, operand}
+use Rattle.columns.proofs.Limits.{pair-limit}
+use Rattle.operations.proofs.KeptValues.{pairs-few, from-room, to-room, kept, plain, operand}
 use Rattle.operations.proofs.Composed.{pairs-before, reducible, too-long, too-many, within-limits}
 use Rattle.operations.proofs.following.composed.Statement.{statement}
 use Rattle.operations.proofs.following.composed.Tie as tie

@@ -9,7 +9,7 @@ use Rattle.higman.proofs.KeptPlans.{in-range}
 use Rattle.words.specs.Bytes.{shape}
 use Rattle.operations.specs.Plans.{packed}
 use Rattle.operations.proofs.Filled.{filled-packed}
-use Rattle.operations.proofs.KeptValues.{pair-limit}
+use Rattle.columns.proofs.Limits.{pair-limit}
 use Rattle.operations.proofs.Identity.{identity-rows}
 use Rattle.operations.proofs.following.identity.Statement.{statement}
 use Rattle.operations.proofs.following.identity.Tie as tie

@@ -6,7 +6,7 @@ use native.Mathlib.Omega.{arith}
 use lib.ListN.{getD, set}
 use Rattle.operations.specs.Filled.{filling}
 use Rattle.operations.proofs.Filled.{filling-start, filling-suc}
-use Rattle.operations.proofs.KeptValues.{pair-limit}
+use Rattle.columns.proofs.Limits.{pair-limit}
 use Rattle.operations.proofs.following.padded.Statement.{statement}
 use Rattle.operations.proofs.following.padded.Tie as tie
 

@@ -7,7 +7,7 @@ use lib.ListN.{length}
 use lib.Seq.{length-take-le}
 use Rattle.words.specs.Bytes.{shape}
 use Rattle.operations.specs.Plans.{packed}
-use Rattle.operations.proofs.KeptValues.{pair-limit}
+use Rattle.columns.proofs.Limits.{pair-limit}
 use Rattle.operations.proofs.Reordered.{SortedFront, front-keys-room, front-values-room, front-keys-long, front-values-long}
 use Rattle.operations.proofs.Reordered.{front-reducible, front-kept}
 use Rattle.operations.proofs.keeping.keep.Statement.{statement}

@@ -6,7 +6,8 @@ use lib.ListN.{length, take, drop, length-drop}
 use lib.Seq.{length-take-le}
 use Rattle.higman.specs.Limits.{maxPairs}
 use Rattle.operations.specs.Filled.{filling}
-use Rattle.slots.proofs.Windows.{pair-limit, filling-full}
+use Rattle.columns.proofs.Limits.{pair-limit}
+use Rattle.slots.proofs.Windows.{filling-full}
 use Rattle.slots.proofs.blocks.column.Statement.{statement}
 use Rattle.slots.proofs.blocks.column.Tie as tie
 

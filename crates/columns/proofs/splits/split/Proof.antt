@@ -1,4 +1,4 @@
--- `exercises::splits::split` meets its contract. The invariant: behind the words before the place stand the first i parts, and behind the
+-- `columns::splits::split` meets its contract. The invariant: behind the words before the place stand the first i parts, and behind the
 -- parts the words are as they were moved. The measure is what is left of the parts.
 use Prim.Native.Nat.{suc, _+_, _-_, _≤_, _<_}
 use mathlib.Core.Path.{_≡_, refl, sym, _∙_, ap, ap₂}
@@ -9,12 +9,12 @@ use lib.ListN.{length, getD, take, drop, set, length-set, length-drop}
 use lib.Seq.{take-suc-set, drop-set-lt, length-paste}
 use Rattle.higman.specs.Words.{count, child}
 use Rattle.words.specs.Packed.{unpack}
 use Rattle.columns.specs.Packed.{wordsOf}
-use Rattle.operations.proofs.KeptValues.{pair-limit}
-use Rattle.exercises.proofs.Lists.{count-next}
-use Rattle.exercises.proofs.Splitting.{split-words}
-use Rattle.exercises.proofs.splits.split.Statement.{statement}
-use Rattle.exercises.proofs.splits.split.Tie as tie
+use Rattle.columns.proofs.Limits.{pair-limit}
+use Rattle.columns.proofs.Lists.{count-next}
+use Rattle.columns.proofs.Splitting.{split-words}
+use Rattle.columns.proofs.splits.split.Statement.{statement}
+use Rattle.columns.proofs.splits.split.Tie as tie
 
 abbrev Inv-loop : tie.InvT-loop
 Inv-loop count′ place arity w parts₀ i₀ parts i =

@@ -1,13 +1,13 @@
--- `exercises::splits::move_up` meets its contract. The invariant: the first i words are moved. The measure is what is left of them.
+-- `columns::splits::move_up` meets its contract. The invariant: the first i words are moved. The measure is what is left of them.
 use Prim.Native.Nat.{_+_, _-_, _≤_, _<_}
 use mathlib.Core.Path.{_≡_, sym, _∙_, ap, ap₂}
 use native.Mathlib.Numerals.{add-one}
 use native.Mathlib.Omega.{arith}
 use lib.ListN.{length, drop, set, length-drop}
 use lib.Seq.{paste, paste-zero, paste-suc, getD-drop}
-use Rattle.operations.proofs.KeptValues.{pair-limit}
-use Rattle.exercises.proofs.splits.move_up.Statement.{statement}
-use Rattle.exercises.proofs.splits.move_up.Tie as tie
+use Rattle.columns.proofs.Limits.{pair-limit}
+use Rattle.columns.proofs.splits.move_up.Statement.{statement}
+use Rattle.columns.proofs.splits.move_up.Tie as tie
 
 abbrev Inv-loop : tie.InvT-loop
 Inv-loop behind count to column size moved₀ i₀ moved i = (i ≤ size) × (moved ≡ paste column to (drop behind column) i)

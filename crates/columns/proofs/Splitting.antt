@@ -9,9 +9,9 @@ use Rattle.higman.specs.Words.{children}
 use Rattle.higman.specs.Exercises.{expandedAt}
 use Rattle.words.specs.Packed.{unpack}
 use Rattle.words.proofs.Packing.{unpack-zero}
 use Rattle.columns.specs.Packed.{wordsOf}
 use Rattle.columns.specs.Columns.{wordAt}
-use Rattle.exercises.proofs.Lists.{map-take, map-drop, drop-take}
+use Rattle.columns.proofs.Lists.{map-take, map-drop, drop-take}
 
 -- the word at a place of a packed column, among the words of its front
 pub word-at : (column : List ℕ) (n k : ℕ) → k < n → getD (wordsOf (take n column)) k [] ≡ wordAt column k
