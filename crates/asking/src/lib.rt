@@ -125,9 +125,9 @@ pub fn list(head: Head, columns: &[u64], a: u8, out: &mut [u8]) -> Reply
     if n == 0 {
         return Reply::Refused(numbers::SLOT_EMPTY);
     }
-    let from = blocks::part(columns, i * BLOCK, n);
-    let to = blocks::part(columns, i * BLOCK + MAX_PAIRS, n);
-    match listing::list(a, size.arity, size.roots, from, to, out) {
+    let from_words = blocks::part(columns, i * BLOCK, n);
+    let to_words = blocks::part(columns, i * BLOCK + MAX_PAIRS, n);
+    match listing::list(a, size.arity, size.roots, from_words, to_words, out) {
         Listed::Bytes(used) => Reply::Written(used),
         Listed::Refused(number) => Reply::Refused(number),
     }
