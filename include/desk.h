@@ -141,10 +141,11 @@ struct desk_written desk_line(struct desk *d, const uint8_t *line, size_t line_l
  *     'S'  a, b                                              value: 1 if they act alike, else 0
  *     'C'  a                                                 value 0
  *     'T'                                                    value: the count of changes
- *     'X'  a slot, b = n, c = r (numbers), splits and        value: the pairs kept
- *          seed; both may be any numbers
+ *     'X'  a slot, b = n, c = r (numbers), splits up to      value: the pairs kept
+ *          99 and seed, which may be any number
  *
- * Every other letter is refused with 1, those of records with text or a listing (M, W, L, U) too. No 14 here: nothing is written.
+ * Every other letter is refused with 1, those of records with text or a listing (M, W, L, U) too, and so is X with more splits than 99,
+ * which no line has digits for: a job that is done does what a line does. No 14 here: nothing is written.
  */
 struct desk_done desk_do(struct desk *d, struct desk_job job);
 

@@ -1,14 +1,18 @@
 -- A record without text: what is told of its reply, and the value that is left.
-use Prim.Native.Nat.{ℕ}
+use Prim.Native.Nat.{ℕ, _≤_, _<_}
 use mathlib.Core.Path.{_≡_, refl, sym, _∙_, ap, subst}
+use mathlib.Core.Bool.{Bool, true, false}
 use mathlib.Core.List.{List}
 use mathlib.Core.Option.{Option, none, some}
 use native.Mathlib.Omega.{arith}
 use Rattle.higman.specs.Refusals.{noRecord}
 use Rattle.desk.specs.Desk.{Desk as DeskOf, IsDesk}
-use Rattle.desk.specs.Records.{Record}
+use Rattle.higman.proofs.Tests.{so, T-of}
+use Rattle.desk.specs.Limits.{maxSplitsNumeral}
+use Rattle.desk.specs.Records.{Record, hasDigits}
 use Rattle.desk.specs.Replies.{Outcome as OutcomeOf, refuse, pass, _>>=_, Effect, settle, operation}
 use Rattle.desk.specs.Buffers.{plainCall, replyOf}
+use Rattle.desk.proofs.NumberFields.{digits-below}
 use Rattle.desk.proofs.Outcomes.{Passes, stops, passes, NoRefusal, Answered as Replying, any-then, operation-answers}
 use Rattle.desk.proofs.Calls.{lent-calls-exact}
 use Rattle.slots.specs.declared.Head.{Head}
@@ -44,6 +48,19 @@ unfolding jobWork _>>=_
 no-job j h columns H w e q out =
     let d = deskOf h columns in
     subst (λ (z : OutcomeOf Record). DoneBy d (z >>= operation d) out w columns out) (sym e) (done-by-refusal h columns H out noRecord w q)
+
+-- "s one or two digits": up to 99
+pub few-splits : (s : ℕ) → s ≤ 99 → hasDigits maxSplitsNumeral s ≡ true
+unfolding maxSplitsNumeral
+few-splits s h = so (hasDigits 2 s) (digits-below 1 s .1 (omega arith))
+
+pub many-splits : (s : ℕ) → 99 < s → hasDigits maxSplitsNumeral s ≡ false
+unfolding maxSplitsNumeral
+many-splits s h = by (hasDigits 2 s) refl
+  where
+    by : (b : Bool) → hasDigits 2 s ≡ b → b ≡ false
+    by true e = absurd (omega (arith, digits-below 1 s .0 (T-of e)))
+    by false e = refl
 
 job-answers : (j : Job) (d : DeskOf) → Passes Replying (jobWork j d)
 unfolding jobWork

@@ -10,9 +10,9 @@ use lib.IntN.{ℤ, pos}
 use Rattle.higman.specs.Text.{Bytes, byte, bytes}
 use Rattle.higman.specs.Limits.{maxPairs, slotCount}
 use Rattle.higman.specs.Refusals.{noRecord, invalidValue, Letter, letterByte}
-use Rattle.desk.specs.Limits.{maxChanges, maxLine}
+use Rattle.desk.specs.Limits.{maxChanges, maxLine, maxSplitsNumeral}
 use Rattle.desk.specs.Desk.{Desk as DeskOf, isDesk, freshControl, freshDesk, dropped}
-use Rattle.desk.specs.Records.{Record, P, E, F, I, K, S, C, T, X, parse, grammar, kind}
+use Rattle.desk.specs.Records.{Record, P, E, F, I, K, S, C, T, X, parse, grammar, kind, hasDigits}
 use Rattle.desk.specs.Replies.{Reply, silent, ok, okNumber, okWord, okBlock, lists, surveys, refuses, Outcome, refuse, pass}
 use Rattle.desk.specs.Replies.{_>>=_, admission, operation, lineOperation}
 use Rattle.desk.specs.Replies.{job as jobOf}
@@ -60,6 +60,11 @@ abbrev pub doneOf : Outcome Reply → Done
 doneOf (refuse n c) = record { number = n; column = columnByte c; value = 0 }
 doneOf (pass p) = record { number = 0; column = 0; value = replyNumber p }
 
+-- X, where its splits have as many digits as a line has for them: "s one or two digits" (change request E3)
+abbrev pub exerciseRecord : Job → Outcome Record
+exerciseRecord j =
+    elim (hasDigits maxSplitsNumeral (j .splits)) [ true ↦ pass (X (j .a) (j .b) (j .c) (j .splits) (j .seed)) | false ↦ refuse noRecord none ]
+
 -- the record without text that a job is, by its letter
 abbrev pub jobRecord : Job → Outcome Record
 jobRecord j =
@@ -88,7 +93,7 @@ jobRecord j =
                                                 | true ↦ pass T
                                                 | false ↦
                                                     elim (eqb (j .letter) (byte "X")) [
-                                                      | true ↦ pass (X (j .a) (j .b) (j .c) (j .splits) (j .seed))
+                                                      | true ↦ exerciseRecord j
                                                       | false ↦ refuse noRecord none
                                                     ]
                                               ]
@@ -154,13 +159,22 @@ writtenOf-example : map writtenOf (refuse 7 (some Letter.T) ∷ pass 5 ∷ [])
     ≡ record { number = 7; column = 84; length = 0 } ∷ record { number = 0; column = 0; length = 5 } ∷ []
 writtenOf-example = refl
 
+abbrev jobWith : ℕ → ℕ → Job
+jobWith splits letter = record { letter = letter; a = 65; b = 66; c = 67; k = pos 2; seed = 1; splits = splits }
+
 abbrev job : ℕ → Job
-job letter = record { letter = letter; a = 65; b = 66; c = 67; k = pos 2; seed = 1; splits = 3 }
+job letter = jobWith 3 letter
 
 -- K⇥A⇥2⇥B; X by its numbers; M is none of them
 jobRecord-example : map (λ b. jobRecord (job b)) (byte "K" ∷ byte "X" ∷ byte "M" ∷ [])
     ≡ pass (K 65 (pos 2) 66) ∷ pass (X 65 66 67 3 1) ∷ refuse 1 none ∷ []
+unfolding maxSplitsNumeral
 jobRecord-example = refl
+
+-- X with splits of two digits, and of three
+exerciseRecord-example : map (λ s. exerciseRecord (jobWith s (byte "X"))) (99 ∷ 100 ∷ []) ≡ pass (X 65 66 67 99 1) ∷ refuse 1 none ∷ []
+unfolding maxSplitsNumeral
+exerciseRecord-example = refl
 
 -- T on a fresh desk, with room for its reply and with too little
 served-example : map (served (bytes "T") (packedDesk freshDesk)) (bytes "......." ∷ bytes "...." ∷ [])

@@ -23,6 +23,9 @@ use slots::Head;
 use slots::Reply;
 use slots::Work;
 
+// "s one or two digits" (change request E3)
+const MAX_SPLITS: u8 = 99;
+
 // The desk after a line, and what is told of the reply.
 pub struct Served {
     pub desk: Desk,
@@ -204,6 +207,9 @@ fn perform(head: Head, columns: &mut [u64], job: Job) -> Work
         };
     }
     if letter == b'X' {
+        if MAX_SPLITS < job.splits {
+            return slots::refused(head, slots::numbers::NO_RECORD);
+        }
         return changing::exercise(head, columns, job.a, job.b, job.c, job.splits, job.seed);
     }
     slots::refused(head, slots::numbers::NO_RECORD)

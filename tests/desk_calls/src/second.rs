@@ -145,7 +145,7 @@ pub fn letter(slot: usize) -> u8 {
 }
 
 /// The record of a job; none for a letter that has text or a listing, or that
-/// no record has.
+/// no record has, and none where X has more splits than two digits say.
 fn record(job: Job) -> Option<Record<'static>> {
     let Job { a, b, c, .. } = job;
     let record = match job.letter {
@@ -174,7 +174,7 @@ fn record(job: Job) -> Option<Record<'static>> {
             second: b,
         },
         b'C' => Record::Clear { operand: a },
-        b'X' => Record::Exercise {
+        b'X' if job.splits < 100 => Record::Exercise {
             slot: a,
             arity: b,
             roots: c,

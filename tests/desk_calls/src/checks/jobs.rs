@@ -148,7 +148,9 @@ pub fn of_every_exercise(calls: &dyn Calls) {
     }
     both.tally.demand(
         10,
-        &["X 0", "X 2", "X 3", "X 4", "X 5", "X 8", "X 16", "X 17"],
+        &[
+            "X 0", "X 1", "X 2", "X 3", "X 4", "X 5", "X 8", "X 16", "X 17",
+        ],
     );
 }
 

@@ -3,6 +3,7 @@ use Prim.Native.Nat.{ℕ}
 use mathlib.Core.Path.{_≡_, refl, sym, _∙_, ap, subst}
 use mathlib.Core.Bool.{Bool, true, false}
 use mathlib.Core.Option.{none}
+use native.Mathlib.Omega.{arith}
 use borrow.Author.Needs.{needs}
 use borrow.Author.Tests.{eq-eqb, ne-eqb}
 use lib.Dec.{eqb}
@@ -16,8 +17,8 @@ use Rattle.operations.proofs.Signs.{read, read-is}
 use Rattle.slots.specs.Works.{Done}
 use Rattle.slots.proofs.Steps.{done-told}
 use Rattle.desk_c.specs.declared.Job.{Job}
-use Rattle.desk_c.specs.Calls.{jobRecord}
-use Rattle.desk_c.proofs.Jobs.{job-done, no-job}
+use Rattle.desk_c.specs.Calls.{jobRecord, exerciseRecord}
+use Rattle.desk_c.proofs.Jobs.{job-done, no-job, few-splits, many-splits}
 use Rattle.desk_c.proofs.serving.perform.Statement.{statement}
 use Rattle.desk_c.proofs.serving.perform.Tie as tie
 
@@ -25,8 +26,11 @@ use Rattle.desk_c.proofs.serving.perform.Tie as tie
 abbrev after9 : Job → Outcome Record
 after9 j = refuse noRecord none
 
+abbrev exercised : Job → Bool → Outcome Record
+exercised j b = elim b [ true ↦ pass (X (j .a) (j .b) (j .c) (j .splits) (j .seed)) | false ↦ refuse noRecord none ]
+
 abbrev at8 : Job → Bool → Outcome Record
-at8 j b = elim b [ true ↦ pass (X (j .a) (j .b) (j .c) (j .splits) (j .seed)) | false ↦ after9 j ]
+at8 j b = elim b [ true ↦ exerciseRecord j | false ↦ after9 j ]
 
 abbrev after8 : Job → Outcome Record
 after8 j = at8 j (eqb (j .letter) (byte "X"))
@@ -205,23 +209,37 @@ returns-8 c =
     job-done j (a .head) (a .columns .now) _ _ T (rest7 (t .before) ∙ ap (at7 j) (eq-eqb (j .letter) (byte "T") (t .if8 .taken)))
     (λ out. done-told (a .head) (a .columns .now) (s .pre) T out (q .count .result) out (q .count .ensures (a .columns .now) out))
 
+-- X by whether its splits have two digits
 returns-9 : tie.Need-returns-9
 returns-9 c =
+    let u = c .before in
+    let t = u .before .before in
+    let s = t .before .before .before .before .before .before .before .before .before .before in
+    let a = s .args in
+    let j = a .job in
+    no-job j (a .head) (a .columns .now) (s .pre) (c .refused .result)
+    (rest8 (t .before) ∙ ap (at8 j) (eq-eqb (j .letter) (byte "X") (t .if9 .taken))
+    ∙ ap (exercised j) (many-splits (j .splits) (u .if10 .taken)))
+    (c .refused .ensures)
+
+returns-10 : tie.Need-returns-10
+returns-10 c =
     let q = c .before .before in
-    let t = q .before .before in
+    let u = q .before .before in
+    let t = u .before .before in
     let s = t .before .before .before .before .before .before .before .before .before .before in
     let a = s .args in
     let j = a .job in
     job-done j (a .head) (a .columns .now) _ _ (X (j .a) (j .b) (j .c) (j .splits) (j .seed)) (rest8 (t .before)
-    ∙ ap (at8 j) (eq-eqb (j .letter) (byte "X") (t .if9 .taken)))
+    ∙ ap (at8 j) (eq-eqb (j .letter) (byte "X") (t .if9 .taken)) ∙ ap (exercised j) (few-splits (j .splits) (omega (arith, u .if10 .left))))
     (q .exercise .ensures)
 
-returns-10 : tie.Need-returns-10
-returns-10 c =
+returns-11 : tie.Need-returns-11
+returns-11 c =
     let e = c .before in
     let s = e .before .before .before .before .before .before .before .before .before .before in
     let a = s .args in
-    no-job (a .job) (a .head) (a .columns .now) (s .pre) (c .refused .result) (rest9 e) (c .refused .ensures)
+    no-job (a .job) (a .head) (a .columns .now) (s .pre) (c .refused2 .result) (rest9 e) (c .refused2 .ensures)
 
 pub perform-spec : {M : Type 1} → statement M
 perform-spec =
@@ -250,7 +268,9 @@ perform-spec =
     (λ c κs. search needs)
     returns-8
     (λ c κs. search needs)
-    (λ c. search needs)
     returns-9
     (λ c κs. search needs)
-    returns-10)
+    (λ c. search needs)
+    returns-10
+    (λ c κs. search needs)
+    returns-11)
