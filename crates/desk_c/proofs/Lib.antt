@@ -3,3 +3,5 @@ pub mod Replied
 pub mod Lent
 pub mod Jobs
 pub mod Stays
+pub mod JobLines
+pub mod CallsExact

@@ -63,7 +63,11 @@ doneOf (pass p) = record { number = 0; column = 0; value = replyNumber p }
 -- X, where its splits have as many digits as a line has for them: "s one or two digits" (change request E3)
 abbrev pub exerciseRecord : Job → Outcome Record
 exerciseRecord j =
-    elim (hasDigits maxSplitsNumeral (j .splits)) [ true ↦ pass (X (j .a) (j .b) (j .c) (j .splits) (j .seed)) | false ↦ refuse noRecord none ]
+    elim
+    (hasDigits maxSplitsNumeral (j .splits)) [
+      | true ↦ pass (X (j .a) (j .b) (j .c) (j .splits) (j .seed))
+      | false ↦ refuse noRecord none
+    ]
 
 -- the record without text that a job is, by its letter
 abbrev pub jobRecord : Job → Outcome Record

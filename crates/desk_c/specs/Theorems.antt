@@ -1,4 +1,4 @@
--- What the calls leave of a desk is a desk for the next call, whatever was asked and whether it was refused.
+-- What the calls leave of a desk is a desk for the next call, whatever was asked and whether it was refused. Read CallsExact.antt next.
 use lib.Dec.{T}
 use Rattle.higman.specs.Text.{Bytes}
 use Rattle.desk_values.specs.declared.Desk.{Desk}
