@@ -2,3 +2,4 @@
 pub mod Blocks
 pub mod Exact
 pub mod Taken
+pub mod Places

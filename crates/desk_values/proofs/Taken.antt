@@ -189,11 +189,11 @@ module _ (d : DeskOf) (D : IsDesk d) where
   nine : length blocks ≡ 9
   nine = blocks-count (d .slots) draft ∙ omega (arith, D .eight, slots-eight)
 
-  sized : length columns ≡ columnsSize
+  pub sized : length columns ≡ columnsSize
   unfolding packedDesk
   sized = words-length blocks placed ∙ ap (λ n. n * 256) nine
 
-  headed : length (packedDesk d .blocks) ≡ blockCount
+  pub headed : length (packedDesk d .blocks) ≡ blockCount
   unfolding packedDesk
   headed = length-map blocks sizeOf ∙ nine
 
@@ -206,10 +206,10 @@ module _ (d : DeskOf) (D : IsDesk d) where
       let to = to-window blocks placed i (omega (arith, nine)) in
       λ j. record { arity = size j .arity; roots = size j .roots; pairs = size j .pairs; from = from j; to = to j }
 
-  slot-value : (i : ℕ) → i < slotCount → valueAt head columns i ≡ heldValue (held d i)
+  pub slot-value : (i : ℕ) → i < slotCount → valueAt head columns i ≡ heldValue (held d i)
   slot-value i h = block-value i (omega (arith, slots-eight)) ∙ slot-block (d .slots) draft i (omega (arith, D .eight))
 
-  draft-value : valueAt head columns draftBlock ≡ draft
+  pub draft-value : valueAt head columns draftBlock ≡ draft
   draft-value =
       let last : 8 ≡ length (d .slots) = omega (arith, D .eight, slots-eight) in
       block-value 8 (omega arith) ∙ ap (λ n. getD blocks n blank) last ∙ last-block (d .slots) draft
