@@ -64,7 +64,7 @@ overlap-of-apart [] a = refl
 overlap-of-apart (w ∷ c) a = or-false (meets w c) (overlap c) (meets-of-apart-from w c (a .0)) (overlap-of-apart c (a .1))
 
 -- every extension of w by at least d ways begins with a word of the column
-abbrev DeepBelow : ℕ → List Word → ℕ → Word → Type 0
+abbrev pub DeepBelow : ℕ → List Word → ℕ → Word → Type 0
 DeepBelow n c d w = (x : Word) → Ways n x → d ≤ length x → Begun c (w ++ x)
 
 abbrev PartsCovered : ℕ → List Word → ℕ → Word → Type 0
@@ -81,7 +81,7 @@ covered-cases n c d w e = go (listed w c) refl e
     go true h k = inl (mem-of-listed w c h)
     go false h k = inr (λ i m. so (part i) (all-at part (digits n) (T-of k) i m))
 
-deep-of-covered : (n : ℕ) (c : List Word) (d : ℕ) (w : Word) → covered n c d w ≡ true → DeepBelow n c d w
+pub deep-of-covered : (n : ℕ) (c : List Word) (d : ℕ) (w : Word) → covered n c d w ≡ true → DeepBelow n c d w
 deep-of-covered n c zero w e x h k = (w, x, mem-of-listed w c e, refl)
 deep-of-covered n c (suc d) w e [] h k = absurd (omega arith)
 deep-of-covered n c (suc d) w e (i ∷ x) h k =
@@ -156,10 +156,10 @@ deep-longest s c nonzero p w h k = let (u, m, either) = comparable-of-proper s c
     go u m (inl (z, e)) = absurd (omega (arith, length-of-mem u c m, simp length-append at (ap length e)))
     go u m (inr (z, e)) = (u, z, m, e)
 
-abbrev rootCovered : Shape → List Word → ℕ → Bool
+abbrev pub rootCovered : Shape → List Word → ℕ → Bool
 rootCovered s c a = covered (s .arity) c (longest c) (a ∷ [])
 
-covered-of-gap : (s : Shape) (c : List Word) → gap s c ≡ false → (a : ℕ) → List·Memᴰ a (digits (s .roots)) → rootCovered s c a ≡ true
+pub covered-of-gap : (s : Shape) (c : List Word) → gap s c ≡ false → (a : ℕ) → List·Memᴰ a (digits (s .roots)) → rootCovered s c a ≡ true
 covered-of-gap s c e a m = so (rootCovered s c a) (all-at (rootCovered s c) roots (T-of (go (all (rootCovered s c) roots) e)) a m)
   where
     roots : List ℕ

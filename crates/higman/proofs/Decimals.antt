@@ -159,4 +159,11 @@ decimal-unique (b ∷ c ∷ x) h z =
     ∙ ap (λ f. f ++ c ∷ x) (decimal-of-numeral b (all-head isNumeral b (c ∷ x) h))
 
 pub decimals-exact : DecimalsExact
-decimals-exact = record { numerals = decimal-numerals; no-leading-zero = decimal-no-leading-zero; read-back = decimal-read-back }
+decimals-exact =
+    record {
+      numerals = decimal-numerals;
+      no-leading-zero = decimal-no-leading-zero;
+      read-back = decimal-read-back;
+      one-digit = decimal-digit;
+      several-digits = decimal-split;
+    }

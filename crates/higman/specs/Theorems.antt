@@ -1,7 +1,7 @@
 -- The statements. proofs/ has one term of each: ColumnIsBasis and BasisSize (what it rests on that plans are
 -- accepted exactly when both columns are bases), NormalForm, GroupActs, ResultsReduced, MinimalExpansion, AnswersExact, Demand3, ListingFaithful,
--- SlotsExact and DecimalsExact. They hold for every arity of at least 1 and every number of roots. Read Fronts.antt next.
-use Prim.Native.Nat.{ℕ, suc, _+_, _*_, _-_, _≤_, _<_}
+-- SlotsExact and DecimalsExact. They hold for every arity of at least 1 and every number of roots. Read Reasons.antt next.
+use Prim.Native.Nat.{ℕ, suc, _+_, _*_, _-_, _/_, _%_, _≤_, _<_}
 use mathlib.Core.Path.{_≡_}
 use mathlib.Core.Logic.{_↔_}
 use mathlib.Core.Bool.{true, false}
@@ -155,3 +155,6 @@ pub record DecimalsExact : Type 0 where
   pub numerals : (k : ℕ) → T (all isNumeral (decimal k))
   pub no-leading-zero : (k : ℕ) → T (noLeadingZero (decimal k))
   pub read-back : (k : ℕ) → spelledOut 0 (decimal k) ≡ k
+  -- in figures: '0' is 48, and the digits of ten and more are those of the tens and then the last
+  pub one-digit : (k : ℕ) → k < 10 → decimal k ≡ (48 + k) ∷ []
+  pub several-digits : (k : ℕ) → 10 ≤ k → decimal k ≡ decimal (k / 10) ++ (48 + k % 10) ∷ []
