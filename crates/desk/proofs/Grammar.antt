@@ -22,7 +22,7 @@ use Rattle.desk.specs.Records.{Record, P, M, E, F, I, K, S, W, L, C, T a
 use Rattle.desk.specs.Records.{field, noMore, Rule}
 use Rattle.desk.specs.Records.{grammar, readBy, readFields, parse, fields, parted, recordFields, recordText, noTab, hasDigits}
 use Rattle.desk.specs.Records.{numbersFit, wellFormed}
-use Rattle.desk.specs.Grammar.{GrammarExact, NumbersFit, WellFormedExact, LineOf, RepliesWritten, TextExact}
+use Rattle.desk.specs.Grammar.{GrammarExact, RecordForms, NumbersFit, WellFormedExact, LineOf, RepliesWritten, TextExact}
 use Rattle.desk.specs.Replies.{Held, okBlock, surveys}
 use Rattle.desk.specs.Bytes.{lineOf, okLine, counted, partFields, heldFields, replyBytes}
 use Rattle.desk.proofs.Fields.{no-tab-cons, word-no-tab, fields-of-parted, parted-of-fields, fields-no-tab}
@@ -271,6 +271,9 @@ replies-written : RepliesWritten
 unfolding replyBytes
 replies-written =
     record {
+      ok-bytes = refl;
+      no-bytes = refl;
+      letters = refl;
       nothing = refl;
       done = line-of (bytes "ok") [] tt;
       number = λ n. numbered-line (bytes "ok") n [] tt tt;
@@ -325,10 +328,31 @@ well-formed-exact r =
       λ h. and-intro plain (numbersFit r) (h .0) (numbers-fit r .1 (h .1)),
     )
 
+record-forms : RecordForms
+unfolding recordText
+record-forms =
+    record {
+      P-text = λ a n r. refl;
+      M-text = λ from to. refl;
+      E-text = refl;
+      F-text = λ a b c. refl;
+      I-text = λ a c. refl;
+      K-text = λ a k c. refl;
+      K-text-below = λ a k c. refl;
+      S-text = λ a b. refl;
+      W-text = λ a code. refl;
+      L-text = λ a. refl;
+      C-text = λ a. refl;
+      T-text = refl;
+      U-text = refl;
+      X-text = λ a n r s seed. refl;
+    }
+
 pub text-exact : TextExact
 text-exact =
     record {
       grammar = grammar-exact;
+      forms = record-forms;
       well-formed = well-formed-exact;
       slots = slots-exact;
       decimals = decimals-exact;

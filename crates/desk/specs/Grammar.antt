@@ -1,12 +1,13 @@
--- What is read is what is written, as statements: a line is a record exactly when it is the record's text; letters name slots one to
--- one; a number's digits read back to it; and every reply is a line of its fields. Read Session.antt next.
-use Prim.Native.Nat.{ℕ, _^_, _<_}
+-- What is read is what is written, as statements: a line is a record exactly when it is the record's text, and the text is the paper's
+-- form, byte by byte; letters name slots one to one; a number's digits read back to it; and every reply is a line of its fields. Read
+-- Figures.antt next.
+use Prim.Native.Nat.{ℕ, suc, _<_}
 use mathlib.Core.Path.{_≡_}
 use mathlib.Core.Logic.{_↔_, _⊎_}
 use mathlib.Core.List.{List, [], _∷_, _++_, map}
 use mathlib.Core.Option.{none, some}
 use lib.Dec.{T as So}
-use lib.IntN.{natAbs}
+use lib.IntN.{pos, negsuc, natAbs}
 use lib.ListN.{length}
 use Rattle.higman.specs.Words.{Word}
 use Rattle.higman.specs.Text.{Bytes, bytes, lineEnd, wordBytes, decimal}
@@ -16,14 +17,38 @@ use Rattle.higman.specs.Limits.{Plan}
 use Rattle.higman.specs.Refusals.{Letter}
 use Rattle.higman.specs.Listing.{slotByte, joinLines, listing}
 use Rattle.higman.specs.Theorems.{SlotsExact, DecimalsExact}
-use Rattle.desk.specs.Limits.{maxLine, maxNumeral, maxSplitsNumeral, maxSeedNumeral}
-use Rattle.desk.specs.Records.{Record, P, M, E, F, I, K, S, W, L, C, T, U, X, fields, parse, recordFields, recordText, noTab, wellFormed}
+use Rattle.desk.specs.Limits.{maxLine}
+use Rattle.desk.specs.Records.{Record, P, M, E, F, I, K, S, W, L, C, T, U, X, fields, parse, recordFields, recordText, noTab}
+use Rattle.desk.specs.Records.{wellFormed}
 use Rattle.desk.specs.Replies.{Held, pairsIn, silent, ok, okNumber, okWord, okBlock, lists, surveys, refuses}
 use Rattle.desk.specs.Bytes.{lineOf, okLine, partFields, heldFields, replyBytes}
 
 -- "1, unknown letter, wrong number of fields, a field form": every other line is the text of the record that it is read as.
 abbrev pub GrammarExact : Type 0
 GrammarExact = (line : Bytes) (r : Record) → (parse line ≡ some r) ↔ (So (wellFormed r) × (line ≡ recordText r))
+
+-- The records as they are typed: the letter and the fields of the paper's form, in bytes, with the tab, byte 9, between them. What is a
+-- number is there in decimal; `DecimalsExact` says what that is. With `GrammarExact` the grammar follows.
+pub record RecordForms : Type 0 where
+  -- "P⇥slot⇥n⇥r opens a plan. M⇥from⇥to adds a pair. .. E closes"
+  pub P-text : (a n r : ℕ) → recordText (P a n r) ≡ 80 ∷ 9 ∷ a ∷ 9 ∷ (decimal n ++ 9 ∷ decimal r)
+  pub M-text : (from to : Bytes) → recordText (M from to) ≡ 77 ∷ 9 ∷ (from ++ 9 ∷ to)
+  pub E-text : recordText E ≡ 69 ∷ []
+  -- "F⇥a⇥b⇥c keeps *a then b* in c. I⇥a⇥c keeps the inverse. K⇥a⇥k⇥c keeps the power."; "k an optional minus and one to four digits"
+  pub F-text : (a b c : ℕ) → recordText (F a b c) ≡ 70 ∷ 9 ∷ a ∷ 9 ∷ b ∷ 9 ∷ c ∷ []
+  pub I-text : (a c : ℕ) → recordText (I a c) ≡ 73 ∷ 9 ∷ a ∷ 9 ∷ c ∷ []
+  pub K-text : (a k c : ℕ) → recordText (K a (pos k) c) ≡ 75 ∷ 9 ∷ a ∷ 9 ∷ (decimal k ++ 9 ∷ c ∷ [])
+  pub K-text-below : (a k c : ℕ) → recordText (K a (negsuc k) c) ≡ 75 ∷ 9 ∷ a ∷ 9 ∷ 45 ∷ (decimal (suc k) ++ 9 ∷ c ∷ [])
+  -- "S⇥a⇥b", "W⇥a⇥code", "L⇥a", "C⇥a", "T", "U"
+  pub S-text : (a b : ℕ) → recordText (S a b) ≡ 83 ∷ 9 ∷ a ∷ 9 ∷ b ∷ []
+  pub W-text : (a : ℕ) (code : Bytes) → recordText (W a code) ≡ 87 ∷ 9 ∷ a ∷ 9 ∷ code
+  pub L-text : (a : ℕ) → recordText (L a) ≡ 76 ∷ 9 ∷ a ∷ []
+  pub C-text : (a : ℕ) → recordText (C a) ≡ 67 ∷ 9 ∷ a ∷ []
+  pub T-text : recordText T ≡ 84 ∷ []
+  pub U-text : recordText U ≡ 85 ∷ []
+  -- "X⇥slot⇥n⇥r⇥s⇥seed" (change request E3)
+  pub X-text : (a n r s seed : ℕ)
+      → recordText (X a n r s seed) ≡ 88 ∷ 9 ∷ a ∷ 9 ∷ (decimal n ++ 9 ∷ (decimal r ++ 9 ∷ (decimal s ++ 9 ∷ decimal seed)))
 
 -- what it is for the numbers of a record to fit their fields: "n and r one digit 0 to 9", "k .. one to four digits", "s one or two
 -- digits and seed one to ten"
@@ -33,14 +58,14 @@ NumbersFit (M from to) = Unit {0}
 NumbersFit E = Unit {0}
 NumbersFit (F a b c) = Unit {0}
 NumbersFit (I a c) = Unit {0}
-NumbersFit (K a k c) = natAbs k < 10 ^ maxNumeral
+NumbersFit (K a k c) = natAbs k < 10_000
 NumbersFit (S a b) = Unit {0}
 NumbersFit (W a code) = Unit {0}
 NumbersFit (L a) = Unit {0}
 NumbersFit (C a) = Unit {0}
 NumbersFit T = Unit {0}
 NumbersFit U = Unit {0}
-NumbersFit (X a n r s seed) = (n < 10) × (r < 10) × (s < 10 ^ maxSplitsNumeral) × (seed < 10 ^ maxSeedNumeral)
+NumbersFit (X a n r s seed) = (n < 10) × (r < 10) × (s < 100) × (seed < 10_000_000_000)
 
 -- a record is well formed exactly when no field has a tab in it and its numbers fit
 abbrev pub WellFormedExact : Type 0
@@ -58,6 +83,10 @@ pub record LineOf (output : Bytes) (fs : List Bytes) : Type 0 where
 
 -- the replies as they are written
 pub record RepliesWritten : Type 0 where
+  -- the words and letters of a reply in figures
+  pub ok-bytes : bytes "ok" ≡ 111 ∷ 107 ∷ []
+  pub no-bytes : bytes "no" ≡ 110 ∷ 111 ∷ []
+  pub letters : bytes "BFT" ≡ 66 ∷ 70 ∷ 84 ∷ []
   -- "Neither replies when accepted."
   pub nothing : replyBytes silent ≡ []
   -- `ok`; `ok⇥` and a number; `ok⇥` and an image
@@ -83,6 +112,7 @@ pub record RepliesWritten : Type 0 where
 -- all of it, with what higman says of letters and numbers
 pub record TextExact : Type 0 where
   pub grammar : GrammarExact
+  pub forms : RecordForms
   pub well-formed : WellFormedExact
   pub slots : SlotsExact
   pub decimals : DecimalsExact
