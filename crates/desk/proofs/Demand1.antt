@@ -43,6 +43,8 @@ use Rattle.desk.proofs.Calls.{lent-calls-exact}
 use Rattle.desk.specs.Grammar.{NoRecord}
 use Rattle.desk.proofs.Lines.{Read, read-or-not, not-read, line-of-record}
 use Rattle.desk.proofs.Conditions.{first-condition}
+use Rattle.desk.proofs.Figures.{numbers-named}
+use Rattle.desk.proofs.ColumnRefusals.{column-refusals}
 
 -- a number of the list
 among : ℕ → List ℕ → Bool
@@ -305,11 +307,12 @@ demand1 =
       answered = answered;
       refusal-drops = refusal-drops;
       desk-stays = desk-stays;
+      numbers-named = numbers-named;
       numbers = numbers;
-      library-numbers = (refl, refl, refl);
       no-record = no-record;
       record-line = line-of-record;
       first-condition = first-condition;
+      columns = column-refusals;
       desk-test = desk-test;
       calls = lent-calls-exact;
     }

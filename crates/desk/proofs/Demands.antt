@@ -2,11 +2,13 @@
 use Rattle.higman.proofs.Demand3.{demand3}
 use Rattle.higman.proofs.Results.{results-reduced}
 use Rattle.higman.proofs.MinimalExpansion.{minimal-expansion}
+use Rattle.higman.proofs.Reasons.{reasons-exact}
 use Rattle.higman.proofs.Exercises.{exercises-exact}
 use Rattle.higman.proofs.Automorphisms.{plans-are-automorphisms}
 use Rattle.desk.specs.Demands.{SessionExact, Demands}
 use Rattle.desk.proofs.Session.{fed-in-pieces, session-fed, lines-exact, lines-fed}
 use Rattle.desk.proofs.Grammar.{text-exact}
+use Rattle.desk.proofs.Figures.{limits-exact}
 use Rattle.desk.proofs.Demand1.{demand1}
 use Rattle.desk.proofs.Demand2.{demand2}
 
@@ -22,6 +24,8 @@ demands =
       group = plans-are-automorphisms;
       results = results-reduced;
       minimal = minimal-expansion;
+      reasons = reasons-exact;
       plans-by-numbers = exercises-exact;
+      limits = limits-exact;
       sessions = session-exact;
     }

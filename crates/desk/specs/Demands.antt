@@ -10,17 +10,18 @@ use lib.Dec.{T}
 use lib.IntN.{ℤ}
 use lib.ListN.{length}
 use Rattle.higman.specs.Words.{Shape, Word, isWord}
-use Rattle.higman.specs.Tables.{image}
+use Rattle.higman.specs.Bases.{Basis}
+use Rattle.higman.specs.Tables.{froms, tos, image}
 use Rattle.higman.specs.Normal.{andThen, power}
 use Rattle.higman.specs.Limits.{Plan, Bases, Kept, slotCount}
 use Rattle.higman.specs.Text.{lineEnd, Bytes, wordOf}
 use Rattle.higman.specs.Theorems.{ActAlike, ResultsReduced, MinimalExpansion, Demand3}
+use Rattle.higman.specs.Reasons.{Overlapping, OnlyOpen, ReasonsExact}
 use Rattle.higman.specs.Fronts.{block}
 use Rattle.higman.specs.Exercises.{exercised, exercisePlan, ExercisesExact}
 use Rattle.higman.specs.Automorphisms.{PlansAreAutomorphisms}
 use Rattle.higman.specs.Refusals.{noRecord, wrongState, shapeOutside, badWord, pairsFull, wordsOverlap, rootUncovered, slotOutside}
-use Rattle.higman.specs.Refusals.{slotEmpty, shapesDiffer, limitBroken, powerOutside, codeTooShort, bufferTooShort, invalidValue}
-use Rattle.higman.specs.Refusals.{countFull, seedOutside, Letter}
+use Rattle.higman.specs.Refusals.{slotEmpty, shapesDiffer, limitBroken, powerOutside, countFull, seedOutside, Letter}
 use Rattle.desk.specs.Limits.{maxChanges, maxLine}
 use Rattle.desk.specs.Desk.{Draft, Desk, freshDesk, countOf, held, IsDesk, changed, withDraft, withPair, dropped}
 use Rattle.desk.specs.Records.{Record, P, M, E, F, I, K, S, W, L, C, T as Tᴿ, U, X, SlotUse, reads, target, needsOpen}
@@ -34,6 +35,7 @@ use Rattle.desk.specs.Theorems.{RefusalDrops, DeskStays, DeskTest, Surve
 use Rattle.desk.specs.Theorems.{TypedIn, AcceptedFromLines, BlockReplied}
 use Rattle.desk.specs.Theorems.{ListingReadBack, LentCallsExact}
 use Rattle.desk.specs.Grammar.{NoRecord, TextExact}
+use Rattle.desk.specs.Figures.{LimitsExact, NumbersNamed}
 
 -- the numbers that the operation of a record may be refused with; 13, 14 and 15 are of library calls
 unfoldable pub operationNumbers : List ℕ
@@ -72,21 +74,31 @@ pub record RefusedLine (d : Desk) (line : Bytes) : Type 0 where
   pub no-line-end : List·Memᴰ lineEnd text → ⊥
   pub one-line : replyBytes (respondLine d line .1) ≡ text ++ lineEnd ∷ []
 
+-- What E says of a column, by what is wrong with it and not by the tests: "6, one word begins or equals another; 7, a belt isn't covered",
+-- of the from column and, where that is a basis, of the to column.
+pub record ColumnRefusals (d : Desk) (o : Draft) : Type 0 where
+  pub from-overlap : (operation d E ≡ refuse 6 (some Letter.F)) ↔ Overlapping (froms (o .rows))
+  pub from-gap : (operation d E ≡ refuse 7 (some Letter.F)) ↔ OnlyOpen (o .shape) (froms (o .rows))
+  pub to-overlap : (operation d E ≡ refuse 6 (some Letter.T)) ↔ (Basis (o .shape) (froms (o .rows)) × Overlapping (tos (o .rows)))
+  pub to-gap : (operation d E ≡ refuse 7 (some Letter.T)) ↔ (Basis (o .shape) (froms (o .rows)) × OnlyOpen (o .shape) (tos (o .rows)))
+
 -- Demand 1: any bytes, a job done or a numbered refusal that changes nothing.
 pub record Demand1 : Type 0 where
   pub answered : (d : Desk) (line : Bytes) → DoneLine d line ⊎ RefusedLine d line
   -- "Any refusal drops an open plan and changes nothing else."
   pub refusal-drops : RefusalDrops
   pub desk-stays : DeskStays
-  -- the paper's numbers
+  -- the paper's numbers, name by name, and those of a line
+  pub numbers-named : NumbersNamed
   pub numbers : refusalNumbers ≡ 1 ∷ 2 ∷ 3 ∷ 4 ∷ 5 ∷ 6 ∷ 7 ∷ 8 ∷ 9 ∷ 10 ∷ 11 ∷ 12 ∷ 16 ∷ 17 ∷ []
-  pub library-numbers : (codeTooShort ≡ 13) × (bufferTooShort ≡ 14) × (invalidValue ≡ 15)
   -- 1 exactly where a line is no record, a record's line does what the record does, and every other number is given under its
   -- condition and no other: the first that holds
   pub no-record : (d : Desk) (line : Bytes) → ((c : Option Letter) × (lineOperation d line ≡ refuse noRecord c)) ↔ NoRecord line
   pub record-line : (d : Desk) (r : Record) → T (wellFormed r) → length (recordText r) ≤ maxLine
       → lineOperation d (recordText r) ≡ operation d r
   pub first-condition : (d : Desk) → IsDesk d → (r : Record) → refusalOf (operation d r) ≡ firstOf (conditions d r)
+  -- 6 and 7 by what they mean
+  pub columns : (d : Desk) (o : Draft) → IsDesk d → d .draft ≡ some o → ColumnRefusals d o
   -- the test for a desk says what one is, and library calls put 15 first and 14 last
   pub desk-test : DeskTest
   pub calls : LentCallsExact
@@ -223,7 +235,8 @@ pub record SessionExact : Type 0 where
   pub pieces : FedInPieces
 
 -- All three demands, in one place, with what their words lean on: the plans are the automorphisms of V(n,r), a result is the reduced
--- plan on the minimal expansion, X makes its plans as the request says, and bytes are read and written as the paper says.
+-- plan on the minimal expansion, 6 and 7 are given for what they mean, X makes its plans as the request says, the limits are the papers'
+-- figures, and bytes are read and written as the paper says.
 pub record Demands : Type 1 where
   pub demand1 : Demand1
   pub demand2 : Demand2
@@ -231,5 +244,7 @@ pub record Demands : Type 1 where
   pub group : PlansAreAutomorphisms
   pub results : ResultsReduced
   pub minimal : MinimalExpansion
+  pub reasons : ReasonsExact
   pub plans-by-numbers : ExercisesExact
+  pub limits : LimitsExact
   pub sessions : SessionExact

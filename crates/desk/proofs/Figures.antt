@@ -1,0 +1,96 @@
+-- The papers' figures (specs/Figures.antt): the tests compute, and their parts are read one by one.
+use Prim.Native.Nat.{ℕ, suc, _≤_}
+use mathlib.Core.Path.{refl}
+use mathlib.Core.Logic.{_↔_, Iff·rfl}
+use mathlib.Core.Bool.{Bool, _&&_}
+use mathlib.Core.List.{List·Memᴰ}
+use native.Mathlib.Omega.{arith}
+use lib.Dec.{T, leb, leb→le, le→leb}
+use lib.IntN.{natAbs}
+use lib.ListN.{length}
+use Rattle.higman.specs.Words.{Shape, isWord}
+use Rattle.higman.specs.Bases.{all}
+use Rattle.higman.specs.Tables.{Pair, Table}
+use Rattle.higman.specs.Limits.{shapeInRange, maxPairs, maxDigits, maxCode, maxPower, isPlanWord, fits, pairFits, granted, isCode}
+use Rattle.higman.specs.Limits.{seedInRange, slotCount}
+use Rattle.higman.specs.Listing.{isSlot}
+use Rattle.higman.proofs.Tests.{and-left, and-right, and-intro, all-at, all-of, digit-of-test, test-of-digit}
+use Rattle.desk.specs.Limits.{maxChanges, maxLine}
+use Rattle.desk.specs.Desk.{countOf}
+use Rattle.desk.specs.Figures.{ShortPair, LimitsExact, NumbersNamed}
+
+-- a test of an order, and two tests
+order : (a b : ℕ) → T (leb a b) ↔ (a ≤ b)
+order a b = (leb→le a b, le→leb a b)
+
+both : {A B : Type 0} (a b : Bool) → T a ↔ A → T b ↔ B → T (a && b) ↔ (A × B)
+both a b f g = (λ t. (f .0 (and-left a b t), g .0 (and-right a b t)), λ h. and-intro a b (f .1 (h .0)) (g .1 (h .1)))
+
+shapes : (s : Shape) → T (shapeInRange s) ↔ ((2 ≤ s .arity) × (s .arity ≤ 9) × (1 ≤ s .roots) × (s .roots ≤ 9))
+unfolding shapeInRange
+shapes s =
+    let n = both (leb 2 (s .arity)) (leb (s .arity) 9) (order 2 (s .arity)) (order (s .arity) 9) in
+    let three = both (leb 2 (s .arity) && leb (s .arity) 9) (leb 1 (s .roots)) n (order 1 (s .roots)) in
+    let four = both (leb 2 (s .arity) && leb (s .arity) 9 && leb 1 (s .roots)) (leb (s .roots) 9) three (order (s .roots) 9) in (
+      λ t. let f = four .0 t in (f .0 .0 .0, f .0 .0 .1, f .0 .1, f .1),
+      λ (low, high, some-belt, few). four .1 (((low, high), some-belt), few),
+    )
+
+short-pairs : (p : Pair) → T (pairFits p) ↔ ShortPair p
+unfolding maxDigits
+short-pairs p = both (fits (p .from)) (fits (p .to)) (order (length (p .from)) 16) (order (length (p .to)) 16)
+
+all-short : (t : Table) → T (all pairFits t) ↔ ((p : Pair) → List·Memᴰ p t → ShortPair p)
+all-short t = (λ h p m. short-pairs p .0 (all-at pairFits t h p m), λ h. all-of pairFits t (λ p m. short-pairs p .1 (h p m)))
+
+slot-bytes : (b : ℕ) → T (isSlot b) ↔ ((65 ≤ b) × (b ≤ 72))
+unfolding slotCount
+slot-bytes b =
+    let within = both (leb 65 b) (leb (suc b) 73) (order 65 b) (order (suc b) 73) in
+    (λ t. let h = within .0 t in (h .0, omega arith), λ h. within .1 (h .0, omega arith))
+
+pub limits-exact : LimitsExact
+unfolding maxPairs maxDigits maxCode maxPower isPlanWord isCode granted seedInRange slotCount maxChanges maxLine
+limits-exact =
+    record {
+      shapes = shapes;
+      digits = λ n i. (digit-of-test n i, test-of-digit n i);
+      plan-words = λ s w. both (isWord s w) (fits w) Iff·rfl (order (length w) 16);
+      codes = λ s w. both (isWord s w) (leb (length w) 1_024) Iff·rfl (order (length w) 1_024);
+      pairs = refl;
+      short-pairs = short-pairs;
+      results = λ t. both (leb (length t) 128) (all pairFits t) (order (length t) 128) (all-short t);
+      powers = λ k. order (natAbs k) 1_000;
+      seeds = λ seed. both (leb 1 seed) (leb seed 2_147_483_646) (order 1 seed) (order seed 2_147_483_646);
+      slots = refl;
+      slot-bytes = slot-bytes;
+      slot-of-byte = λ b. refl;
+      byte-of-slot = λ i. refl;
+      changes = refl;
+      full-count = λ d. order 4_000_000_000 (countOf d);
+      tabs = refl;
+      line-ends = refl;
+      lines = refl;
+    }
+
+pub numbers-named : NumbersNamed
+numbers-named =
+    record {
+      one = refl;
+      two = refl;
+      three = refl;
+      four = refl;
+      five = refl;
+      six = refl;
+      seven = refl;
+      eight = refl;
+      nine = refl;
+      ten = refl;
+      eleven = refl;
+      twelve = refl;
+      thirteen = refl;
+      fourteen = refl;
+      fifteen = refl;
+      sixteen = refl;
+      seventeen = refl;
+    }
