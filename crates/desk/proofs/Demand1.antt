@@ -25,6 +25,7 @@ use Rattle.higman.specs.Answers.{powered, Comparison, Alike}
 use Rattle.higman.specs.Answers.{NotCompared, same, Route, Image, TooShort, NotRouted, routed}
 use Rattle.higman.specs.Listing.{slotNumber}
 use Rattle.higman.specs.Exercises.{exercise}
+use Rattle.higman.proofs.Figures.{numbers-named}
 use Rattle.higman.proofs.Tests.{so, T-of, clash, or-cases, or-true-left, or-true-right}
 use Rattle.desk.specs.Limits.{maxLine}
 use Rattle.desk.specs.Desk.{Draft, Desk, held}
@@ -43,7 +44,6 @@ use Rattle.desk.proofs.Calls.{lent-calls-exact}
 use Rattle.desk.specs.Grammar.{NoRecord}
 use Rattle.desk.proofs.Lines.{Read, read-or-not, not-read, line-of-record}
 use Rattle.desk.proofs.Conditions.{first-condition}
-use Rattle.desk.proofs.Figures.{numbers-named}
 use Rattle.desk.proofs.ColumnRefusals.{column-refusals}
 
 -- a number of the list

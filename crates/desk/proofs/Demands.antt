@@ -1,19 +1,33 @@
 -- The three demands, gathered into one term.
+use mathlib.Core.Path.{refl}
+use lib.Dec.{leb→le, le→leb}
 use Rattle.higman.proofs.Demand3.{demand3}
 use Rattle.higman.proofs.Results.{results-reduced}
 use Rattle.higman.proofs.MinimalExpansion.{minimal-expansion}
+use Rattle.higman.proofs.Figures.{plan-limits-exact}
 use Rattle.higman.proofs.Reasons.{reasons-exact}
 use Rattle.higman.proofs.Exercises.{exercises-exact}
 use Rattle.higman.proofs.Automorphisms.{plans-are-automorphisms}
-use Rattle.desk.specs.Demands.{SessionExact, Demands}
+use Rattle.desk.specs.Limits.{maxChanges, maxLine}
+use Rattle.desk.specs.Desk.{countOf}
+use Rattle.desk.specs.Demands.{SessionExact, LimitsExact, Demands}
 use Rattle.desk.proofs.Session.{fed-in-pieces, session-fed, lines-exact, lines-fed}
 use Rattle.desk.proofs.Grammar.{text-exact}
-use Rattle.desk.proofs.Figures.{limits-exact}
 use Rattle.desk.proofs.Demand1.{demand1}
 use Rattle.desk.proofs.Demand2.{demand2}
 
 session-exact : SessionExact
 session-exact = record { text = text-exact; lines = lines-exact; lines-fed = lines-fed; fed = session-fed; pieces = fed-in-pieces }
+
+limits-exact : LimitsExact
+unfolding maxChanges maxLine
+limits-exact =
+    record {
+      plans = plan-limits-exact;
+      changes = refl;
+      full-count = λ d. (leb→le 4_000_000_000 (countOf d), le→leb 4_000_000_000 (countOf d));
+      lines = refl;
+    }
 
 pub demands : Demands
 demands =

@@ -1,7 +1,7 @@
 -- The arguments, each file after those it leans on. The terms of the statements of specs/Theorems.antt are in Outcomes (RefusalDrops),
 -- Stays (DeskStays), TypedLines (AcceptedFromLines), Desks (DeskTest), Surveys (SurveyExact), Calls (LentCallsExact), Session (FedInPieces,
 -- SessionFed), ReadBack (TypedIn, ListingReadBack) and Sheets (NoShorterSheet); that of specs/Grammar.antt is in Grammar; those of
--- specs/Figures.antt in Figures; those of specs/Demands.antt in Replies (RepliesExact, DeskParts), Exercises (ExercisesFixed),
+-- specs/Demands.antt in Replies (RepliesExact, DeskParts), Exercises (ExercisesFixed),
 -- ColumnRefusals, Demand1, Demand2 and Demands; that of specs/Cases.antt in Cases.
 pub mod Outcomes
 pub mod Stays
@@ -9,7 +9,6 @@ pub mod OpenPlans
 pub mod Fields
 pub mod NumberFields
 pub mod Grammar
-pub mod Figures
 pub mod Lines
 pub mod TypedLines
 pub mod Desks

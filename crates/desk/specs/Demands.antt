@@ -16,6 +16,7 @@ use Rattle.higman.specs.Normal.{andThen, power}
 use Rattle.higman.specs.Limits.{Plan, Bases, Kept, slotCount}
 use Rattle.higman.specs.Text.{lineEnd, Bytes, wordOf}
 use Rattle.higman.specs.Theorems.{ActAlike, ResultsReduced, MinimalExpansion, Demand3}
+use Rattle.higman.specs.Figures.{PlanLimitsExact, NumbersNamed}
 use Rattle.higman.specs.Reasons.{Overlapping, OnlyOpen, ReasonsExact}
 use Rattle.higman.specs.Fronts.{block}
 use Rattle.higman.specs.Exercises.{exercised, exercisePlan, ExercisesExact}
@@ -28,14 +29,13 @@ use Rattle.desk.specs.Records.{Record, P, M, E, F, I, K, S, W, L, C, T a
 use Rattle.desk.specs.Records.{slotsNamed, isChange, recordText, wellFormed}
 use Rattle.higman.specs.Listing.{slotNumber}
 use Rattle.desk.specs.Replies.{refuse, pass, Effect, silent, ok, okNumber, okWord, okBlock, lists, surveys, refuses, surveyed}
-use Rattle.desk.specs.Replies.{operation, lineOperation, respondLine, newDraft, closed}
+use Rattle.desk.specs.Replies.{atLimit, operation, lineOperation, respondLine, newDraft, closed}
 use Rattle.desk.specs.Bytes.{replyBytes}
 use Rattle.desk.specs.Conditions.{conditions, firstOf, refusalOf}
 use Rattle.desk.specs.Theorems.{RefusalDrops, DeskStays, DeskTest, SurveyExact, LinesExact, LinesFed, FedInPieces, SessionFed}
 use Rattle.desk.specs.Theorems.{TypedIn, AcceptedFromLines, BlockReplied}
 use Rattle.desk.specs.Theorems.{ListingReadBack, LentCallsExact}
 use Rattle.desk.specs.Grammar.{NoRecord, TextExact}
-use Rattle.desk.specs.Figures.{LimitsExact, NumbersNamed}
 
 -- the numbers that the operation of a record may be refused with; 13, 14 and 15 are of library calls
 unfoldable pub operationNumbers : List ℕ
@@ -233,6 +233,16 @@ pub record SessionExact : Type 0 where
   pub lines-fed : LinesFed
   pub fed : SessionFed
   pub pieces : FedInPieces
+
+-- The papers' limits in figures: those of plans and of text, and the desk's. The digits that a field may have stand in `NumbersFit` of
+-- Grammar.antt.
+pub record LimitsExact : Type 0 where
+  pub plans : PlanLimitsExact
+  -- "a count of changes from 0 to 4,000,000,000"; "16, the count is at its limit"
+  pub changes : maxChanges ≡ 4_000_000_000
+  pub full-count : (d : Desk) → T (atLimit d) ↔ (4_000_000_000 ≤ countOf d)
+  -- "Lines hold at most 1,100 bytes, byte 10 not counted"
+  pub lines : maxLine ≡ 1_100
 
 -- All three demands, in one place, with what their words lean on: the plans are the automorphisms of V(n,r), a result is the reduced
 -- plan on the minimal expansion, 6 and 7 are given for what they mean, X makes its plans as the request says, the limits are the papers'

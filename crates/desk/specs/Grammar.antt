@@ -1,6 +1,6 @@
 -- What is read is what is written, as statements: a line is a record exactly when it is the record's text, and the text is the paper's
 -- form, byte by byte; letters name slots one to one; a number's digits read back to it; and every reply is a line of its fields. Read
--- Figures.antt next.
+-- Session.antt next.
 use Prim.Native.Nat.{ℕ, suc, _<_}
 use mathlib.Core.Path.{_≡_}
 use mathlib.Core.Logic.{_↔_, _⊎_}

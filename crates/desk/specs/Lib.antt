@@ -1,5 +1,5 @@
--- The definitions, in reading order: the limits; the desk; records; replies; reply bytes, and that what is read is what is written; the
--- papers' figures; a session; the library's calls with a lent buffer; then the statements of the theorems, the table of refusals, the
+-- The definitions, in reading order: the limits; the desk; records; replies; reply bytes, and that what is read is what is written; a
+-- session; the library's calls with a lent buffer; then the statements of the theorems, the table of refusals, the
 -- three demands and worked sessions. proofs/ has a term of each statement.
 pub mod Limits
 pub mod Desk
@@ -7,7 +7,6 @@ pub mod Records
 pub mod Replies
 pub mod Bytes
 pub mod Grammar
-pub mod Figures
 pub mod Session
 pub mod Buffers
 pub mod Theorems

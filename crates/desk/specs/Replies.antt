@@ -255,9 +255,6 @@ abbrev pub settle : Desk → Outcome Effect → Effect
 settle d (refuse n c) = (dropped d, refuses n c)
 settle d (pass e) = e
 
-unfoldable pub respond : Desk → Record → Effect
-respond d r = settle d (operation d r)
-
 unfoldable pub respondLine : Desk → Bytes → Effect
 respondLine d line = settle d (lineOperation d line)
 
@@ -273,10 +270,11 @@ deskAfter d (e ∷ es) = deskAfter (e .0) es
 
 -- On a fresh desk: T counts no change and U finds no plan; no pair without an open plan; a slot outside comes before an empty one,
 -- and so does a power outside.
-respond-example : map (λ r. respond freshDesk r .1) (T ∷ U ∷ M [] [] ∷ P (byte "I") 2 1 ∷ P (byte "H") 1 1 ∷ L (byte "A") ∷ F (byte "A") (byte "A") (byte "a") ∷ K (byte "A") (pos 1001) (byte "A") ∷ [])
+operation-example : map (λ r. settle freshDesk (operation freshDesk r) .1)
+    (T ∷ U ∷ M [] [] ∷ P (byte "I") 2 1 ∷ P (byte "H") 1 1 ∷ L (byte "A") ∷ F (byte "A") (byte "A") (byte "a") ∷ K (byte "A") (pos 1001) (byte "A") ∷ [])
     ≡ okNumber 0 ∷ surveys [] ∷ refuses 2 none ∷ refuses 8 none ∷ refuses 3 none ∷ refuses 9 none ∷ refuses 8 none ∷ refuses 12 none ∷ []
-unfolding _>>=_ respond operation admission job surveyed kind freshDesk slotCount shapeInRange maxPower
-respond-example = refl
+unfolding _>>=_ operation admission job surveyed kind freshDesk slotCount shapeInRange maxPower
+operation-example = refl
 
 -- "Lines hold at most 1,100 bytes": W with a code so long that the line has 1,100, and one byte more
 recordOf-example : map (λ k. recordOf (bytes "W\tA\t" ++ replicate k (byte "1"))) (1_096 ∷ 1_097 ∷ [])
@@ -284,18 +282,22 @@ recordOf-example : map (λ k. recordOf (bytes "W\tA\t" ++ replicate k (byte "1")
 unfolding parse grammar maxLine
 recordOf-example = refl
 
--- with a plan open: any record but M and E is refused with 2
-open-example : map (λ r. respond (withDraft freshDesk (newDraft (byte "A") (record { arity = 2; roots = 1 }))) r .1) (T ∷ U ∷ P (byte "A") 2 1 ∷ L (byte "A") ∷ X (byte "I") 2 1 2 1 ∷ M (bytes "1") (bytes "1") ∷ E ∷ [])
+-- a desk with a plan open: any record but M and E is refused with 2
+abbrev openDesk : Desk
+openDesk = withDraft freshDesk (newDraft (byte "A") (record { arity = 2; roots = 1 }))
+
+open-example : map (λ r. settle openDesk (operation openDesk r) .1)
+    (T ∷ U ∷ P (byte "A") 2 1 ∷ L (byte "A") ∷ X (byte "I") 2 1 2 1 ∷ M (bytes "1") (bytes "1") ∷ E ∷ [])
     ≡ refuses 2 none ∷ refuses 2 none ∷ refuses 2 none ∷ refuses 2 none ∷ refuses 2 none ∷ silent ∷ refuses 7 (some Letter.F) ∷ []
-unfolding _>>=_ respond operation admission job kind freshDesk withDraft slotCount isPlanWord maxPairs maxDigits verdict digitOf
+unfolding _>>=_ operation admission job kind freshDesk withDraft slotCount isPlanWord maxPairs maxDigits verdict digitOf
 open-example = refl
 
 -- X on a fresh desk: two pairs kept; a slot outside, a shape outside, a seed outside and 199 pairs, some of whose words have 17 digits,
 -- each before what follows it
-exercise-example : map (λ r. respond freshDesk r .1)
+exercise-example : map (λ r. settle freshDesk (operation freshDesk r) .1)
     (X (byte "A") 2 1 2 1 ∷ X (byte "I") 1 1 99 0 ∷ X (byte "A") 1 1 99 0 ∷ X (byte "A") 3 1 99 0 ∷ X (byte "A") 3 1 99 22 ∷ [])
     ≡ okNumber 2 ∷ refuses 8 none ∷ refuses 3 none ∷ refuses 17 none ∷ refuses 5 none ∷ []
-unfolding _>>=_ respond operation admission job kind freshDesk changed slotCount shapeInRange seedInRange maxPairs maxDigits maxChanges
+unfolding _>>=_ operation admission job kind freshDesk changed slotCount shapeInRange seedInRange maxPairs maxDigits maxChanges
     exercise exercised grown shuffled drawn nextDraw keep normalForm normal joined
 exercise-example = refl
 
@@ -306,8 +308,8 @@ unfolding _>>=_ respondLine lineOperation operation admission job kind parse gra
 respondLine-example = refl
 
 -- 100 pairs, and two from-words of 17 digits among them
-exercise-word-example : respond freshDesk (X (byte "A") 2 1 99 5) .1 ≡ refuses 4 none
-unfolding _>>=_ respond operation admission job kind freshDesk slotCount shapeInRange seedInRange maxPairs maxDigits exercise exercised
+exercise-word-example : operation freshDesk (X (byte "A") 2 1 99 5) ≡ refuse 4 none
+unfolding _>>=_ operation admission job kind freshDesk slotCount shapeInRange seedInRange maxPairs maxDigits exercise exercised
     grown shuffled drawn nextDraw
 exercise-word-example = refl
 
@@ -319,9 +321,10 @@ plan21 t = record { shape = record { arity = 2; roots = 1 }; rows = t }
 abbrev fullCount : Desk
 fullCount = atCount (changed freshDesk 0 (some (plan21 ψ))) maxChanges
 
-full-count-example : map (λ r. respond fullCount r .1) (T ∷ C (byte "A") ∷ C (byte "B") ∷ I (byte "A") (byte "B") ∷ K (byte "A") (pos 1001) (byte "B") ∷ X (byte "B") 2 1 2 1 ∷ X (byte "B") 2 1 2 0 ∷ W (byte "A") (bytes "12") ∷ [])
+full-count-example : map (λ r. settle fullCount (operation fullCount r) .1)
+    (T ∷ C (byte "A") ∷ C (byte "B") ∷ I (byte "A") (byte "B") ∷ K (byte "A") (pos 1001) (byte "B") ∷ X (byte "B") 2 1 2 1 ∷ X (byte "B") 2 1 2 0 ∷ W (byte "A") (bytes "12") ∷ [])
     ≡ okNumber 4_000_000_000 ∷ refuses 16 none ∷ refuses 9 none ∷ refuses 16 none ∷ refuses 12 none ∷ refuses 16 none ∷ refuses 17 none ∷ okWord (spell 122) ∷ []
-unfolding _>>=_ respond operation admission job kind freshDesk changed slotCount maxChanges maxPower inverted inverse keep normalForm
+unfolding _>>=_ operation admission job kind freshDesk changed slotCount maxChanges maxPower inverted inverse keep normalForm
     normal joined routed isCode maxCode digitOf shapeInRange seedInRange maxPairs maxDigits exercise exercised grown shuffled drawn nextDraw
 full-count-example = refl
 
@@ -329,9 +332,10 @@ full-count-example = refl
 abbrev twoPlans : Desk
 twoPlans = changed (changed freshDesk 0 (some (plan21 ψ))) 1 (some (plan21 φ))
 
-done-example : map (λ r. respond twoPlans r .1) (S (byte "A") (byte "A") ∷ S (byte "A") (byte "B") ∷ L (byte "B") ∷ C (byte "B") ∷ U ∷ [])
+done-example : map (λ r. settle twoPlans (operation twoPlans r) .1)
+    (S (byte "A") (byte "A") ∷ S (byte "A") (byte "B") ∷ L (byte "B") ∷ C (byte "B") ∷ U ∷ [])
     ≡ okNumber 1 ∷ okNumber 0 ∷ lists (byte "B") (plan21 φ) ∷ ok ∷ surveys (record { slot = 0; plan = plan21 ψ } ∷ record { slot = 1; plan = plan21 φ } ∷ []) ∷ []
-unfolding _>>=_ respond operation admission job surveyed kind freshDesk changed slotCount same maxChanges
+unfolding _>>=_ operation admission job surveyed kind freshDesk changed slotCount same maxChanges
 done-example = refl
 
 -- one pair in A, three in B and in H: the most pairs first, and of equal ones the lower letter
@@ -340,18 +344,20 @@ unfolding surveyed freshDesk changed slotCount
 surveyed-example = refl
 
 -- W by ψ: an image, the blocks of 11 and of the belt, and a wrong digit
-front-example : map (λ code. respond twoPlans (W (byte "A") (bytes code)) .1) ("1122" ∷ "11" ∷ "1" ∷ "13" ∷ [])
+front-example : map (λ code. settle twoPlans (operation twoPlans (W (byte "A") (bytes code))) .1)
+    ("1122" ∷ "11" ∷ "1" ∷ "13" ∷ [])
     ≡ okWord (spell 1212) ∷ okBlock (row 111 11 ∷ row 112 121 ∷ []) ∷ okBlock ψ ∷ refuses 4 none ∷ []
-unfolding _>>=_ respond operation admission job kind freshDesk changed slotCount routed block isCode maxCode digitOf
+unfolding _>>=_ operation admission job kind freshDesk changed slotCount routed block isCode maxCode digitOf
 front-example = refl
 
-emptied-example : respond twoPlans (C (byte "B")) .0 ≡ atCount (changed freshDesk 0 (some (plan21 ψ))) 3
-unfolding _>>=_ respond operation admission job kind freshDesk changed slotCount maxChanges
+emptied-example : settle twoPlans (operation twoPlans (C (byte "B"))) .0 ≡ atCount (changed freshDesk 0 (some (plan21 ψ))) 3
+unfolding _>>=_ operation admission job kind freshDesk changed slotCount maxChanges
 emptied-example = refl
 
 -- "Operands are read before c is written, so letters may repeat."
-repeated-letters-example : map (λ r. held (respond twoPlans r .0) 0) (F (byte "A") (byte "A") (byte "A") ∷ F (byte "B") (byte "A") (byte "A") ∷ F (byte "A") (byte "B") (byte "A") ∷ I (byte "A") (byte "A") ∷ [])
+repeated-letters-example : map (λ r. held (settle twoPlans (operation twoPlans r) .0) 0)
+    (F (byte "A") (byte "A") (byte "A") ∷ F (byte "B") (byte "A") (byte "A") ∷ F (byte "A") (byte "B") (byte "A") ∷ I (byte "A") (byte "A") ∷ [])
     ≡ some (plan21 (row 1111 11 ∷ row 1112 121 ∷ row 112 1221 ∷ row 12 1222 ∷ [])) ∷ some (plan21 (row 111 1222 ∷ row 112 1221 ∷ row 121 11 ∷ row 122 121 ∷ [])) ∷ some (plan21 (row 1111 122 ∷ row 1112 121 ∷ row 112 111 ∷ row 12 112 ∷ [])) ∷ some (plan21 (row 11 111 ∷ row 121 112 ∷ row 122 12 ∷ [])) ∷ []
-unfolding _>>=_ respond operation admission job kind freshDesk changed slotCount maxChanges followed inverted granted maxPairs maxDigits
+unfolding _>>=_ operation admission job kind freshDesk changed slotCount maxChanges followed inverted granted maxPairs maxDigits
     compose inverse keep normalForm normal joined
 repeated-letters-example = refl

@@ -1,6 +1,7 @@
 -- The arguments, each file after those it leans on. The terms of the statements of specs/Theorems.antt and specs/Cases.antt are in
 -- Columns (bases), Results (what is reduced), MinimalExpansion, Statements (normal form, group, answers), Demand3, Listing, Decimals and
--- Cases; that of specs/Text.antt is in Text; that of specs/Reasons.antt in Reasons; that of specs/Fronts.antt in Fronts; that of
+-- Cases; that of specs/Text.antt is in Text; those of specs/Figures.antt in Figures; that of
+-- specs/Reasons.antt in Reasons; that of specs/Fronts.antt in Fronts; that of
 -- specs/Exercises.antt in Exercises, and the files from Draws on lead to it; that of specs/Shortest.antt in Shortest; that of
 -- specs/Automorphisms.antt is in Automorphisms, and the files from Codes on lead to it.
 pub mod Tests
@@ -15,6 +16,7 @@ pub mod Images
 pub mod Maps
 pub mod Actions
 pub mod Expansions
+pub mod Figures
 pub mod Columns
 pub mod Reasons
 pub mod Ordered

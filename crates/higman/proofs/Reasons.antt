@@ -314,6 +314,8 @@ module _ (s : Shape) (t : Table) where
 pub reasons-exact : ReasonsExact
 reasons-exact =
     record {
+      overlap-number = refl;
+      gap-number = refl;
       overlaps = overlaps;
       gaps = gaps;
       from-overlap = from-overlap;

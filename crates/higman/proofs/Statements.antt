@@ -1,7 +1,7 @@
 -- The statements of specs/Theorems.antt on the normal form, the group's actions and the answers, each as one term.
 use Prim.Native.Nat.{ℕ, suc, _≤_}
 use mathlib.Core.Path.{_≡_, refl, sym, _∙_, ap, subst}
-use mathlib.Core.Logic.{inl, inr, _↔_}
+use mathlib.Core.Logic.{_⊎_, inl, inr, _↔_}
 use mathlib.Core.Bool.{Bool, true, false, _&&_}
 use mathlib.Core.List.{List, [], _∷_, _++_, append-nil, append-assoc, List·Memᴰ, Memᴰ·map, Memᴰ·of-map}
 use mathlib.Core.Option.{Option, none, some, Option·none-ne-some}
@@ -13,10 +13,10 @@ use Rattle.higman.specs.Bases.{Basis, Column, all, overlap, gap}
 use Rattle.higman.specs.Tables.{Pair, Table, froms, tos, image, sameTable}
 use Rattle.higman.specs.Normal.{keep, andThen, compose, inverse, power, Reduced, ordered}
 use Rattle.higman.specs.Limits.{Plan, Bases, Kept, shapeInRange, granted, isCode, maxCode}
-use Rattle.higman.specs.Answers.{Reason, Overlap, Gap, Verdict, Accepted, InFrom, InTo, fault, verdict, accepts, isTableOf, isKept}
+use Rattle.higman.specs.Answers.{Reason, Verdict, Accepted, InFrom, InTo, fault, verdict, accepts, isTableOf, isKept}
 use Rattle.higman.specs.Answers.{followed, Granted, same, Alike, NotCompared, Comparison, sameShape, Route, Image, TooShort, NotRouted, routed}
 use Rattle.higman.specs.Theorems.{NormalForm, GroupActs, AnswersExact, ActAlike}
-use Rattle.higman.proofs.Tests.{so, T-of, and-left, and-right, and-intro, IsWord, word-of-test, same-table, same-table-refl}
+use Rattle.higman.proofs.Tests.{passes, so, T-of, and-left, and-right, and-intro, IsWord, word-of-test, same-table, same-table-refl}
 use Rattle.higman.proofs.Proper.{Proper}
 use Rattle.higman.proofs.Images.{row-of-image, longer-of-none}
 use Rattle.higman.proofs.Expansions.{same-of-apart}
@@ -74,12 +74,12 @@ group-acts =
 
 -- a column of words in which nothing is at fault is a column, and the other way round
 no-fault : (s : Shape) (c : List Word) → fault s c ≡ none → (overlap c ≡ false) × (gap s c ≡ false)
-no-fault s c e = go (overlap c) (gap s c) e
+no-fault s c e = by-tests (passes (overlap c)) (passes (gap s c))
   where
-    go : (a b : Bool) → _≡_ {A = Option Reason} (elim a [ true ↦ some Overlap | false ↦ elim b [ true ↦ some Gap | false ↦ none ] ]) none → (a ≡ false) × (b ≡ false)
-    go true b h = absurd (Option·none-ne-some Overlap (sym h))
-    go false true h = absurd (Option·none-ne-some Gap (sym h))
-    go false false h = (refl, refl)
+    by-tests : (overlap c ≡ true) ⊎ (overlap c ≡ false) → (gap s c ≡ true) ⊎ (gap s c ≡ false) → (overlap c ≡ false) × (gap s c ≡ false)
+    by-tests (inl o) g = absurd (Option·none-ne-some _ (sym (rw (o, fault) at e)))
+    by-tests (inr o) (inl g) = absurd (Option·none-ne-some _ (sym (rw (o, g, fault) at e)))
+    by-tests (inr o) (inr g) = (o, g)
 
 fault-of-column : (s : Shape) (c : List Word) → Column s c → fault s c ≡ none
 fault-of-column s c k = rw (k .apart, k .covers, fault)

@@ -1,6 +1,6 @@
 -- The statements. proofs/ has one term of each: ColumnIsBasis and BasisSize (what it rests on that plans are
 -- accepted exactly when both columns are bases), NormalForm, GroupActs, ResultsReduced, MinimalExpansion, AnswersExact, Demand3, ListingFaithful,
--- SlotsExact and DecimalsExact. They hold for every arity of at least 1 and every number of roots. Read Reasons.antt next.
+-- SlotsExact and DecimalsExact. They hold for every arity of at least 1 and every number of roots. Read Figures.antt next.
 use Prim.Native.Nat.{ℕ, suc, _+_, _*_, _-_, _/_, _%_, _≤_, _<_}
 use mathlib.Core.Path.{_≡_}
 use mathlib.Core.Logic.{_↔_}

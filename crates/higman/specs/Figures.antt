@@ -1,6 +1,6 @@
--- The papers' figures as statements of what the desk uses: `LimitsExact` of the limits and signs, `NumbersNamed` of the refusals. So no
--- name of higman's Limits.antt, Text.antt, Listing.antt and Refusals.antt or of Limits.antt has to be believed. The digits that a field
--- may have stand in `NumbersFit` of Grammar.antt. Read Session.antt next.
+-- The papers' figures as statements: `PlanLimitsExact` says what each limit of a plan and each sign of its text lets pass, `NumbersNamed`
+-- the number of each refusal. So none of the names in Limits.antt, Refusals.antt and Listing.antt has to be believed. Read Reasons.antt
+-- next.
 use Prim.Native.Nat.{ℕ, _+_, _-_, _≤_}
 use mathlib.Core.Path.{_≡_}
 use mathlib.Core.Logic.{_↔_}
@@ -8,23 +8,20 @@ use mathlib.Core.List.{List·Memᴰ}
 use lib.Dec.{T}
 use lib.IntN.{ℤ, natAbs}
 use lib.ListN.{length}
 use Rattle.higman.specs.Words.{Shape, Word, isDigit, isWord}
-use Rattle.higman.specs.Text.{tab, lineEnd}
+use Rattle.higman.specs.Text.{tab, lineEnd, digitByte}
 use Rattle.higman.specs.Tables.{Pair, Table}
 use Rattle.higman.specs.Limits.{shapeInRange, maxPairs, isPlanWord, pairFits, granted, isCode, powerInRange, seedInRange, slotCount}
 use Rattle.higman.specs.Listing.{slotNumber, slotByte, isSlot}
 use Rattle.higman.specs.Refusals.{noRecord, wrongState, shapeOutside, badWord, pairsFull, wordsOverlap, rootUncovered, slotOutside}
 use Rattle.higman.specs.Refusals.{slotEmpty, shapesDiffer, limitBroken, powerOutside, codeTooShort, bufferTooShort, invalidValue}
 use Rattle.higman.specs.Refusals.{countFull, seedOutside}
-use Rattle.desk.specs.Limits.{maxChanges, maxLine}
-use Rattle.desk.specs.Desk.{Desk, countOf}
-use Rattle.desk.specs.Replies.{atLimit}
 
 -- both words of a pair have at most 16 digits
 abbrev pub ShortPair : Pair → Type 0
 ShortPair p = (length (p .from) ≤ 16) × (length (p .to) ≤ 16)
 
-pub record LimitsExact : Type 0 where
+pub record PlanLimitsExact : Type 0 where
   -- "n ways at every switch, 2 to 9, and r belts, 1 to 9"
   pub shapes : (s : Shape) → T (shapeInRange s) ↔ ((2 ≤ s .arity) × (s .arity ≤ 9) × (1 ≤ s .roots) × (s .roots ≤ 9))
   -- "a belt from 1 to r, then ways from 1 to n"
@@ -45,13 +42,10 @@ pub record LimitsExact : Type 0 where
   pub slot-bytes : (b : ℕ) → T (isSlot b) ↔ ((65 ≤ b) × (b ≤ 72))
   pub slot-of-byte : (b : ℕ) → slotNumber b ≡ b - 65
   pub byte-of-slot : (i : ℕ) → slotByte i ≡ 65 + i
-  -- "a count of changes from 0 to 4,000,000,000"; "16, the count is at its limit"
-  pub changes : maxChanges ≡ 4_000_000_000
-  pub full-count : (d : Desk) → T (atLimit d) ↔ (4_000_000_000 ≤ countOf d)
-  -- "fields parted by tabs, lines ended by byte 10", and "⇥ is the tab byte"; "Lines hold at most 1,100 bytes"
+  -- "fields parted by tabs, lines ended by byte 10", and "⇥ is the tab byte"; '0' is 48
   pub tabs : tab ≡ 9
   pub line-ends : lineEnd ≡ 10
-  pub lines : maxLine ≡ 1_100
+  pub digit-bytes : (d : ℕ) → digitByte d ≡ 48 + d
 
 -- the numbers of "When each operation says no" and of change request E3, name by name
 pub record NumbersNamed : Type 0 where

@@ -8,16 +8,14 @@ use native.Mathlib.Omega.{arith}
 use lib.Dec.{T, leb, leb→le, le→leb}
 use lib.IntN.{natAbs}
 use lib.ListN.{length}
 use Rattle.higman.specs.Words.{Shape, isWord}
 use Rattle.higman.specs.Bases.{all}
 use Rattle.higman.specs.Tables.{Pair, Table}
 use Rattle.higman.specs.Limits.{shapeInRange, maxPairs, maxDigits, maxCode, maxPower, isPlanWord, fits, pairFits, granted, isCode}
 use Rattle.higman.specs.Limits.{seedInRange, slotCount}
 use Rattle.higman.specs.Listing.{isSlot}
 use Rattle.higman.proofs.Tests.{and-left, and-right, and-intro, all-at, all-of, digit-of-test, test-of-digit}
-use Rattle.desk.specs.Limits.{maxChanges, maxLine}
-use Rattle.desk.specs.Desk.{countOf}
-use Rattle.desk.specs.Figures.{ShortPair, LimitsExact, NumbersNamed}
+use Rattle.higman.specs.Figures.{ShortPair, PlanLimitsExact, NumbersNamed}
 
 -- a test of an order, and two tests
 order : (a b : ℕ) → T (leb a b) ↔ (a ≤ b)
@@ -49,9 +47,9 @@ slot-bytes b =
     let within = both (leb 65 b) (leb (suc b) 73) (order 65 b) (order (suc b) 73) in
     (λ t. let h = within .0 t in (h .0, omega arith), λ h. within .1 (h .0, omega arith))
 
-pub limits-exact : LimitsExact
-unfolding maxPairs maxDigits maxCode maxPower isPlanWord isCode granted seedInRange slotCount maxChanges maxLine
-limits-exact =
+pub plan-limits-exact : PlanLimitsExact
+unfolding maxPairs maxDigits maxCode maxPower isPlanWord isCode granted seedInRange slotCount
+plan-limits-exact =
     record {
       shapes = shapes;
       digits = λ n i. (digit-of-test n i, test-of-digit n i);
@@ -66,11 +64,9 @@ limits-exact =
       slot-bytes = slot-bytes;
       slot-of-byte = λ b. refl;
       byte-of-slot = λ i. refl;
-      changes = refl;
-      full-count = λ d. order 4_000_000_000 (countOf d);
       tabs = refl;
       line-ends = refl;
-      lines = refl;
+      digit-bytes = λ d. refl;
     }
 
 pub numbers-named : NumbersNamed
