@@ -4,12 +4,13 @@ use Prim.Native.Nat.{ℕ, _≤_, _<_, zero-le}
 use native.Mathlib.Omega.{arith}
 use mathlib.Core.Path.{_≡_, refl, sym, _∙_, ap, subst}
 use mathlib.Core.Bool.{Bool, true, false, not}
-use mathlib.Core.List.{List, [], _∷_, _++_, append-assoc, append-nil}
+use mathlib.Core.Logic.{_↔_}
+use mathlib.Core.List.{List, [], _∷_, _++_, append-assoc, append-nil, List·Memᴰ, Memᴰ·cast}
 use mathlib.Core.Option.{none}
-use borrow.Author.Tests.{not-true}
+use borrow.Author.Tests.{not-true, ne-eqb}
 use lib.Dec.{T, leb, ltb, eqb, leb→le, ltb→lt, nltb→le, not-T}
 use lib.ListN.{length, length-append}
-use Rattle.higman.proofs.Tests.{so, T-of, clash, all-head, all-tail}
+use Rattle.higman.proofs.Tests.{so, T-of, clash, all-head, all-tail, all-at, all-of}
 use Rattle.higman.specs.Text.{lineEnd, Bytes}
 use Rattle.higman.specs.Refusals.{noRecord}
 use Rattle.higman.specs.Listing.{joinLines}
@@ -115,9 +116,19 @@ lines-last b begun (c ∷ line) h =
     rw (inside-first c line h, linesFrom)
     (lines-last b (begun ++ (c ∷ [])) line (inside-rest c line h) ∙ ap (λ l. (b ∷ l) ∷ []) (append-assoc begun (c ∷ []) line))
 
+no-end-within : (line : Bytes) → T (unended line) ↔ (List·Memᴰ 10 line → ⊥)
+no-end-within line = (λ h m. all-at other line h 10 m, λ absent. all-of other line (off absent))
+  where
+    other : ℕ → Bool
+    other b = not (eqb b lineEnd)
+
+    off : (List·Memᴰ 10 line → ⊥) → (b : ℕ) → List·Memᴰ b line → T (other b)
+    off absent b m = T-of (ap not (ne-eqb b 10 (λ e. absent (Memᴰ·cast (sym e) m))))
+
 pub lines-exact : LinesExact
 lines-exact =
     record {
+      no-end-within = no-end-within;
       none-left = refl;
       ended = λ line rest h. lines-ended [] line rest h;
       last = λ b line h. rw (inside-first b line h, linesFrom) (lines-last b [] line (inside-rest b line h));

@@ -1,5 +1,6 @@
--- The library's side (document 01, the end of "When each operation says no"): what a call answers, what a lent buffer holds after it
--- and what became of the desk. 15 comes before every other number and 14 after them. Read Theorems.antt next.
+-- The library's side (document 01, the end of "When each operation says no"): what a call answers, what a lent buffer holds after it and
+-- what became of the desk. 15 comes before every other number and 14 after them. None of it need be believed: `LentCallsExact` says the
+-- same case by case. Read Theorems.antt next.
 use Prim.Native.Nat.{ℕ, _+_}
 use mathlib.Core.Path.{_≡_, refl}
 use mathlib.Core.Bool.{true, false}

@@ -1,5 +1,5 @@
--- Replies as bytes (document 01, "Records"): `ok` or `no`, then fields, parted by tabs, in lines that byte 10 ends. Read
--- Grammar.antt next.
+-- Replies as bytes (document 01, "Records"): `ok` or `no`, then fields, parted by tabs, in lines that byte 10 ends. None of it need be
+-- believed: `RepliesWritten` fixes it. Read Grammar.antt next.
 use mathlib.Core.Path.{_≡_, refl}
 use mathlib.Core.List.{List, [], _∷_, _++_, map}
 use mathlib.Core.Option.{Option, none, some}

@@ -1,8 +1,9 @@
--- "When each operation says no", as a table: for each record the numbers in the paper's order, each with its condition. Demand 1 says
--- of every desk that the first whose condition holds is given, and that the operation is done where none holds.
--- `operation` says the same and what is done besides, with one order for all records and by higman's answers. The table stands beside
--- it to be held against the paper line by line: each number has here its own condition, in the words of the definitions and by itself,
--- so that no number hides in an answer, in a record's kind or behind another step. Read Demands.antt next.
+-- "When each operation says no", as a table: for each record the numbers in the paper's order, each with its condition. Demand 1 says of
+-- every desk that the first whose condition holds is given, and that the operation is done where none holds. `operation` says the same and
+-- what is done besides, with one order for all records and by higman's answers. The table stands beside it to be held against the paper
+-- line by line: each number has here its own condition, in the words of the definitions and by itself, so that no number hides in an
+-- answer, in a record's kind or behind another step. This table is to be believed, with the tests that the theorems of higman fix. Read
+-- Demands.antt next.
 use Prim.Native.Nat.{ℕ}
 use mathlib.Core.Path.{_≡_, refl}
 use mathlib.Core.Bool.{Bool, true, false, _&&_, _||_, not}

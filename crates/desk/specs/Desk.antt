@@ -1,5 +1,6 @@
--- The desk (document 01, "Records"): eight slots, at most one open plan, and the count of changes. What it is to be a desk, and the
--- ways in which a record changes one: a slot is filled or emptied, a plan is opened, gets a pair or is dropped. Read Records.antt next.
+-- The desk (document 01, "Records"): eight slots, at most one open plan, and the count of changes. What it is to be a desk, and the ways in
+-- which a record changes one: a slot is filled or emptied, a plan is opened, gets a pair or is dropped. To be believed: `Desk` and
+-- `IsDesk`. `DeskTest` fixes the test, and `DeskParts` the changes. Read Records.antt next.
 use Prim.Native.Nat.{ℕ, _+_, _≤_, _<_}
 use mathlib.Core.Path.{_≡_, refl}
 use mathlib.Core.Bool.{Bool, true, false, _&&_}

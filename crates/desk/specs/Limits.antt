@@ -1,5 +1,5 @@
--- The limits of the desk, named in this one place; those of plans are in higman's Limits.antt. Everything else speaks of the names.
--- Read Desk.antt next.
+-- The limits of the desk, named in this one place; those of plans are in higman's Limits.antt. Everything else speaks of the names. None of
+-- them need be believed: `LimitsExact` of Demands.antt and `NumbersFit` of Grammar.antt have the figures. Read Desk.antt next.
 use Prim.Native.Nat.{ℕ}
 
 -- "a count of changes from 0 to 4,000,000,000"

@@ -1,6 +1,7 @@
--- The reply to each record, and the desk after it (document 01, "Records" and "When each operation says no"). Each operation is a
--- list of steps: `n when t` refuses with n where t holds, and the first step that refuses ends it. What all records have in common
--- stands around the job of each. The answers about plans are those of higman, with their numbers. Read Bytes.antt next.
+-- The reply to each record, and the desk after it (document 01, "Records" and "When each operation says no"). Each operation is a list of
+-- steps: `n when t` refuses with n where t holds, and the first step that refuses ends it. What all records have in common stands around
+-- the job of each. The answers about plans are those of higman, with their numbers. To be believed: `Reply`. What is replied is fixed:
+-- refusals by `first-condition` of Demand1, the rest by Demand2, the survey's arranging by `SurveyExact`. Read Bytes.antt next.
 use Prim.Native.Nat.{ℕ, suc, _+_}
 use mathlib.Core.Path.{_≡_, refl}
 use mathlib.Core.Bool.{Bool, true, false, _&&_, _||_, not}

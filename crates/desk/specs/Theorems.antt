@@ -95,6 +95,7 @@ SessionFed = (input : Bytes) → fedWhole (idle freshDesk) input ≡ session inp
 
 -- "lines ended by byte 10. A last line without that byte counts if it isn't empty."
 pub record LinesExact : Type 0 where
+  pub no-end-within : (line : Bytes) → T (unended line) ↔ (List·Memᴰ 10 line → ⊥)
   pub none-left : linesFrom [] [] ≡ []
   pub ended : (line rest : Bytes) → T (unended line) → linesFrom [] (line ++ lineEnd ∷ rest) ≡ line ∷ linesFrom [] rest
   pub last : (b : ℕ) (line : Bytes) → T (unended (b ∷ line)) → linesFrom [] (b ∷ line) ≡ (b ∷ line) ∷ []

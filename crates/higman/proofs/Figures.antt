@@ -15,7 +15,7 @@ use Rattle.higman.specs.Limits.{shapeInRange, maxPairs, maxDigits, maxCo
 use Rattle.higman.specs.Limits.{seedInRange, slotCount}
 use Rattle.higman.specs.Listing.{isSlot}
 use Rattle.higman.proofs.Tests.{and-left, and-right, and-intro, all-at, all-of, digit-of-test, test-of-digit}
-use Rattle.higman.specs.Figures.{ShortPair, PlanLimitsExact, NumbersNamed}
+use Rattle.higman.specs.Figures.{ShortPair, PlanLimitsExact, CasesNumbered, NumbersNamed}
 
 -- a test of an order, and two tests
 order : (a b : ℕ) → T (leb a b) ↔ (a ≤ b)
@@ -69,6 +69,23 @@ plan-limits-exact =
       digit-bytes = λ d. refl;
     }
 
+cases-numbered : CasesNumbered
+cases-numbered =
+    record {
+      overlap = refl;
+      gap = refl;
+      bad-code = refl;
+      shapes-differ = refl;
+      limit-broken = refl;
+      power-outside = refl;
+      seed-outside = refl;
+      too-many-pairs = refl;
+      word-too-long = refl;
+      too-short = refl;
+      not-routed = λ r. refl;
+      routed = λ w. refl;
+    }
+
 pub numbers-named : NumbersNamed
 numbers-named =
     record {
@@ -89,4 +106,5 @@ numbers-named =
       fifteen = refl;
       sixteen = refl;
       seventeen = refl;
+      cases = cases-numbered;
     }

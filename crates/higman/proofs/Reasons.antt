@@ -218,7 +218,7 @@ gaps : (s : Shape) → 1 ≤ s .arity → (c : List Word) → T (all (isWord s) 
 gaps s nonzero c words = (open-of-gap s c words, gap-of-open s nonzero c)
 
 not-overlapping : (c : List Word) → (overlap c ≡ false) ↔ (Overlapping c → ⊥)
-not-overlapping c = (λ e o. clash (test-of-overlapping c o) e, λ none. fails (overlap c) (λ e. none (overlapping-of-test c e)))
+not-overlapping c = (λ e o. clash (test-of-overlapping c o) e, λ apart. fails (overlap c) (λ e. apart (overlapping-of-test c e)))
 
 -- what is wrong with a column, by its two tests
 data Fault (s : Shape) (c : List Word) : Option Reason → Type 0 where
@@ -314,8 +314,6 @@ module _ (s : Shape) (t : Table) where
 pub reasons-exact : ReasonsExact
 reasons-exact =
     record {
-      overlap-number = refl;
-      gap-number = refl;
       overlaps = overlaps;
       gaps = gaps;
       from-overlap = from-overlap;

@@ -1,6 +1,7 @@
 -- What the calls answer: the verdict on two columns, and a granted plan or a refusal for F, I, K, S and the library's route, which W asks
--- too; X's answer is in Exercises.antt. Each refusal has its number of Refusals.antt. The contracts of the calls cite these answers. Read
--- Listing.antt next.
+-- too; X's answer is in Exercises.antt. Each refusal has its number of Refusals.antt. The contracts of the calls cite these answers. To be
+-- believed: the names of the answers. What is answered is fixed: the verdict by `ReasonsExact`, the plans by `Demand3` and
+-- `AnswersAreElements`, the other refusals by `AnswersExact`. Read Listing.antt next.
 use Prim.Native.Nat.{ℕ, zero, suc}
 use mathlib.Core.Path.{_≡_, refl}
 use mathlib.Core.Bool.{Bool, true, false, _&&_}

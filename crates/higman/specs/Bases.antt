@@ -1,5 +1,6 @@
--- Bases (document 004, section 3): expansions of the roots, and what document 01 tests instead, that no word begins another and
--- that each belt is covered. That the two say the same is the theorem `ColumnIsBasis` of Theorems.antt. Read Tables.antt next.
+-- Bases (document 004, section 3): expansions of the roots, and what document 01 tests instead, that no word begins another and that each
+-- belt is covered. That the two say the same is the theorem `ColumnIsBasis` of Theorems.antt. To be believed: `Basis` and what it is made
+-- of. The tests, from `covered` to `overlap`, need not be: `ColumnIsBasis` and `ReasonsExact` fix them. Read Tables.antt next.
 use Prim.Native.Nat.{ℕ, zero, suc, max}
 use mathlib.Core.Path.{_≡_, refl}
 use mathlib.Core.Bool.{Bool, true, false, _&&_, _||_, not}

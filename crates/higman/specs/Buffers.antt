@@ -1,5 +1,6 @@
--- A buffer that a call is lent to write its output into (document 01, the end of "When each operation says no"). The calls of plans
--- and those of the desk say what they leave in it by these definitions. Read Theorems.antt next.
+-- A buffer that a call is lent to write its output into (document 01, the end of "When each operation says no"). The calls of plans and
+-- those of the desk say what they leave in it by these definitions. To be believed: `written`; `LentCallsExact` of desk says when. Read
+-- Theorems.antt next.
 use Prim.Native.Nat.{ℕ, _+_}
 use mathlib.Core.Path.{_≡_, refl}
 use mathlib.Core.Bool.{true, false}

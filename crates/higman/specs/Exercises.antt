@@ -1,7 +1,8 @@
 -- Plans made by numbers (change request E3, "Load to exercise a new line"): the draws of a generator choose where the belts are split and
 -- how the to-words are shuffled, so that anyone makes the same plan again from its shape, a number of splits and a seed. What the
 -- definitions say by the number of draws, `ExerciseMade` says again draw by draw, in the order of the request, and `ExercisesExact` states
--- that the two agree, that both columns are bases, and that E would accept them. Read Shortest.antt next.
+-- that the two agree, that both columns are bases, and that E would accept them. So X's making need not be believed, but `ExerciseMade`.
+-- Read Shortest.antt next.
 use Prim.Native.Nat.{ℕ, zero, suc, _+_, _*_, _-_, _%_, _≤_, _<_}
 use mathlib.Core.Path.{_≡_, refl}
 use mathlib.Core.Bool.{true, false}

@@ -1,10 +1,11 @@
 -- The papers' figures as statements: `PlanLimitsExact` says what each limit of a plan and each sign of its text lets pass, `NumbersNamed`
--- the number of each refusal. So none of the names in Limits.antt, Refusals.antt and Listing.antt has to be believed. Read Reasons.antt
--- next.
+-- the number of each refusal and of each case of an answer. So none of the names in Limits.antt, Refusals.antt and Listing.antt has to be
+-- believed. Read Reasons.antt next.
 use Prim.Native.Nat.{ℕ, _+_, _-_, _≤_}
 use mathlib.Core.Path.{_≡_}
 use mathlib.Core.Logic.{_↔_}
 use mathlib.Core.List.{List·Memᴰ}
+use mathlib.Core.Option.{none, some}
 use lib.Dec.{T}
 use lib.IntN.{ℤ, natAbs}
 use lib.ListN.{length}
@@ -16,6 +17,8 @@ use Rattle.higman.specs.Listing.{slotNumber, slotByte, isSlot}
 use Rattle.higman.specs.Refusals.{noRecord, wrongState, shapeOutside, badWord, pairsFull, wordsOverlap, rootUncovered, slotOutside}
 use Rattle.higman.specs.Refusals.{slotEmpty, shapesDiffer, limitBroken, powerOutside, codeTooShort, bufferTooShort, invalidValue}
 use Rattle.higman.specs.Refusals.{countFull, seedOutside}
+use Rattle.higman.specs.Answers.{Overlap, Gap, reasonNumber, Refusal, BadCode, ShapesDiffer, LimitBroken, PowerOutside, SeedOutside}
+use Rattle.higman.specs.Answers.{TooManyPairs, WordTooLong, refusalNumber, Image, TooShort, NotRouted, routeNumber}
 
 -- both words of a pair have at most 16 digits
 abbrev pub ShortPair : Pair → Type 0
@@ -47,6 +50,21 @@ pub record PlanLimitsExact : Type 0 where
   pub line-ends : lineEnd ≡ 10
   pub digit-bytes : (d : ℕ) → digitByte d ≡ 48 + d
 
+-- the numbers of the answers, case by case
+pub record CasesNumbered : Type 0 where
+  pub overlap : reasonNumber Overlap ≡ 6
+  pub gap : reasonNumber Gap ≡ 7
+  pub bad-code : refusalNumber BadCode ≡ 4
+  pub shapes-differ : refusalNumber ShapesDiffer ≡ 10
+  pub limit-broken : refusalNumber LimitBroken ≡ 11
+  pub power-outside : refusalNumber PowerOutside ≡ 12
+  pub seed-outside : refusalNumber SeedOutside ≡ 17
+  pub too-many-pairs : refusalNumber TooManyPairs ≡ 5
+  pub word-too-long : refusalNumber WordTooLong ≡ 4
+  pub too-short : routeNumber TooShort ≡ some 13
+  pub not-routed : (r : Refusal) → routeNumber (NotRouted r) ≡ some (refusalNumber r)
+  pub routed : (w : Word) → routeNumber (Image w) ≡ none
+
 -- the numbers of "When each operation says no" and of change request E3, name by name
 pub record NumbersNamed : Type 0 where
   pub one : noRecord ≡ 1
@@ -66,3 +84,4 @@ pub record NumbersNamed : Type 0 where
   pub fifteen : invalidValue ≡ 15
   pub sixteen : countFull ≡ 16
   pub seventeen : seedOutside ≡ 17
+  pub cases : CasesNumbered

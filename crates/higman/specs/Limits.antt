@@ -1,5 +1,6 @@
--- The limits of document 01 and of change request E3, named in this one place, and the plans that keep to them. Everything before and
--- after speaks of the names; only here are they numbers. Read Refusals.antt next.
+-- The limits of document 01 and of change request E3, named in this one place, and the plans that keep to them. Everything before and after
+-- speaks of the names; only here are they numbers. To be believed: `Plan`, `Bases` and `Kept`; `PlanLimitsExact` of Figures.antt fixes the
+-- limits and their tests. Read Refusals.antt next.
 use Prim.Native.Nat.{ℕ}
 use mathlib.Core.Path.{_≡_, refl}
 use mathlib.Core.Bool.{Bool, true, false, _&&_}

@@ -1,4 +1,6 @@
--- The listing of a plan as P, M and E records, in bytes (document 01, "Records"), and the bytes that name slots. Read Buffers.antt next.
+-- The listing of a plan as P, M and E records, in bytes (document 01, "Records"), and the bytes that name slots. None of it need be
+-- believed: `ListingReadBack` of desk and `ListingFaithful` fix the lines, `PlanLimitsExact` and `SlotsExact` the slots. Read Buffers.antt
+-- next.
 use Prim.Native.Nat.{ℕ, suc, _+_, _-_}
 use mathlib.Core.Path.{_≡_, refl}
 use mathlib.Core.Bool.{Bool, true, false, _&&_}

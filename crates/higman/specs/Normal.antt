@@ -1,5 +1,7 @@
--- The reduced, ordered plan of a map on blocks, and the group that these plans form (document 01, "Plans"; document 004,
--- section 4 to Lemma 4.3). No limit appears here: the numbers of pairs and digits are free. Read Limits.antt next.
+-- The reduced, ordered plan of a map on blocks, and the group that these plans form (document 01, "Plans"; document 004, section 4 to Lemma
+-- 4.3). No limit appears here: the numbers of pairs and digits are free. To be believed: `Join`, `Reduced`, `ordered` and `andThen`. From
+-- `normal` to `power` nothing need be: `NormalForm`, `Demand3`, `MinimalExpansion`, `PlansAreAutomorphisms` and `AnswersAreElements` fix
+-- them. Read Limits.antt next.
 use Prim.Native.Nat.{ℕ, zero, suc, _+_}
 use mathlib.Core.Path.{_≡_, refl}
 use mathlib.Core.Bool.{Bool, true, false, _&&_, _||_}

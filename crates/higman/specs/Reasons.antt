@@ -12,7 +12,7 @@ use lib.ListN.{length, getD}
 use Rattle.higman.specs.Words.{Shape, Word, isWord, spell}
 use Rattle.higman.specs.Bases.{Basis, all, gap, overlap}
 use Rattle.higman.specs.Tables.{Table, froms, tos}
-use Rattle.higman.specs.Answers.{Overlap, Gap, InFrom, InTo, reasonNumber, verdict}
+use Rattle.higman.specs.Answers.{Overlap, Gap, InFrom, InTo, verdict}
 
 -- "6, one word begins or equals another": two places of the column, counted from 0, and what the word at the second has behind the word
 -- at the first. Equal words at two places have nothing there.
@@ -44,8 +44,6 @@ pub record WordsOf (s : Shape) (t : Table) : Type 0 where
   pub to-words : T (all (isWord s) (tos t))
 
 pub record ReasonsExact : Type 0 where
-  pub overlap-number : reasonNumber Overlap ≡ 6
-  pub gap-number : reasonNumber Gap ≡ 7
   pub overlaps : (c : List Word) → (overlap c ≡ true) ↔ Overlapping c
   pub gaps : (s : Shape) → 1 ≤ s .arity → (c : List Word) → T (all (isWord s) c) → (gap s c ≡ true) ↔ OpenBlock s c
   -- "two checks, both made of the from column and after that both of the to column": the to column is looked at where the from column is

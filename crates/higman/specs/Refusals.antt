@@ -1,5 +1,6 @@
 -- The numbers of the refusals, each named in this one place beside its condition in the words of document 01 or of a change request, and
--- the letters of the two columns. Definitions, promises and code speak of the names. Read Answers.antt next.
+-- the letters of the two columns. Definitions, promises and code speak of the names. The numbers need not be believed: `NumbersNamed` of
+-- Figures.antt has them one by one. Read Answers.antt next.
 use Prim.Native.Nat.{ℕ}
 use mathlib.Core.Path.{_≡_, refl}
 use mathlib.Core.List.{[], _∷_, map}

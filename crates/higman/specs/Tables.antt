@@ -1,5 +1,6 @@
--- Tables of pairs and their action on codes (document 01, "Plans"). A table is a partial map on blocks: it gives the image of
--- each block that one of its from-words begins. Read Normal.antt next.
+-- Tables of pairs and their action on codes (document 01, "Plans"). A table is a partial map on blocks: it gives the image of each block
+-- that one of its from-words begins. To be believed: `Table` and `image`; that a plan's action is that of an automorphism is
+-- `PlansAreAutomorphisms`. Read Normal.antt next.
 use Prim.Native.Nat.{ℕ, suc}
 use mathlib.Core.Path.{_≡_, refl}
 use mathlib.Core.Bool.{Bool, true, false, _&&_}

@@ -1,6 +1,7 @@
--- Text as bytes: the letters and lines of document 01 written as they are read, and words as the digits that spell them, with the
--- statement that reads a digit's byte by cases. Every text here is plain ASCII, where a character's code is its byte. Read Bases.antt
--- next.
+-- Text as bytes: the letters and lines of document 01 written as they are read, and words as the digits that spell them, with the statement
+-- that reads a digit's byte by cases. Every text here is plain ASCII, where a character's code is its byte. To be believed is only that;
+-- theorems fix the rest: `PlanLimitsExact` the signs, `DecimalsExact` numbers in decimal, `DigitsByCases` and `ListingFaithful` the digits
+-- of words. Read Bases.antt next.
 use Prim.Native.Nat.{ℕ, suc, _+_, _*_, _-_}
 use Prim.Native.Char.{Char, code}
 use Prim.Native.String.{String, [] as empty, _∷_ as _before_}

@@ -1,5 +1,5 @@
--- Shapes and words (document 01, "Codes"; document 004, section 3): a word is a root and then ways. What it is for one word to
--- begin another, and the tail that is then left. Read Text.antt next.
+-- Shapes and words (document 01, "Codes"; document 004, section 3): a word is a root and then ways. What it is for one word to begin
+-- another, and the tail that is then left. All of it is to be believed; `PlanLimitsExact` has the digits in figures. Read Text.antt next.
 use Prim.Native.Nat.{ℕ, zero, suc, _/_, _%_}
 use mathlib.Core.Path.{_≡_, refl}
 use mathlib.Core.Bool.{Bool, true, false, _&&_}
