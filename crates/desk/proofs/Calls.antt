@@ -12,6 +12,7 @@ use Rattle.higman.specs.Refusals.{bufferTooShort, invalidValue, Letter}
 use Rattle.higman.specs.Buffers.{written, ifRoom}
 use Rattle.higman.proofs.Tests.{so, T-of}
 use Rattle.higman.specs.Text.{Bytes}
+use Rattle.higman.proofs.Buffers.{only-output-changes}
 use Rattle.desk.specs.Desk.{Desk, IsDesk, isDesk, dropped}
 use Rattle.desk.specs.Replies.{Reply, Outcome, refuse, pass, _>>=_, Effect, settle}
 use Rattle.desk.specs.Bytes.{replyBytes}
@@ -132,6 +133,7 @@ lent-calls-exact =
       refused = λ d work buffer n c h e. call-on-desk d work buffer h ∙ ap (λ o. onDesk d o buffer) e ∙ stopped d n c buffer;
       no-room = λ d work buffer e h p k. call-on-desk d work buffer h ∙ ap (λ o. onDesk d o buffer) p ∙ no-room d e buffer k;
       done = λ d work buffer e h p k. call-on-desk d work buffer h ∙ ap (λ o. onDesk d o buffer) p ∙ done d e buffer k;
+      only-output = only-output-changes;
       buffer-held = λ d work buffer n c e. call-sound d work buffer .held (subst IsRefusal (sym e) tt);
       buffer-length = λ d work buffer. call-sound d work buffer .same-length;
       plain-no-desk = λ d work h. plain-no-desk d work (desk-false d h);

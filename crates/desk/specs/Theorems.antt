@@ -20,7 +20,7 @@ use Rattle.higman.specs.Answers.{isTableOf, followed, Granted}
 use Rattle.higman.specs.Fronts.{BlockOf, SendsInTurn}
 use Rattle.higman.specs.Shortest.{ActsAs, NotShorter}
 use Rattle.higman.specs.Listing.{slotNumber, slotByte, isSlot, openRecord, pairRecords, joinLines}
-use Rattle.higman.specs.Buffers.{written}
+use Rattle.higman.specs.Buffers.{written, OnlyOutputChanges}
 use Rattle.desk.specs.Limits.{maxChanges}
 use Rattle.desk.specs.Desk.{Desk, countOf, held, IsDesk, isDesk, freshDesk, changed, withDraft, dropped}
 use Rattle.desk.specs.Records.{Record, P, M, E, W, L, U, recordText, wellFormed}
@@ -190,6 +190,7 @@ pub record LentCallsExact : Type 0 where
       → length (replyBytes (e .1)) ≤ length buffer
       → let output = replyBytes (e .1) in lentCall d work buffer
       ≡ (e .0, record { buffer = written buffer 0 output; answer = pass (length output) })
+  pub only-output : OnlyOutputChanges
   -- "a lent buffer then holds what it held before", at any refusal; and a buffer keeps its length at any answer
   pub buffer-held : (d : Desk) (work : Work) (buffer : Bytes) (n : ℕ) (c : Option Letter)
       → lentCall d work buffer .1 .answer ≡ refuse n c → lentCall d work buffer .1 .buffer ≡ buffer

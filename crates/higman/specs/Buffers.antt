@@ -1,6 +1,6 @@
 -- A buffer that a call is lent to write its output into (document 01, the end of "When each operation says no"). The calls of plans and
--- those of the desk say what they leave in it by these definitions. To be believed: `written`; `LentCallsExact` of desk says when. Read
--- Theorems.antt next.
+-- those of the desk say what they leave in it by these definitions. None of it need be believed: `OnlyOutputChanges` says what is written,
+-- and `LentCallsExact` of desk when. Read Theorems.antt next.
 use Prim.Native.Nat.{ℕ, _+_}
 use mathlib.Core.Path.{_≡_, refl}
 use mathlib.Core.Bool.{true, false}
@@ -21,6 +21,12 @@ ifRoom size room done short = elim (leb size room) [ true ↦ done | false ↦ s
 -- what it held before".
 abbrev pub lentInto : Bytes → Bytes → Bytes
 lentInto output buffer = ifRoom (length output) (length buffer) (written buffer 0 output) buffer
+
+-- "On success only the bytes of the output change": where as many bytes stood before, and all others stay.
+abbrev pub OnlyOutputChanges : Type 0
+OnlyOutputChanges =
+    (front old rest output : Bytes) → length old ≡ length output
+    → written (front ++ (old ++ rest)) (length front) output ≡ front ++ (output ++ rest)
 
 written-example : written (7 ∷ 7 ∷ 7 ∷ 7 ∷ []) 1 (49 ∷ 50 ∷ []) ≡ 7 ∷ 49 ∷ 50 ∷ 7 ∷ []
 written-example = refl
