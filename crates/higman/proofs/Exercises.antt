@@ -1,5 +1,5 @@
 -- The term of the statement of specs/Exercises.antt: plans made by numbers are made as the request says, and both their columns are bases.
-use Prim.Native.Nat.{ℕ, suc, _+_, _*_, _-_, _≤_, _<_}
+use Prim.Native.Nat.{ℕ, suc, _+_, _*_, _-_, _%_, _≤_, _<_}
 use mathlib.Core.Path.{_≡_, refl, sym, _∙_, ap, subst}
 use mathlib.Core.Bool.{Bool, true, false}
 use mathlib.Core.List.{List, [], _∷_, List·Permᴰ, Permᴰ·refl}
@@ -12,7 +12,7 @@ use Rattle.higman.specs.Bases.{rootWords, all, longest}
 use Rattle.higman.specs.Tables.{Table, froms, tos}
 use Rattle.higman.specs.Limits.{Plan, Bases, Kept, shapeInRange, seedInRange, granted, pairFits, maxPairs, maxDigits}
 use Rattle.higman.specs.Answers.{verdict, Accepted, Answer, Granted, Refused, SeedOutside, TooManyPairs, WordTooLong}
-use Rattle.higman.specs.Exercises.{drawn, fromColumn, unshuffled, toColumn, paired, exercised, exercisePlan, exercise}
+use Rattle.higman.specs.Exercises.{nextDraw, drawn, fromColumn, unshuffled, toColumn, paired, exercised, exercisePlan, exercise}
 use Rattle.higman.specs.Exercises.{Splits, ExerciseMade, ExercisesExact}
 use Rattle.higman.proofs.Tests.{so, T-of, and-intro}
 use Rattle.higman.proofs.Columns.{column-is-basis}
@@ -193,9 +193,14 @@ kept s range k seed p e =
     let bases = exercised-bases s (arity-of-range s range) (in-range s range .roots-low) k seed in
     subst Kept (sym is) (answers-exact .keeps s range (exercised s k seed) bases within)
 
+next-draw : (x : ℕ) → drawn x 1 ≡ 16_807 * x % 2_147_483_647
+unfolding drawn nextDraw
+next-draw x = refl
+
 pub exercises-exact : ExercisesExact
 exercises-exact =
     record {
+      next-draw = next-draw;
       draws = draws-in-range;
       made = exercised-made;
       determined = determined;

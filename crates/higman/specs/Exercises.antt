@@ -127,6 +127,8 @@ pub record ExerciseMade (s : Shape) (k seed : ℕ) (t : Table) : Type 0 where
   pub shuffle : Shuffle to-draw to-words (length to-words - 1) (tos t)
 
 pub record ExercisesExact : Type 0 where
+  -- "16807 times the last, modulo 2147483647", here too in figures
+  pub next-draw : (x : ℕ) → drawn x 1 ≡ 16_807 * x % 2_147_483_647
   -- every draw is a seed in range again, for a seed in range
   pub draws : (seed : ℕ) → T (seedInRange seed) → (i : ℕ) → T (seedInRange (drawn seed i))
   -- the plan is made as the request says, and no other table is
