@@ -1,0 +1,2 @@
+-- One term of each statement.
+pub mod Theorems
