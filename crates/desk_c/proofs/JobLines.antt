@@ -4,7 +4,7 @@ use Prim.Native.Nat.{ℕ, suc, _^_, _≤_, _<_}
 use mathlib.Core.Path.{_≡_, refl, sym, _∙_, ap, subst}
 use mathlib.Core.Logic.{_⊎_, inl, inr}
 use mathlib.Core.Bool.{Bool, true, false, _&&_}
-use mathlib.Core.List.{List, [], _∷_, _++_}
+use mathlib.Core.List.{List, [], _∷_, _++_, List·Memᴰ, List·Memᴰ·head, List·Memᴰ·tail}
 use mathlib.Core.Option.{Option, none, some, Option·none-ne-some}
 use native.Mathlib.Omega.{arith}
 use borrow.Author.Tests.{leb-true, leb-false, eqb-true}
@@ -14,7 +14,7 @@ use lib.ListN.{length, length-append}
 use Rattle.higman.specs.Words.{Shape, spelled}
 use Rattle.higman.specs.Bases.{all}
 use Rattle.higman.specs.Limits.{Plan, shapeInRange, seedInRange, powerInRange, maxPower}
-use Rattle.higman.specs.Text.{Bytes, tab, byte, decimal}
+use Rattle.higman.specs.Text.{Bytes, tab, byte, bytes, decimal}
 use Rattle.higman.specs.Refusals.{noRecord, shapeOutside, powerOutside, Letter}
 use Rattle.higman.specs.Listing.{isSlot}
 use Rattle.higman.specs.Exercises.{exercise}
@@ -65,6 +65,37 @@ job-record U j h = absurd h
 job-record (X a n r s seed) j (l, x, y, z, u, w, few) =
     (λ i. jobRecord (record { letter = l i; a = x i; b = y i; c = z i; k = j .k; seed = w i; splits = u i }))
     ∙ ap (exerciseBy (X a n r s seed)) (few-splits s few)
+
+-- its letter is one of nine, and the splits of X have two digits at most
+pub letter-known : (r : Record) (j : Job) → IsJobOf r j → List·Memᴰ (j .letter) (bytes "PEFIKSCTX")
+letter-known (P a n r) j h = List·Memᴰ·head (h .0)
+letter-known (M from to) j h = absurd h
+letter-known E j h = List·Memᴰ·tail (List·Memᴰ·head h)
+letter-known (F a b c) j h = List·Memᴰ·tail (List·Memᴰ·tail (List·Memᴰ·head (h .0)))
+letter-known (I a c) j h = List·Memᴰ·tail (List·Memᴰ·tail (List·Memᴰ·tail (List·Memᴰ·head (h .0))))
+letter-known (K a k c) j h = List·Memᴰ·tail (List·Memᴰ·tail (List·Memᴰ·tail (List·Memᴰ·tail (List·Memᴰ·head (h .0)))))
+letter-known (S a b) j h = List·Memᴰ·tail (List·Memᴰ·tail (List·Memᴰ·tail (List·Memᴰ·tail (List·Memᴰ·tail (List·Memᴰ·head (h .0))))))
+letter-known (W a code) j h = absurd h
+letter-known (L a) j h = absurd h
+letter-known (C a) j h = List·Memᴰ·tail (List·Memᴰ·tail (List·Memᴰ·tail (List·Memᴰ·tail (List·Memᴰ·tail (List·Memᴰ·tail (List·Memᴰ·head (h .0)))))))
+letter-known Tᴿ j h = List·Memᴰ·tail (List·Memᴰ·tail (List·Memᴰ·tail (List·Memᴰ·tail (List·Memᴰ·tail (List·Memᴰ·tail (List·Memᴰ·tail (List·Memᴰ·head h)))))))
+letter-known U j h = absurd h
+letter-known (X a n r s seed) j h = List·Memᴰ·tail (List·Memᴰ·tail (List·Memᴰ·tail (List·Memᴰ·tail (List·Memᴰ·tail (List·Memᴰ·tail (List·Memᴰ·tail (List·Memᴰ·tail (List·Memᴰ·head (h .0)))))))))
+
+pub splits-few : (r : Record) (j : Job) → IsJobOf r j → j .letter ≡ byte "X" → j .splits ≤ 99
+splits-few (P a n r) j h e = absurd (omega arith)
+splits-few (M from to) j h e = absurd h
+splits-few E j h e = absurd (omega arith)
+splits-few (F a b c) j h e = absurd (omega arith)
+splits-few (I a c) j h e = absurd (omega arith)
+splits-few (K a k c) j h e = absurd (omega arith)
+splits-few (S a b) j h e = absurd (omega arith)
+splits-few (W a code) j h e = absurd h
+splits-few (L a) j h e = absurd h
+splits-few (C a) j h e = absurd (omega arith)
+splits-few Tᴿ j h e = absurd (omega arith)
+splits-few U j h e = absurd h
+splits-few (X a n r s seed) j h e = omega arith
 
 -- and no other job is a record
 module _ (j : Job) where

@@ -4,7 +4,7 @@
 use Prim.Native.Nat.{ℕ, _≤_, _<_}
 use mathlib.Core.Path.{_≡_, refl}
 use mathlib.Core.Bool.{false}
-use mathlib.Core.List.{[], _∷_, _++_, map}
+use mathlib.Core.List.{[], _∷_, _++_, map, List·Memᴰ}
 use mathlib.Core.Option.{Option, none, some}
 use native.Mathlib.Omega.{arith}
 use lib.Dec.{T as So}
@@ -102,8 +102,11 @@ pub record DoneAsLine (j : Job) (line : Bytes) (v : Desk) (out : Bytes) : Type 0
 -- `desk_do`: 15, then 1 for what is no record's job, else what the line of its record is answered, with nothing written and so no 14.
 pub record JobsExact : Type 0 where
   pub no-desk : (j : Job) (v : Desk) → isDeskValue v ≡ false → JobRefused j v v 15 0
-  -- "1, unknown letter": no record without text has this job
+  -- "1, unknown letter" or "a field form": no record has this job, by its letter or since it is X with splits of three digits
   pub no-record : (j : Job) (v : Desk) → TakenForDesk v → ((r : Record) → IsJobOf r j → ⊥) → JobRefused j v (planDropped v) 1 0
+  pub unknown-letter : (j : Job) (v : Desk) → TakenForDesk v → (List·Memᴰ (j .letter) (bytes "PEFIKSCTX") → ⊥)
+      → JobRefused j v (planDropped v) 1 0
+  pub many-splits : (j : Job) (v : Desk) → TakenForDesk v → j .letter ≡ byte "X" → 99 < j .splits → JobRefused j v (planDropped v) 1 0
   pub as-line : (r : Record) (j : Job) (v : Desk) (out : Bytes) → IsJobOf r j → So (wellFormed r) → TakenForDesk v
       → (served (recordText r) v out .answer .number ≡ 14 → ⊥) → DoneAsLine j (recordText r) v out
   -- a job of numbers that no line has digits for is refused as its record is: n of 10 with 3, k of 10000 with 12
