@@ -35,13 +35,13 @@ use Rattle.desk_c.specs.declared.serving.Served.{Served}
 use Rattle.desk_c.specs.declared.serving.Worked.{Worked}
 use Rattle.desk_c.specs.Calls.{columnByte, replyNumber, doneOf, jobRecord, jobWork, lineCall, lentOf, served, bufferAfter, plainOf}
 use Rattle.desk_c.specs.Calls.{worked}
-use Rattle.desk_c.specs.CallsExact.{TakenForDesk, planDropped, LineRefused, LineDone, LinesNumbered, IsJobOf, JobRefused}
+use Rattle.desk_c.specs.CallsExact.{TakenForDesk, planDropped, UnservedLine, ServedLine, LinesNumbered, IsJobOf, JobRefused}
 use Rattle.desk_c.specs.CallsExact.{writtenReply, okLineOf, DoneAsLine, JobsExact, DeskCallsExact}
 use Rattle.desk_c.proofs.JobLines.{job-record, Read, record-of-job, text-short, done-well-formed, Plain, replies-plainly}
 use Rattle.desk_c.proofs.JobLines.{letter-known, splits-few, refusal-positive}
 
 -- no desk
-no-desk-line : (line : Bytes) (v : Desk) (out : Bytes) → isDeskValue v ≡ false → LineRefused line v out v 15 0
+no-desk-line : (line : Bytes) (v : Desk) (out : Bytes) → isDeskValue v ≡ false → UnservedLine line v out v 15 0
 unfolding served bufferAfter
 no-desk-line line v out e = record { call = rw (e, served); buffer = rw (e, bufferAfter) }
 
@@ -69,7 +69,7 @@ module _ (v : Desk) (t : TakenForDesk v) where
   worked-by j = rw (so (isDeskValue v) (t .passes), worked)
 
   module _ (line out : Bytes) where
-    line-refused : (n : ℕ) (c : Option Letter) → lineOperation d line ≡ refuse n c → LineRefused line v out (planDropped v) n (columnByte c)
+    line-refused : (n : ℕ) (c : Option Letter) → lineOperation d line ≡ refuse n c → UnservedLine line v out (planDropped v) n (columnByte c)
     line-refused n c e =
         let call = lent-calls-exact .refused d (λ x. lineOperation x line) out n c is-desk e in
         record { call = served-by line out ∙ ap lentOf call; buffer = buffer-by line out ∙ ap (λ x. x .1 .buffer) call }
@@ -78,12 +78,12 @@ module _ (v : Desk) (t : TakenForDesk v) where
       abbrev output : Bytes
       output = replyBytes (e .1)
 
-      line-without-room : length out < length output → LineRefused line v out (planDropped v) 14 0
+      line-without-room : length out < length output → UnservedLine line v out (planDropped v) 14 0
       line-without-room h =
           let call = lent-calls-exact .no-room d (λ x. lineOperation x line) out e is-desk p h in
           record { call = served-by line out ∙ ap lentOf call; buffer = buffer-by line out ∙ ap (λ x. x .1 .buffer) call }
 
-      line-done : length output ≤ length out → LineDone line v out (packedDesk (e .0)) output
+      line-done : length output ≤ length out → ServedLine line v out (packedDesk (e .0)) output
       line-done h =
           let call = lent-calls-exact .done d (λ x. lineOperation x line) out e is-desk p h in
           let behind : 0 + length output ≡ length output = omega arith in
@@ -181,7 +181,7 @@ no-value-of-line (refuses n c) h = refl
 
 -- a job beside a line: both refused, or both done
 module _ (j : Job) (line : Bytes) (v : Desk) (out : Bytes) where
-  both-refused : (left : Desk) (n c : ℕ) → JobRefused j v left n c → LineRefused line v out left n c → DoneAsLine j line v out
+  both-refused : (left : Desk) (n c : ℕ) → JobRefused j v left n c → UnservedLine line v out left n c → DoneAsLine j line v out
   both-refused left n c w l =
       let nothing : writtenReply line v out ≡ [] = ap (λ (s : Served). take (s .answer .length) (bufferAfter line v out)) (l .call) in
       record {
@@ -194,7 +194,7 @@ module _ (j : Job) (line : Bytes) (v : Desk) (out : Bytes) where
 
   both-done : (d : DeskOf) (e : Effect) → Plain d (e .1)
       → worked (jobWork j) v ≡ record { desk = packedDesk (e .0); answer = doneOf (pass (e .1)) }
-      → LineDone line v out (packedDesk (e .0)) (replyBytes (e .1)) → DoneAsLine j line v out
+      → ServedLine line v out (packedDesk (e .0)) (replyBytes (e .1)) → DoneAsLine j line v out
   both-done d e plain w l =
       let reply : writtenReply line v out ≡ replyBytes (e .1) =
       ap (λ (s : Served). take (s .answer .length) (bufferAfter line v out)) (l .call) ∙ l .front in

@@ -31,12 +31,12 @@ abbrev pub planDropped : Desk → Desk
 planDropped v = packedDesk (dropped (deskIn v))
 
 -- a line is refused: what is left of the desk, the number, the column; "a lent buffer then holds what it held before"
-pub record LineRefused (line : Bytes) (v : Desk) (out : Bytes) (left : Desk) (number column : ℕ) : Type 0 where
+pub record UnservedLine (line : Bytes) (v : Desk) (out : Bytes) (left : Desk) (number column : ℕ) : Type 0 where
   pub call : served line v out ≡ record { desk = left; answer = record { number = number; column = column; length = 0 } }
   pub buffer : bufferAfter line v out ≡ out
 
 -- a line is done: "only the bytes of the output change", at the front of the buffer
-pub record LineDone (line : Bytes) (v : Desk) (out : Bytes) (left : Desk) (output : Bytes) : Type 0 where
+pub record ServedLine (line : Bytes) (v : Desk) (out : Bytes) (left : Desk) (output : Bytes) : Type 0 where
   pub call : served line v out ≡ record { desk = left; answer = record { number = 0; column = 0; length = length output } }
   pub front : take (length output) (bufferAfter line v out) ≡ output
   pub rest : drop (length output) (bufferAfter line v out) ≡ drop (length output) out
@@ -44,14 +44,14 @@ pub record LineDone (line : Bytes) (v : Desk) (out : Bytes) (left : Desk) (outpu
 -- `desk_line`: 15, then what the line is refused with, then 14, else it is done.
 pub record LinesNumbered : Type 0 where
   -- "15 before all these: .. such a desk .. is left as it came"
-  pub no-desk : (line : Bytes) (v : Desk) (out : Bytes) → isDeskValue v ≡ false → LineRefused line v out v 15 0
+  pub no-desk : (line : Bytes) (v : Desk) (out : Bytes) → isDeskValue v ≡ false → UnservedLine line v out v 15 0
   pub refused : (line : Bytes) (v : Desk) (out : Bytes) (n : ℕ) (c : Option Letter) → TakenForDesk v
-      → lineOperation (deskIn v) line ≡ refuse n c → LineRefused line v out (planDropped v) n (columnByte c)
+      → lineOperation (deskIn v) line ≡ refuse n c → UnservedLine line v out (planDropped v) n (columnByte c)
   -- "14 last: the lent buffer is shorter than the output"
   pub no-room : (line : Bytes) (v : Desk) (out : Bytes) (e : Effect) → TakenForDesk v → lineOperation (deskIn v) line ≡ pass e
-      → length out < length (replyBytes (e .1)) → LineRefused line v out (planDropped v) 14 0
+      → length out < length (replyBytes (e .1)) → UnservedLine line v out (planDropped v) 14 0
   pub done : (line : Bytes) (v : Desk) (out : Bytes) (e : Effect) → TakenForDesk v → lineOperation (deskIn v) line ≡ pass e
-      → length (replyBytes (e .1)) ≤ length out → LineDone line v out (packedDesk (e .0)) (replyBytes (e .1))
+      → length (replyBytes (e .1)) ≤ length out → ServedLine line v out (packedDesk (e .0)) (replyBytes (e .1))
   -- a buffer of so many bytes is enough for every reply (DESK_LONGEST_REPLY)
   pub enough-room : (line : Bytes) (v : Desk) (out : Bytes) → TakenForDesk v → 4_618 ≤ length out
       → served line v out .answer .number ≡ 14 → ⊥
