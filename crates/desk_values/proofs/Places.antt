@@ -13,7 +13,7 @@ use Rattle.words.specs.Packed.{pack}
 use Rattle.operations.specs.declared.Plan.{Plan}
 use Rattle.operations.specs.Plans.{column, packed, blank}
 use Rattle.slots.specs.Blocks.{fromPlace, toPlace, valueAt}
-use Rattle.slots.proofs.Windows.{pair-limit}
+use Rattle.columns.proofs.Limits.{pair-limit}
 use Rattle.slots.proofs.Held.{slots-eight}
 use Rattle.desk_values.specs.declared.Desk.{Desk}
 use Rattle.desk_values.specs.Values.{headOf, heldValue, draftValue, openedBy, packedDesk}
