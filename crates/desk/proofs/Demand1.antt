@@ -29,14 +29,14 @@ use Rattle.higman.proofs.Figures.{numbers-named}
 use Rattle.higman.proofs.Tests.{so, T-of, clash, or-cases, or-true-left, or-true-right}
 use Rattle.desk.specs.Limits.{maxLine}
 use Rattle.desk.specs.Desk.{Draft, Desk, held}
-use Rattle.desk.specs.Records.{Record, P, M, E, F, I, K, S, W, L, C, T as Tᴿ, U, X, parted, parse, slotsNamed, isChange}
+use Rattle.desk.specs.Records.{Record, P, M, E, F, I, K, S, W, L, C, T as Tᴿ, U, X, parted, parse, slotsNamed, isChange, kind}
 use Rattle.desk.specs.Replies.{Outcome, refuse, pass, _>>=_, Effect, openAmiss, outside, atLimit, openPlan, planIn, ofVerdict}
 use Rattle.desk.specs.Replies.{ofAnswer, ofComparison, ofRoute, settle, job}
 use Rattle.desk.specs.Replies.{operation, admission, recordOf, lineOperation, respondLine}
 use Rattle.desk.specs.Replies.{_when_}
 use Rattle.desk.specs.Bytes.{columnField, replyBytes}
 use Rattle.desk.specs.Conditions.{refusalOf}
-use Rattle.desk.specs.Demands.{operationNumbers, refusalNumbers, DoneLine, RefusedLine, Demand1}
+use Rattle.desk.specs.Demands.{operationNumbers, refusalNumbers, DoneLine, RefusedLine, OfOpenPlan, Demand1}
 use Rattle.desk.proofs.Outcomes.{refusal-drops}
 use Rattle.desk.proofs.Stays.{desk-stays}
 use Rattle.desk.proofs.Desks.{desk-test}
@@ -300,6 +300,27 @@ numbers : refusalNumbers ≡ 1 ∷ 2 ∷ 3 ∷ 4 ∷ 5 ∷ 6 ∷ 7 ∷ 8 ∷ 9 �
 unfolding refusalNumbers operationNumbers
 numbers = refl
 
+none-open : (d : Desk) (r : Record) → d .draft ≡ none → OfOpenPlan r → operation d r ≡ refuse wrongState none
+unfolding operation admission kind _>>=_
+none-open d (M from to) e h = rw e
+none-open d E e h = rw e
+
+one-open : (d : Desk) (o : Draft) (r : Record) → d .draft ≡ some o → (OfOpenPlan r → ⊥) → operation d r ≡ refuse wrongState none
+unfolding operation admission kind _>>=_
+one-open d o (P a n r) e h = rw e
+one-open d o (M from to) e h = absurd (h tt)
+one-open d o E e h = absurd (h tt)
+one-open d o (F a b c) e h = rw e
+one-open d o (I a c) e h = rw e
+one-open d o (K a k c) e h = rw e
+one-open d o (S a b) e h = rw e
+one-open d o (W a code) e h = rw e
+one-open d o (L a) e h = rw e
+one-open d o (C a) e h = rw e
+one-open d o Tᴿ e h = rw e
+one-open d o U e h = rw e
+one-open d o (X a n r s seed) e h = rw e
+
 -- Demand 1.
 pub demand1 : Demand1
 demand1 =
@@ -312,6 +333,7 @@ demand1 =
       no-record = no-record;
       record-line = line-of-record;
       first-condition = first-condition;
+      wrong-state = record { none-open = none-open; one-open = one-open };
       columns = column-refusals;
       desk-test = desk-test;
       calls = lent-calls-exact;

@@ -74,6 +74,27 @@ pub record RefusedLine (d : Desk) (line : Bytes) : Type 0 where
   pub no-line-end : List·Memᴰ lineEnd text → ⊥
   pub one-line : replyBytes (respondLine d line .1) ≡ text ++ lineEnd ∷ []
 
+-- M and E, the records of an open plan
+abbrev pub OfOpenPlan : Record → Type 0
+OfOpenPlan (P a n r) = ⊥
+OfOpenPlan (M from to) = Unit {0}
+OfOpenPlan E = Unit {0}
+OfOpenPlan (F a b c) = ⊥
+OfOpenPlan (I a c) = ⊥
+OfOpenPlan (K a k c) = ⊥
+OfOpenPlan (S a b) = ⊥
+OfOpenPlan (W a code) = ⊥
+OfOpenPlan (L a) = ⊥
+OfOpenPlan (C a) = ⊥
+OfOpenPlan Tᴿ = ⊥
+OfOpenPlan U = ⊥
+OfOpenPlan (X a n r s seed) = ⊥
+
+-- "2, an M or E with no plan open, or any other record while one is open", before every other number of a record
+pub record WrongState : Type 0 where
+  pub none-open : (d : Desk) (r : Record) → d .draft ≡ none → OfOpenPlan r → operation d r ≡ refuse 2 none
+  pub one-open : (d : Desk) (o : Draft) (r : Record) → d .draft ≡ some o → (OfOpenPlan r → ⊥) → operation d r ≡ refuse 2 none
+
 -- What E says of a column, by what is wrong with it and not by the tests: "6, one word begins or equals another; 7, a belt isn't covered",
 -- of the from column and, where that is a basis, of the to column.
 pub record ColumnRefusals (d : Desk) (o : Draft) : Type 0 where
@@ -97,7 +118,8 @@ pub record Demand1 : Type 0 where
   pub record-line : (d : Desk) (r : Record) → T (wellFormed r) → length (recordText r) ≤ maxLine
       → lineOperation d (recordText r) ≡ operation d r
   pub first-condition : (d : Desk) → IsDesk d → (r : Record) → refusalOf (operation d r) ≡ firstOf (conditions d r)
-  -- 6 and 7 by what they mean
+  -- 2, and 6 and 7, by what they mean
+  pub wrong-state : WrongState
   pub columns : (d : Desk) (o : Draft) → IsDesk d → d .draft ≡ some o → ColumnRefusals d o
   -- the test for a desk says what one is, and library calls put 15 first and 14 last
   pub desk-test : DeskTest

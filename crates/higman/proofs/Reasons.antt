@@ -226,16 +226,22 @@ data Fault (s : Shape) (c : List Word) : Option Reason → Type 0 where
   left-open : overlap c ≡ false → gap s c ≡ true → Fault s c (some Gap)
   sound : overlap c ≡ false → gap s c ≡ false → Fault s c none
 
+fault-overlapped : (s : Shape) (c : List Word) → overlap c ≡ true → fault s c ≡ some Overlap
+fault-overlapped s c e = rw (e, fault)
+
+fault-open : (s : Shape) (c : List Word) → overlap c ≡ false → gap s c ≡ true → fault s c ≡ some Gap
+fault-open s c e g = rw (e, g, fault)
+
 fault-of : (s : Shape) (c : List Word) → Fault s c (fault s c)
 fault-of s c = by-tests (passes (overlap c)) (passes (gap s c))
   where
     by-tests : (overlap c ≡ true) ⊎ (overlap c ≡ false) → (gap s c ≡ true) ⊎ (gap s c ≡ false) → Fault s c (fault s c)
-    by-tests (inl e) g = rw (e, fault) (overlapped e)
-    by-tests (inr e) (inl g) = rw (e, g, fault) (left-open e g)
+    by-tests (inl e) g = subst (Fault s c) (sym (fault-overlapped s c e)) (overlapped e)
+    by-tests (inr e) (inl g) = subst (Fault s c) (sym (fault-open s c e g)) (left-open e g)
     by-tests (inr e) (inr g) = rw (e, g, fault) (sound e g)
 
 overlapped-fault : (s : Shape) (c : List Word) → (fault s c ≡ some Overlap) ↔ Overlapping c
-overlapped-fault s c = (λ e. overlapping-of-test c (by-fault (fault-of s c) e), λ o. rw (test-of-overlapping c o, fault))
+overlapped-fault s c = (λ e. overlapping-of-test c (by-fault (fault-of s c) e), λ o. fault-overlapped s c (test-of-overlapping c o))
   where
     by-fault : {o : Option Reason} → Fault s c o → o ≡ some Overlap → overlap c ≡ true
     by-fault (overlapped e) q = e
@@ -244,7 +250,7 @@ overlapped-fault s c = (λ e. overlapping-of-test c (by-fault (fault-of s c) e),
 
 module _ (s : Shape) (nonzero : 1 ≤ s .arity) (c : List Word) (words : T (all (isWord s) c)) where
   open-fault : (fault s c ≡ some Gap) ↔ OnlyOpen s c
-  open-fault = (λ e. by-fault (fault-of s c) e, λ o. rw (not-overlapping c .1 (o .0), gap-of-open s nonzero c (o .1), fault))
+  open-fault = (λ e. by-fault (fault-of s c) e, λ o. fault-open s c (not-overlapping c .1 (o .0)) (gap-of-open s nonzero c (o .1)))
     where
       by-fault : {o : Option Reason} → Fault s c o → o ≡ some Gap → OnlyOpen s c
       by-fault (overlapped e) q = absurd (let z : _≡_ {A = ℕ} 0 1 = cc in omega arith)
