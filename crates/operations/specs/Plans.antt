@@ -1,5 +1,5 @@
 -- The values of the library: the plan that a value holds, what it is for a value to be a draft or a kept plan, and the value of a plan.
--- Read Answers.antt next.
+-- A caller of the library believes it; `LibraryExact` of plans says place by place what a value holds. Read Answers.antt next.
 use Prim.Native.Nat.{ℕ, _-_}
 use mathlib.Core.Path.{_≡_, refl}
 use mathlib.Core.Bool.{Bool, true, false, _&&_}

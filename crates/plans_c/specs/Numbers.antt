@@ -1,4 +1,5 @@
--- The answers of the crate `plans` as a C program has them: the number of a refusal, or 0, and beside it what was answered.
+-- The answers of the crate `plans` as a C program has them: the number of a refusal, or 0, and beside it what was answered. A caller in C
+-- believes it; `AnswersInC` has each case in figures. Read Theorems.antt next.
 use mathlib.Core.Path.{_≡_, refl}
 use mathlib.Core.Bool.{true, false}
 use Rattle.plans.specs.declared.Judgement.{Judgement}

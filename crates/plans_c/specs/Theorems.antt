@@ -1,5 +1,5 @@
 -- The answers that a C program gets, case by case in the figures of document 01 ("When each operation says no"): 0 for a job done, and a
--- refusal's own number with nothing beside it. So Numbers.antt need not be believed; what is answered is said by plans' CallsExact.antt.
+-- refusal's own number with nothing beside it. What is answered is said by plans' CallsExact.antt.
 use Prim.Native.Nat.{ℕ}
 use mathlib.Core.Path.{_≡_}
 use mathlib.Core.Bool.{Bool, false}
