@@ -146,9 +146,13 @@ static void check_exercises(void)
         struct desk_job job;
         uint8_t number;
     } refused[] = {
+        {{'X', '@', 1, 0, 0, 0, 100}, REFUSED_FORM},
+        {{'X', 'A', 1, 1, 0, 0, 255}, REFUSED_FORM},
+        {{'X', 'A', 9, 9, 0, 0, 128}, REFUSED_FORM},
+        {{'X', 'A', 2, 1, 0, 87, 100}, REFUSED_FORM},
         {{'X', '@', 1, 0, 0, 0, 99}, REFUSED_SLOT},
         {{'X', 'A', 1, 1, 0, 0, 99}, REFUSED_SHAPE},
-        {{'X', 'A', 9, 9, 0, 0, 255}, REFUSED_SEED},
+        {{'X', 'A', 9, 9, 0, 0, 99}, REFUSED_SEED},
         {{'X', 'A', 2, 1, 0, 2147483647u, 2}, REFUSED_SEED},
         {{'X', 'A', 2, 1, 0, UINT64_MAX, 2}, REFUSED_SEED},
         {{'X', 'A', 3, 1, 0, 22, 99}, REFUSED_PAIR},
@@ -178,6 +182,56 @@ static void check_exercises(void)
         snprintf(what, sizeof what, "desk_do refuses a plan from a seed with %d", refused[i].number);
         check(what, done.number == refused[i].number && done.column == 0 && done.value == 0 && holds_words(&d, 0, 2, from, to));
     }
+}
+
+static bool same_desks(const struct desk *a, const struct desk *b)
+{
+    size_t i;
+    for (i = 0; i < DESK_BLOCKS; i++) {
+        const struct desk_block *one = &a->blocks[i], *other = &b->blocks[i];
+        if (one->arity != other->arity || one->roots != other->roots || one->pairs != other->pairs)
+            return false;
+    }
+    return a->opened == b->opened && a->changes == b->changes && !memcmp(a->columns, b->columns, sizeof a->columns);
+}
+
+/* Whether a copy of the first desk refuses the job with this number and is the second one then. */
+static bool refuses(struct desk d, struct desk_job job, uint8_t number, const struct desk *after)
+{
+    struct desk_done done = desk_do(&d, job);
+    return done.number == number && done.column == NO_COLUMN && done.value == 0 && same_desks(&d, after);
+}
+
+/* Every number of splits that a job can have. Seed 87 gives a plan for each up to 99; X with more is no record, as it is in a line. */
+static void check_splits(void)
+{
+    bool kept = true, refused = true, dropped = true, left = true;
+    struct desk fresh = desk_fresh();
+    struct desk open = fresh, no_desk;
+    struct desk_job opening = {'P', 'A', 2, 1, 0, 0, 0};
+    struct desk_done done = desk_do(&open, opening);
+    int splits;
+
+    check("desk_do opens a plan that X drops", done.number == 0 && open.opened == 'A');
+    no_desk = open;
+    no_desk.changes = DESK_MOST_CHANGES + 1;
+    for (splits = 0; splits <= UINT8_MAX; splits++) {
+        struct desk_job job = {'X', 'B', 2, 1, 0, 87, (uint8_t)splits};
+        if (splits <= 99) {
+            struct desk d = fresh;
+            done = desk_do(&d, job);
+            kept = kept && done.number == 0 && done.value == d.blocks[1].pairs && d.blocks[1].pairs > 0 && d.changes == 1;
+            dropped = dropped && refuses(open, job, 2, &fresh);
+        } else {
+            refused = refused && refuses(fresh, job, REFUSED_FORM, &fresh);
+            dropped = dropped && refuses(open, job, REFUSED_FORM, &fresh);
+        }
+        left = left && refuses(no_desk, job, REFUSED_VALUE, &no_desk);
+    }
+    check("desk_do makes a plan of 0 to 99 splits", kept);
+    check("desk_do refuses 100 splits and more as no record", refused);
+    check("desk_do with any splits drops an open plan, with 2 up to 99 and else with 1", dropped);
+    check("desk_do with any splits leaves what is no desk", left);
 }
 
 static void check_desk(void)
@@ -249,5 +303,6 @@ int main(void)
     check_plans();
     check_desk();
     check_exercises();
+    check_splits();
     return failures ? EXIT_FAILURE : EXIT_SUCCESS;
 }

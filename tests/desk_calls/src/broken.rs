@@ -112,7 +112,6 @@ impl Broken {
             Fault::DigitsInExercises if exercise => digits(&mut job),
             Fault::NarrowSeed => job.seed &= 0xffff_ffff,
             Fault::ExerciseRefused if exercise => job.letter = 0,
-            Fault::TwoDigitSplits if exercise && job.splits > 99 => job.letter = 0,
             // a survey in its place, which has a number for a value
             Fault::ListingTaken if job.letter == b'U' => job.letter = b'T',
             _ => {}
@@ -329,6 +328,9 @@ impl Calls for Broken {
     }
 
     fn job(&self, desk: &mut Desk, job: Job) -> Done {
+        if let Fault::Missplit(limit) = self.fault {
+            return limit.job(&self.second, desk, job);
+        }
         let before = *desk;
         let job = self.read_job(job);
         if !self.is_desk(desk) {

@@ -7,6 +7,7 @@ use crate::calls::Calls;
 use crate::checks::{buffers, bytes, damage, jobs, lines, paper, refusals, sessions, tables};
 use crate::mislisted::{Listing, LISTINGS};
 use crate::misread::{Text, TEXTS};
+use crate::missplit::{Limit, LIMITS};
 
 /// What is wrong.
 #[derive(Clone, Copy, Debug, PartialEq, Eq)]
@@ -94,8 +95,6 @@ pub enum Fault {
     ExerciseRefused,
     /// Jobs of X read n and r as digits.
     DigitsInExercises,
-    /// Jobs of X refuse more splits than a line has digits for with 1.
-    TwoDigitSplits,
     /// The seed is read as 32 bits.
     NarrowSeed,
     /// X counts no change.
@@ -110,13 +109,15 @@ pub enum Fault {
     Misread(Text, Step),
     /// Other pairs are listed than are held, or compared.
     Mislisted(Listing),
+    /// Jobs of X are held to a wrong limit of splits.
+    Missplit(Limit),
 }
 
 /// A check of the calls.
 type Check = fn(&dyn Calls);
 
 /// Each fault, and a check that has to see it.
-pub const FAULTS: [(Fault, Check); 47] = [
+pub const FAULTS: [(Fault, Check); 46] = [
     (Fault::WorkBeforeShortBuffer, buffers::of_every_length),
     (Fault::OpenAfterShortBuffer, buffers::of_every_length),
     (Fault::CutReply, buffers::of_every_length),
@@ -158,7 +159,6 @@ pub const FAULTS: [(Fault, Check); 47] = [
     (Fault::NoValue, paper::session_in_jobs),
     (Fault::ExerciseRefused, jobs::beside_lines),
     (Fault::DigitsInExercises, paper::exercises),
-    (Fault::TwoDigitSplits, jobs::of_every_exercise),
     (Fault::NarrowSeed, paper::exercises),
     (Fault::UncountedExercise, paper::exercises),
     (Fault::OpenExercise, sessions::of_lines),
@@ -196,4 +196,20 @@ pub fn mislistings() -> Vec<(Fault, Check)> {
         (Fault::Mislisted(listing), check)
     });
     checks.into()
+}
+
+/// Each wrong limit of splits (E3), and the checks that have to see it: one by the
+/// words of E3 alone, one beside the second implementation, and for a limit that
+/// is missing or another number, one that holds jobs to lines.
+pub fn missplits() -> Vec<(Fault, Check)> {
+    let mut faults: Vec<(Fault, Check)> = Vec::new();
+    for limit in LIMITS {
+        let fault = Fault::Missplit(limit);
+        faults.push((fault, paper::splits));
+        faults.push((fault, jobs::of_every_splits));
+    }
+    for limit in [Limit::Missing, Limit::OneMore, Limit::OneLess] {
+        faults.push((Fault::Missplit(limit), jobs::beside_lines));
+    }
+    faults
 }

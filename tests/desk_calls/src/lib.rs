@@ -1,10 +1,10 @@
 //! The calls of the desk compared with the second implementation. `values` and
 //! `bindings` are the C interface, `second` answers the same calls by the
 //! reference, `broken` answers them wrongly with one of `faults`, of which those
-//! of digits are in `misread` and those of listings in `mislisted`, `random` makes
-//! desks, and `checks` compares any offer of the calls with the second
-//! implementation. `tests/` runs the checks on the proved desk, and shows that they
-//! tell every broken offer from a sound one.
+//! of digits are in `misread`, those of listings in `mislisted` and those of splits
+//! in `missplit`, `random` makes desks, and `checks` compares any offer of the calls
+//! with the second implementation. `tests/` runs the checks on the proved desk, and
+//! shows that they tell every broken offer from a sound one.
 
 pub mod bindings;
 pub mod broken;
@@ -13,6 +13,7 @@ pub mod checks;
 pub mod faults;
 pub mod mislisted;
 pub mod misread;
+pub mod missplit;
 pub mod random;
 pub mod second;
 pub mod values;

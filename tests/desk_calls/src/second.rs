@@ -17,6 +17,9 @@ const SHORT_BUFFER: u8 = 14;
 /// "A plan or desk handed in isn't one as described above."
 const NO_DESK: u8 = 15;
 
+/// "s one or two digits" (E3): a job of X has no more splits than a line.
+pub const MOST_SPLITS: u8 = 99;
+
 /// The second implementation. It remembers the last desk that it was handed or
 /// left behind, since to recognise eight plans takes much longer than a record.
 #[derive(Default)]
@@ -65,19 +68,25 @@ impl Calls for Second {
     }
 
     fn job(&self, desk: &mut Desk, job: Job) -> Done {
+        self.job_up_to(MOST_SPLITS, desk, job)
+    }
+}
+
+impl Second {
+    /// Does a job, of which X has at most so many splits: 15, then 1 for what is
+    /// no record, then the refusals of the record.
+    pub fn job_up_to(&self, most_splits: u8, desk: &mut Desk, job: Job) -> Done {
         let Some(mut held) = self.unpack(desk) else {
             return Done::refused(NO_DESK, 0);
         };
-        let reply = held.reply(record(job).ok_or(Refusal::Form));
+        let reply = held.reply(record(most_splits, job).ok_or(Refusal::Form));
         *desk = self.leave(held);
         match reply {
             Ok(reply) => Done::value(number_of(&reply)),
             Err(refusal) => Done::refused(refusal.number(), column(refusal)),
         }
     }
-}
 
-impl Second {
     /// The desk that a value is, if it is one. Where it is the last one, that
     /// is handed out; the caller leaves the desk after its record.
     fn unpack(&self, desk: &Desk) -> Option<reference::Desk> {
@@ -145,8 +154,8 @@ pub fn letter(slot: usize) -> u8 {
 }
 
 /// The record of a job; none for a letter that has text or a listing, or that
-/// no record has, and none where X has more splits than two digits say.
-fn record(job: Job) -> Option<Record<'static>> {
+/// no record has, and none for X with more splits than these.
+fn record(most_splits: u8, job: Job) -> Option<Record<'static>> {
     let Job { a, b, c, .. } = job;
     let record = match job.letter {
         b'P' => Record::Open {
@@ -174,7 +183,7 @@ fn record(job: Job) -> Option<Record<'static>> {
             second: b,
         },
         b'C' => Record::Clear { operand: a },
-        b'X' if job.splits < 100 => Record::Exercise {
+        b'X' if job.splits <= most_splits => Record::Exercise {
             slot: a,
             arity: b,
             roots: c,
@@ -232,6 +241,26 @@ mod tests {
         let again = Second::default();
         assert!(again.is_desk(&desk));
         assert_eq!(pack(&again.unpack(&desk).expect("a desk")), desk);
+    }
+
+    /// A job of X is a record exactly if a line with its numbers is, and then it is
+    /// that record.
+    #[test]
+    fn an_exercise_has_a_line() {
+        for splits in 0..=255 {
+            let job = Job {
+                letter: b'X',
+                a: b'C',
+                b: 3,
+                c: 2,
+                k: 0,
+                seed: 7,
+                splits,
+            };
+            let line = format!("X\tC\t3\t2\t{splits}\t7");
+            let read = Record::read(line.as_bytes()).ok();
+            assert_eq!(record(MOST_SPLITS, job), read, "{line}");
+        }
     }
 
     #[test]

@@ -5,7 +5,7 @@ use std::panic::{catch_unwind, AssertUnwindSafe};
 
 use desk_calls::broken::Broken;
 use desk_calls::checks::ALL;
-use desk_calls::faults::{mislistings, misreadings, FAULTS};
+use desk_calls::faults::{mislistings, misreadings, missplits, FAULTS};
 use desk_calls::{Calls, Second};
 
 /// What the check says where it fails.
@@ -25,7 +25,10 @@ fn sound_copies_pass() {
 
 #[test]
 fn broken_copies_are_caught() {
-    let others = misreadings().into_iter().chain(mislistings());
+    let others = misreadings()
+        .into_iter()
+        .chain(mislistings())
+        .chain(missplits());
     for (fault, check) in FAULTS.into_iter().chain(others) {
         let said = failure(check, &Broken::new(fault));
         let said = said.unwrap_or_else(|| panic!("{fault:?} isn't caught"));

@@ -35,6 +35,11 @@ fn exercises_that_are_refused() {
 }
 
 #[test]
+fn every_number_of_splits() {
+    paper::splits(&Library);
+}
+
+#[test]
 fn refusals_of_calls_in_the_paper() {
     paper::refusals_of_calls(&Library);
 }
@@ -102,6 +107,11 @@ fn jobs_of_every_number() {
 #[test]
 fn jobs_of_every_exercise() {
     jobs::of_every_exercise(&Library);
+}
+
+#[test]
+fn jobs_of_every_number_of_splits() {
+    jobs::of_every_splits(&Library);
 }
 
 #[test]

@@ -19,13 +19,14 @@ use crate::calls::Calls;
 pub type Check = (&'static str, fn(&dyn Calls));
 
 /// Every check, those that take long behind the others.
-pub const ALL: [Check; 28] = [
+pub const ALL: [Check; 30] = [
     ("paper::session", paper::session),
     ("paper::session_in_jobs", paper::session_in_jobs),
     ("paper::block_without_room", paper::block_without_room),
     ("paper::survey", paper::survey),
     ("paper::exercises", paper::exercises),
     ("paper::exercises_refused", paper::exercises_refused),
+    ("paper::splits", paper::splits),
     ("paper::refusals_of_calls", paper::refusals_of_calls),
     ("lines::of_any_bytes", lines::of_any_bytes),
     ("lines::at_the_limit", lines::at_the_limit),
@@ -35,6 +36,7 @@ pub const ALL: [Check; 28] = [
     ("jobs::in_chains", jobs::in_chains),
     ("jobs::of_every_number", jobs::of_every_number),
     ("jobs::of_every_exercise", jobs::of_every_exercise),
+    ("jobs::of_every_splits", jobs::of_every_splits),
     ("jobs::beside_lines", jobs::beside_lines),
     ("buffers::of_every_length", buffers::of_every_length),
     ("buffers::of_every_line", buffers::of_every_line),

@@ -158,7 +158,8 @@ fn exercise_job(slot: u8, (n, r, splits, seed): Exercise) -> Job {
 }
 
 /// The plans that were worked by hand, by lines and by jobs, word by word; the
-/// refusals "17, .. after 8 and 3; then 5 and 4 ..; 16 last", in that order.
+/// refusals "17, .. after 8 and 3; then 5 and 4 ..; 16 last", in that order, and 1,
+/// for more splits than two digits have, before them.
 pub fn exercises(calls: &dyn Calls) {
     let mut desk = calls.fresh();
     reply(calls, &mut desk, "X\tA\t2\t1\t2\t1", "ok\t2\n");
@@ -175,16 +176,19 @@ pub fn exercises(calls: &dyn Calls) {
     }
     assert_eq!(again, desk);
     for (slot, numbers, number) in [
+        (b'@', (1, 1, 100, 0), 1),
         (b'@', (1, 1, 99, 0), 8),
         (b'A', (1, 1, 99, 0), 3),
         (b'A', (2, 10, 3, 1), 3),
-        (b'@', (1, 1, 100, 0), 1),
+        (b'A', (9, 9, 255, 0), 1),
         (b'A', (9, 9, 99, 0), 17),
         (b'A', (2, 1, 2, 2_147_483_647), 17),
         (b'A', (2, 1, 2, (1 << 32) + 1), 17),
         (b'A', (2, 1, 2, u64::MAX), 17),
         (b'A', (3, 1, 99, 22), 5),
-        (b'A', (2, 9, 128, 1), 1),
+        // 129 pairs, and 127
+        (b'A', (3, 1, 64, 22), 5),
+        (b'A', (3, 1, 63, 22), 16),
         (b'A', (2, 1, 99, 5), 4),
         (b'A', (2, 1, 99, 19), 4),
         (b'A', (2, 1, 2, 1), 16),
@@ -219,6 +223,62 @@ pub fn exercises_refused(calls: &dyn Calls) {
     let done = calls.job(&mut no_desk, exercise_job(b'@', (0, 0, 255, 0)));
     assert_eq!((done, no_desk), (Done::refused(15, 0), before));
     assert_eq!(out, [b'.'; 9]);
+}
+
+/// "s one or two digits" (E3), in jobs too: up to 99 splits X is a record, and with
+/// more it is none, whatever else is wrong with it. Other letters have no splits.
+pub fn splits(calls: &dyn Calls) {
+    let mut full = calls.fresh();
+    reply(calls, &mut full, "X\tA\t2\t1\t2\t1", "ok\t2\n");
+    full.changes = 4_000_000_000;
+    let mut open = full;
+    reply(calls, &mut open, PLAN[0], "");
+    let mut no_desk = open;
+    no_desk.changes += 1;
+    for splits in 0..=255 {
+        let or_form = |number| if splits > 99 { 1 } else { number };
+        for (slot, numbers, number) in [
+            (b'@', (0, 0, splits, 0), 8),
+            (b'A', (2, 10, splits, 0), 3),
+            (b'A', (9, 9, splits, 0), 17),
+            (b'A', (3, 1, splits, 22), if splits < 64 { 16 } else { 5 }),
+            (b'A', (2, 1, splits, 87), 16),
+        ] {
+            let job = exercise_job(slot, numbers);
+            for (mut desk, number, after) in [
+                (full, or_form(number), full),
+                (open, or_form(2), full),
+                (no_desk, 15, no_desk),
+            ] {
+                let done = calls.job(&mut desk, job);
+                assert_eq!(done, Done::refused(number, 0), "to {job:?}");
+                assert_eq!(desk, after, "after {job:?}");
+            }
+        }
+        splits_on_fresh(calls, splits);
+    }
+}
+
+/// A number of splits on a fresh desk: seed 87 gives a plan for all that there can
+/// be, seed 5 words of 17 digits for 99 and more.
+fn splits_on_fresh(calls: &dyn Calls, splits: u8) {
+    let mut fresh = calls.fresh();
+    let count = Job {
+        letter: b'T',
+        splits,
+        ..Job::default()
+    };
+    assert_eq!(calls.job(&mut fresh, count), Done::value(0), "{splits}");
+    let kept = calls.job(&mut fresh, exercise_job(b'B', (2, 1, splits, 87)));
+    let mut desk = calls.fresh();
+    let deep = calls.job(&mut desk, exercise_job(b'B', (2, 1, splits, 5)));
+    if splits > 99 {
+        assert_eq!((kept, fresh), (Done::refused(1, 0), Desk::FRESH));
+        assert_eq!((deep, desk), (Done::refused(1, 0), Desk::FRESH));
+    } else {
+        assert_eq!((kept.number, fresh.changes), (0, 1), "{splits} splits");
+        assert!(matches!(deep.number, 0 | 4), "{splits} splits: {deep:?}");
+    }
 }
 
 /// "Library calls put 15 before all these"; "such a desk has no open plan to

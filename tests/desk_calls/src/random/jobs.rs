@@ -103,7 +103,7 @@ fn some_seed(rng: &mut Rng) -> u64 {
     }
 }
 
-/// Mostly few enough for a plan; a job may have more than a line has digits for.
+/// Mostly few enough for a plan; some are more than a line has digits for.
 fn some_splits(rng: &mut Rng) -> u8 {
     match rng.below(6) {
         0 => rng.number() as u8,
