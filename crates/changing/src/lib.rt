@@ -5,7 +5,7 @@ ghost use mathlib.Core.Bool.{true, false};
 ghost use Rattle.higman.specs.Listing.{isSlot};
 ghost use Rattle.desk.specs.Records.{E, F, I, K, C, X};
 ghost use Rattle.slots.specs.Blocks.{InColumns, put, filledHead};
-ghost use Rattle.slots.specs.Desks.{fullIn, deskOf, HoldsDesk};
+ghost use Rattle.slots.specs.Desks.{Countable, deskOf, HoldsDesk};
 ghost use Rattle.slots.specs.Works.{Keepable, DoneKeeping, DoneSilently};
 ghost use Rattle.changing.specs.Faults.{faultyIn};
 ghost use Rattle.changing.specs.Operands.{ReadOf};
@@ -29,7 +29,7 @@ use slots::numbers;
 // A plan, or no plan, put into a slot: one change.
 fn fill(head: Head, columns: &mut [u64], i: usize, plan: Plan) -> Head
     requires { ⌜ InColumns i (now columns) ⌝ }
-    requires { ⌜ fullIn (head .control) ≡ false ⌝ }
+    requires { ⌜ Countable (head .control) ⌝ }
     ensures { λ r. ⌜ r ≡ filledHead head i plan ⌝ }
     ensures { λ _. ⌜ now (columns .exit) ≡ put (now (columns .entry)) i plan ⌝ }
 {

@@ -5,7 +5,7 @@ use Rattle.higman.specs.Limits.{maxPairs, maxDigits, maxCode, maxPower, shapeIn
 use Rattle.higman.specs.Text.{digitOf}
 use Rattle.higman.specs.Answers.{verdict, followed, inverted, raised, powered, same, routed}
 use Rattle.higman.specs.Fronts.{block}
-use Rattle.desk.specs.Limits.{maxChanges, maxLine, maxNumeral}
+use Rattle.desk.specs.Limits.{stationCount, maxChanges, maxLine, maxNumeral}
 use Rattle.desk.specs.Desk.{freshDesk, changed, withDraft, dropped}
 use Rattle.desk.specs.Records.{grammar, parse, kind}
 use Rattle.desk.specs.Replies.{_>>=_, job, surveyed, operation, admission, lineOperation, respondLine, run}
@@ -16,7 +16,8 @@ use Rattle.desk.specs.Cases.{starSessions, otherSessions, surveySessions
 pub desk-cases : DeskCases
 unfolding starSessions otherSessions surveySessions session run replyBytes _>>=_ respondLine lineOperation operation admission job
     surveyed kind
-    parse grammar freshDesk changed withDraft dropped slotCount maxChanges maxLine maxNumeral isPlanWord digitOf maxPairs maxDigits
+    parse grammar freshDesk changed withDraft dropped slotCount stationCount maxChanges maxLine maxNumeral isPlanWord digitOf maxPairs
+    maxDigits
     maxCode maxPower shapeInRange granted isCode verdict followed inverted raised powered same routed block keep compose inverse identity
     normalForm normal joined
 desk-cases =

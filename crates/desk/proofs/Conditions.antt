@@ -23,15 +23,16 @@ use Rattle.higman.specs.Answers.{raised, repeatable, followed, inverted, powere
 use Rattle.higman.specs.Fronts.{block}
 use Rattle.higman.specs.Exercises.{exercised, exercisePlan, exercise}
 use Rattle.higman.specs.Refusals.{shapeOutside, pairsFull, powerOutside, countFull, slotOutside, wrongState, badWord, wordsOverlap}
-use Rattle.higman.specs.Refusals.{rootUncovered, slotEmpty, shapesDiffer, limitBroken, seedOutside}
+use Rattle.higman.specs.Refusals.{rootUncovered, slotEmpty, shapesDiffer, limitBroken, seedOutside, stationOutside}
 use Rattle.higman.specs.Refusals.{Letter}
 use Rattle.higman.proofs.Tests.{T-of, clash, or-cases, or-true-left, or-true-right, count-bounds, count-mem}
 use Rattle.higman.proofs.Statements.{answers-exact}
-use Rattle.desk.specs.Desk.{Draft, Desk, held, IsDesk}
-use Rattle.desk.specs.Records.{Record, P, M, E, F, I, K, S, W, L, C, T as Tᴿ, U, X, slotsNamed, isChange, kind}
+use Rattle.desk.specs.Desk.{Draft, Desk, held, IsDesk, isStation}
+use Rattle.desk.specs.Records.{Record, P, M, E, F, I, K, S, W, L, C, T as Tᴿ, U, X, Z, stationsNamed, slotsNamed, isChange, kind}
 use Rattle.higman.specs.Listing.{slotNumber}
 use Rattle.higman.specs.Text.{wordOf}
-use Rattle.desk.specs.Replies.{Effect, Reply, okWord, okBlock, Outcome, refuse, pass, _>>=_, isOpen, openAmiss, outside, atLimit}
+use Rattle.desk.specs.Replies.{Effect, Reply, okWord, okBlock, Outcome, refuse, pass, _>>=_, isOpen, openAmiss, noStation, outside}
+use Rattle.desk.specs.Replies.{atLimit}
 use Rattle.desk.specs.Replies.{openPlan, planIn, ofVerdict, ofAnswer, ofComparison, ofRoute, job, operation, admission, _when_}
 use Rattle.desk.specs.Conditions.{Condition, inColumn, isEmpty, ofPlan, ofOpen, ofBoth, conditions, firstOf, refusalOf, _if_}
 
@@ -318,6 +319,7 @@ ownConditions d (X a n r s seed) =
     (pairsFull if not (leb (length (exercised (record { arity = n; roots = r }) s seed)) maxPairs)) ∷
     (badWord if not (all pairFits (exercised (record { arity = n; roots = r }) s seed))) ∷
     []
+ownConditions d (Z s) = []
 
 own-says : (d : Desk) → IsDesk d → (r : Record) → openAmiss d r ≡ false → Says (job d r) (ownConditions d r)
 unfolding job ownConditions kind
@@ -340,18 +342,20 @@ own-says d D Tᴿ o = done
 own-says d D U o = done
 own-says d D (X a n r s seed) o =
     when-then (not (shapeInRange (record { arity = n; roots = r }))) (λ _ _. exercise-then (record { arity = n; roots = r }) s seed (λ p. done))
+own-says d D (Z s) o = done
 
 -- the order of all operations
 abbrev shared : Desk → Record → List Condition
 shared d r =
     (wrongState if openAmiss d r) ∷
+    (stationOutside if noStation (stationsNamed r)) ∷
     (slotOutside if outside (slotsNamed r)) ∷
     (ownConditions d r ++ (countFull if isChange r && atLimit d) ∷ [])
 
 shared-says : (d : Desk) → IsDesk d → (r : Record) → Says (operation d r) (shared d r)
 unfolding operation admission _>>=_
 shared-says d D r =
-    steps (openAmiss d r) refl (outside (slotsNamed r))
+    steps (openAmiss d r) refl (noStation (stationsNamed r)) (outside (slotsNamed r))
   where
     rest : Unit {0} → Outcome Effect
     rest _ = job d r >>= λ e. (countFull when (isChange r && atLimit d)) >>= λ _. pass e
@@ -359,14 +363,16 @@ shared-says d D r =
     own : openAmiss d r ≡ false → Says (rest tt) (ownConditions d r ++ (countFull if isChange r && atLimit d) ∷ [])
     own o = says-then (job d r) (own-says d D r o) (λ e. when-then (isChange r && atLimit d) (λ _ _. done))
 
-    steps : (b : Bool) → openAmiss d r ≡ b → (c : Bool)
-        → Says (((wrongState when b) >>= λ _. slotOutside when c) >>= rest)
-        ((wrongState if b) ∷ (slotOutside if c) ∷ (ownConditions d r ++ (countFull if isChange r && atLimit d) ∷ []))
-    steps true o c = record { says = refl }
-    steps false o true = record { says = refl }
-    steps false o false = record { says = own o .says }
+    steps : (b : Bool) → openAmiss d r ≡ b → (s c : Bool)
+        → Says (((wrongState when b) >>= λ _. (stationOutside when s) >>= λ _. slotOutside when c) >>= rest)
+        ((wrongState if b) ∷ (stationOutside if s) ∷ (slotOutside if c)
+        ∷ (ownConditions d r ++ (countFull if isChange r && atLimit d) ∷ []))
+    steps true o s c = record { says = refl }
+    steps false o true c = record { says = refl }
+    steps false o false true = record { says = refl }
+    steps false o false false = record { says = own o .says }
 
--- it gives the paper's table, record by record, but for a 16 that never holds
+-- it gives the paper's table, record by record, but for an 18, an 8 and a 16 that never hold
 shared-table : (d : Desk) (r : Record) → firstOf (shared d r) ≡ firstOf (conditions d r)
 unfolding conditions ownConditions kind
 shared-table d (P a n r) = refl
@@ -382,6 +388,16 @@ shared-table d (C a) = refl
 shared-table d Tᴿ = refl
 shared-table d U = refl
 shared-table d (X a n r s seed) = refl
+shared-table d (Z s) = by (isStation s)
+  where
+    known : Bool → Bool
+    known b = elim b [ true ↦ true | false ↦ false ]
+
+    by : (b : Bool)
+        → firstOf ((wrongState if isOpen d) ∷ (stationOutside if not (known b)) ∷ (slotOutside if false) ∷ (countFull if false) ∷ [])
+        ≡ firstOf ((wrongState if isOpen d) ∷ (stationOutside if not b) ∷ [])
+    by true = refl
+    by false = refl
 
 pub first-condition : (d : Desk) → IsDesk d → (r : Record) → refusalOf (operation d r) ≡ firstOf (conditions d r)
 first-condition d D r = shared-says d D r .says ∙ shared-table d r

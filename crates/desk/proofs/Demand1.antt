@@ -17,7 +17,7 @@ use Rattle.higman.specs.Text.{tab, lineEnd, digitByte, wordBytes, Bytes, bytes,
 use Rattle.higman.specs.Tables.{Table}
 use Rattle.higman.specs.Limits.{Plan, shapeInRange, isPlanWord, maxPairs, maxPower}
 use Rattle.higman.specs.Refusals.{noRecord, wrongState, shapeOutside, badWord, pairsFull, slotOutside, slotEmpty, powerOutside, countFull}
-use Rattle.higman.specs.Refusals.{Letter}
+use Rattle.higman.specs.Refusals.{stationOutside, Letter}
 use Rattle.higman.specs.Answers as Answers
 use Rattle.higman.specs.Answers.{Overlap, Gap, Verdict, Accepted, InFrom, InTo, verdict, Refusal, BadCode, ShapesDiffer, LimitBroken}
 use Rattle.higman.specs.Answers.{PowerOutside, SeedOutside, TooManyPairs, WordTooLong, refusalNumber, Answer, Granted, followed, inverted}
@@ -29,8 +29,11 @@ use Rattle.higman.proofs.Figures.{numbers-named}
 use Rattle.higman.proofs.Tests.{so, T-of, clash, or-cases, or-true-left, or-true-right}
 use Rattle.desk.specs.Limits.{maxLine}
 use Rattle.desk.specs.Desk.{Draft, Desk, held}
-use Rattle.desk.specs.Records.{Record, P, M, E, F, I, K, S, W, L, C, T as Tᴿ, U, X, parted, parse, slotsNamed, isChange, kind}
-use Rattle.desk.specs.Replies.{Outcome, refuse, pass, _>>=_, Effect, openAmiss, outside, atLimit, openPlan, planIn, ofVerdict}
+use Rattle.desk.specs.Records.{Record, P, M, E, F, I, K, S, W, L, C, T as Tᴿ, U, X, Z, parted, parse, stationsNamed, slotsNamed}
+use Rattle.desk.specs.Records.{isChange}
+use Rattle.desk.specs.Records.{kind}
+use Rattle.desk.specs.Replies.{Outcome, refuse, pass, _>>=_, Effect, openAmiss, noStation, outside, atLimit, openPlan, planIn}
+use Rattle.desk.specs.Replies.{ofVerdict}
 use Rattle.desk.specs.Replies.{ofAnswer, ofComparison, ofRoute, settle, job}
 use Rattle.desk.specs.Replies.{operation, admission, recordOf, lineOperation, respondLine}
 use Rattle.desk.specs.Replies.{_when_}
@@ -146,11 +149,14 @@ job-numbered d U = no-refusal
 job-numbered d (X a n r s seed) =
     numbered-then (numbered-test shapeOutside (not (shapeInRange (record { arity = n; roots = r }))) tt)
     (λ _. numbered-then (numbered-answer (exercise (record { arity = n; roots = r }) s seed)) (λ _. no-refusal))
+job-numbered d (Z s) = no-refusal
 
 numbered-admission : (d : Desk) (r : Record) → Numbered (admission d r)
 unfolding admission among operationNumbers
 numbered-admission d r =
-    numbered-then (numbered-test wrongState (openAmiss d r) tt) (λ _. numbered-test slotOutside (outside (slotsNamed r)) tt)
+    numbered-then (numbered-test wrongState (openAmiss d r) tt) (λ _.
+    numbered-then (numbered-test stationOutside (noStation (stationsNamed r)) tt)
+    (λ _. numbered-test slotOutside (outside (slotsNamed r)) tt))
 
 numbered-operation : (d : Desk) (r : Record) → Numbered (operation d r)
 unfolding operation among operationNumbers
@@ -296,7 +302,7 @@ answered d line = go (lineOperation d line) refl
           one-line = ap (λ x. replyBytes (x .1)) r;
         })
 
-numbers : refusalNumbers ≡ 1 ∷ 2 ∷ 3 ∷ 4 ∷ 5 ∷ 6 ∷ 7 ∷ 8 ∷ 9 ∷ 10 ∷ 11 ∷ 12 ∷ 16 ∷ 17 ∷ []
+numbers : refusalNumbers ≡ 1 ∷ 2 ∷ 3 ∷ 4 ∷ 5 ∷ 6 ∷ 7 ∷ 8 ∷ 9 ∷ 10 ∷ 11 ∷ 12 ∷ 16 ∷ 17 ∷ 18 ∷ []
 unfolding refusalNumbers operationNumbers
 numbers = refl
 
@@ -320,6 +326,7 @@ one-open d o (C a) e h = rw e
 one-open d o Tᴿ e h = rw e
 one-open d o U e h = rw e
 one-open d o (X a n r s seed) e h = rw e
+one-open d o (Z s) e h = rw e
 
 -- Demand 1.
 pub demand1 : Demand1

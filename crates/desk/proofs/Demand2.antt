@@ -39,6 +39,7 @@ use Rattle.desk.proofs.Outcomes.{Passes, stops, passes, passes-then, an
 use Rattle.desk.proofs.Stays.{below-limit, slot-of-record}
 use Rattle.desk.proofs.OpenPlans.{close-pass, close-steps, draft-verdict}
 use Rattle.desk.proofs.Replies.{replies-exact, slots-used, desk-parts}
+use Rattle.desk.proofs.Counts.{counts-of-stations}
 use Rattle.desk.proofs.Surveys.{survey-exact}
 use Rattle.desk.proofs.Exercises.{answer-granted, kept-there, exercises, exercises-fixed}
 
@@ -276,6 +277,7 @@ demand2 =
       compares = compares;
       replies = replies-exact;
       slots-used = slots-used;
+      stations = counts-of-stations;
       desk-parts = desk-parts;
       survey = survey-exact;
       typed-in = typed-in;

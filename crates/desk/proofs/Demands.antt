@@ -1,4 +1,6 @@
 -- The three demands, gathered into one term.
+use Prim.Native.Nat.{_+_}
+use native.Mathlib.Omega.{arith}
 use mathlib.Core.Path.{refl}
 use lib.Dec.{leb→le, le→leb}
 use Rattle.higman.proofs.Demand3.{demand3}
@@ -8,7 +10,7 @@ use Rattle.higman.proofs.Figures.{plan-limits-exact}
 use Rattle.higman.proofs.Reasons.{reasons-exact}
 use Rattle.higman.proofs.Exercises.{exercises-exact}
 use Rattle.higman.proofs.Automorphisms.{plans-are-automorphisms}
-use Rattle.desk.specs.Limits.{maxChanges, maxLine}
+use Rattle.desk.specs.Limits.{stationCount, maxChanges, maxLine}
 use Rattle.desk.specs.Desk.{countOf}
 use Rattle.desk.specs.Demands.{SessionExact, LimitsExact, Demands}
 use Rattle.desk.proofs.Session.{fed-in-pieces, session-fed, lines-exact, lines-fed}
@@ -20,12 +22,15 @@ session-exact : SessionExact
 session-exact = record { text = text-exact; lines = lines-exact; lines-fed = lines-fed; fed = session-fed; pieces = fed-in-pieces }
 
 limits-exact : LimitsExact
-unfolding maxChanges maxLine
+unfolding stationCount maxChanges maxLine
 limits-exact =
     record {
       plans = plan-limits-exact;
+      stations = refl;
+      station-numbers = λ s. (λ h. let k = leb→le (s + 1) 8 h in omega arith, λ h. le→leb (s + 1) 8 (omega arith));
       changes = refl;
       full-count = λ d. (leb→le 4_000_000_000 (countOf d), le→leb 4_000_000_000 (countOf d));
+      counts-within = λ d D s. D .control .within s;
       lines = refl;
     }
 

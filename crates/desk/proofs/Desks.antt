@@ -1,7 +1,8 @@
--- The tests for an open plan and a desk say what these are.
-use Prim.Native.Nat.{ℕ, zero, suc, _+_}
+-- The tests for an open plan, for what a desk keeps beside its plans and for a desk say what these are.
+use Prim.Native.Nat.{ℕ, zero, suc, _+_, _≤_, _<_, zero-le}
 use native.Mathlib.Omega.{arith}
 use mathlib.Core.Path.{_≡_, refl, subst}
+use mathlib.Core.Logic.{_↔_}
 use mathlib.Core.Bool.{Bool, _&&_}
 use mathlib.Core.List.{List, [], _∷_}
 use mathlib.Core.Option.{Option, none, some, Option·some-injective, Option·none-ne-some}
@@ -10,9 +11,11 @@ use lib.ListN.{length, getD}
 use Rattle.higman.specs.Limits.{Plan, Kept, slotCount}
 use Rattle.higman.specs.Answers.{isTableOf, isKept}
 use Rattle.higman.proofs.Statements.{table-of, test-table, answers-exact}
-use Rattle.higman.proofs.Tests.{and-left, and-right, and-intro}
-use Rattle.desk.specs.Limits.{maxChanges}
-use Rattle.desk.specs.Desk.{Draft, Desk, countOf, IsDraft, IsDesk, allHeld, isDraft, isDesk}
+use Rattle.higman.specs.Bases.{all}
+use Rattle.higman.proofs.Tests.{and-left, and-right, and-intro, all-head, all-tail, all-cons}
+use Rattle.desk.specs.Limits.{stationCount, maxChanges}
+use Rattle.desk.specs.Desk.{Draft, Control, Desk, changesOf, IsDraft, IsControl, IsDesk, allHeld, isDraft, isStation, isControl}
+use Rattle.desk.specs.Desk.{isDesk}
 use Rattle.desk.specs.Theorems.{DeskTest}
 
 held-of : (l : List (Option Plan)) → T (allHeld l) → (i : ℕ) (p : Plan) → getD l i none ≡ some p → Kept p
@@ -42,6 +45,49 @@ test-draft (some q) k =
     (le→leb (q .slot + 1) slotCount (omega (arith, h .slot-named)))
     (test-table (q .shape) (q .rows) (record { in-range = h .in-range; within = h .within; from-words = h .from-words; to-words = h .to-words }))
 
+pub station-test : (s : ℕ) → T (isStation s) ↔ (s < stationCount)
+station-test s = (λ h. let k = leb→le (s + 1) stationCount h in omega arith, λ k. le→leb (s + 1) stationCount (omega arith))
+
+counts-within : (l : List ℕ) → T (all (λ n. leb n maxChanges) l) → (s : ℕ) → getD l s 0 ≤ maxChanges
+counts-within [] h s = zero-le
+counts-within (n ∷ l) h zero = leb→le n maxChanges (all-head (λ n. leb n maxChanges) n l h)
+counts-within (n ∷ l) h (suc s) = counts-within l (all-tail (λ n. leb n maxChanges) n l h) s
+
+within-counts : (l : List ℕ) → ((s : ℕ) → getD l s 0 ≤ maxChanges) → T (all (λ n. leb n maxChanges) l)
+within-counts [] k = tt
+within-counts (n ∷ l) k = all-cons (λ n. leb n maxChanges) n l (le→leb n maxChanges (k zero)) (within-counts l (λ s. k (suc s)))
+
+module _ (c : Control) where
+  abbrev known : Bool
+  known = isStation (c .station)
+
+  abbrev eight-counts : Bool
+  eight-counts = eqb (length (c .changes)) stationCount
+
+  abbrev each : Bool
+  each = known && eight-counts
+
+  control-of : T (isControl c) → IsControl c
+  unfolding isControl
+  control-of h =
+      let front = and-left each (all (λ n. leb n maxChanges) (c .changes)) h in
+      record {
+        named = station-test (c .station) .0 (and-left known eight-counts front);
+        each = eqb→eq (length (c .changes)) stationCount (and-right known eight-counts front);
+        within = counts-within (c .changes) (and-right each (all (λ n. leb n maxChanges) (c .changes)) h);
+      }
+
+  test-control : IsControl c → T (isControl c)
+  unfolding isControl
+  test-control h =
+      and-intro each (all (λ n. leb n maxChanges) (c .changes))
+      (and-intro known eight-counts (station-test (c .station) .1 (h .named))
+      (subst (λ n. T (eqb (length (c .changes)) n)) (h .each) (eqb-refl (length (c .changes)))))
+      (within-counts (c .changes) (h .within))
+
+pub control-test : (c : Control) → T (isControl c) ↔ IsControl c
+control-test c = (control-of c, test-control c)
+
 module _ (d : Desk) where
   abbrev eight : Bool
   eight = eqb (length (d .slots)) slotCount
@@ -55,21 +101,21 @@ module _ (d : Desk) where
   desk-of : T (isDesk d) → IsDesk d
   unfolding isDesk
   desk-of h =
-      let front = and-left drafted (leb (countOf d) maxChanges) h in
+      let front = and-left drafted (isControl (d .control)) h in
       let slots = and-left filled (isDraft (d .draft)) front in
       record {
         eight = eqb→eq (length (d .slots)) slotCount (and-left eight (allHeld (d .slots)) slots);
         kept = held-of (d .slots) (and-right eight (allHeld (d .slots)) slots);
         drafted = draft-of (d .draft) (and-right filled (isDraft (d .draft)) front);
-        counted = leb→le (countOf d) maxChanges (and-right drafted (leb (countOf d) maxChanges) h);
+        control = control-test (d .control) .0 (and-right drafted (isControl (d .control)) h);
       }
 
   test-desk : IsDesk d → T (isDesk d)
   unfolding isDesk
   test-desk h =
-      and-intro drafted (leb (countOf d) maxChanges)
+      and-intro drafted (isControl (d .control))
       (and-intro filled (isDraft (d .draft)) (and-intro eight (allHeld (d .slots)) (subst (λ n. T (eqb (length (d .slots)) n)) (h .eight) (eqb-refl (length (d .slots)))) (test-held (d .slots) (h .kept))) (test-draft (d .draft) (h .drafted)))
-      (le→leb (countOf d) maxChanges (h .counted))
+      (control-test (d .control) .1 (h .control))
 
 pub desk-test : DeskTest
 desk-test d = (desk-of d, test-desk d)

@@ -18,7 +18,7 @@ use Rattle.higman.specs.Text.{Bytes, bytes, tab, wordBytes, decimal}
 use Rattle.higman.specs.Listing.{slotByte, joinLines}
 use Rattle.higman.proofs.Tests.{passes, and-left, and-right, and-intro, all-cons}
 use Rattle.desk.specs.Limits.{maxNumeral, maxSplitsNumeral, maxSeedNumeral}
-use Rattle.desk.specs.Records.{Record, P, M, E, F, I, K, S, W, L, C, T as Tᴿ, U, X, Form, slotField, anyField, numberField}
+use Rattle.desk.specs.Records.{Record, P, M, E, F, I, K, S, W, L, C, T as Tᴿ, U, X, Z, Form, slotField, anyField, numberField}
 use Rattle.desk.specs.Records.{field, noMore, Rule}
 use Rattle.desk.specs.Records.{grammar, readBy, readFields, parse, fields, parted, recordFields, recordText, noTab, hasDigits}
 use Rattle.desk.specs.Records.{numbersFit, wellFormed}
@@ -122,7 +122,7 @@ data OnlyRules : List Rule → Type 0 where
   _and_ : {rule : Rule} {rules : List Rule}
       → Only (λ fs. (rule .letter ∷ []) ∷ fs) (rule .reads) → OnlyRules rules → OnlyRules (rule ∷ rules)
 
--- P, M, E, F, I, K, S, W, L, C, T, U and X
+-- P, M, E, F, I, K, S, W, L, C, T, U, X and Z
 grammar-only : OnlyRules grammar
 unfolding grammar
 grammar-only =
@@ -141,6 +141,7 @@ grammar-only =
     (only-slot λ a. only-digit λ n h. only-digit λ r k.
     only-field (number-exact maxSplitsNumeral) λ s l. only-field (number-exact maxSeedNumeral) λ seed m.
     only-noMore _ refl (test-of-fits a n r s seed (record { ways = h; belts = k; splits = l; seeds = m }))) and
+    (only-digit λ s h. only-noMore _ refl h) and
     no-rule
 
 readBy-only : {rules : List Rule} → OnlyRules rules → (b : ℕ) → Only (λ fs. (b ∷ []) ∷ fs) (readBy rules b)
@@ -197,6 +198,7 @@ readFields-recordFields (X a n r s seed) h =
       number-exact maxSeedNumeral .reads seed (fits .seeds),
       field,
     )
+readFields-recordFields (Z s) h = rw (number-exact 1 .reads s h, field)
 
 -- fields without a tab that are read as a record are a line that is parsed as it
 parse-parted : (fs : List Bytes) (r : Record) → T (all noTab fs) → readFields fs ≡ some r → parse (parted fs) ≡ some r
@@ -319,6 +321,7 @@ numbers-fit (X a n r s seed) = (
         seeds = digits-below 9 seed .1 below‴;
       }),
 )
+numbers-fit (Z s) = digits-below 0 s
 
 well-formed-exact : WellFormedExact
 unfolding wellFormed
@@ -346,6 +349,7 @@ record-forms =
       T-text = refl;
       U-text = refl;
       X-text = λ a n r s seed. refl;
+      Z-text = λ s. refl;
     }
 
 pub text-exact : TextExact

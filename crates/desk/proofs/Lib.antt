@@ -1,9 +1,10 @@
 -- The arguments, each file after those it leans on. The terms of the statements of specs/Theorems.antt are in Outcomes (RefusalDrops),
 -- Stays (DeskStays), TypedLines (AcceptedFromLines), Desks (DeskTest), Surveys (SurveyExact), Calls (LentCallsExact), Session (FedInPieces,
--- SessionFed), ReadBack (TypedIn, ListingReadBack) and Sheets (NoShorterSheet); that of specs/Grammar.antt is in Grammar; those of
--- specs/Demands.antt in Replies (RepliesExact, DeskParts), Exercises (ExercisesFixed),
+-- SessionFed), ReadBack (TypedIn, ListingReadBack) and Sheets (NoShorterSheet); that of specs/Grammar.antt is in Grammar; that of
+-- specs/Stations.antt in Counts; those of specs/Demands.antt in Replies (RepliesExact, DeskParts), Exercises (ExercisesFixed),
 -- ColumnRefusals, Demand1, Demand2 and Demands; that of specs/Cases.antt in Cases.
 pub mod Outcomes
+pub mod Desks
 pub mod Stays
 pub mod OpenPlans
 pub mod Fields
@@ -11,12 +12,12 @@ pub mod NumberFields
 pub mod Grammar
 pub mod Lines
 pub mod TypedLines
-pub mod Desks
 pub mod Calls
 pub mod Session
 pub mod ReadBack
 pub mod Conditions
 pub mod Replies
+pub mod Counts
 pub mod Sheets
 pub mod Arranged
 pub mod Surveys

@@ -40,7 +40,10 @@ pub open-pass : (d : Desk) → d .draft ≡ none → (b : ℕ) (s : Shape) → T
 unfolding job kind _>>=_
 open-pass d e b s h k =
     operation-pass d (P b (s .arity) (s .roots)) (withDraft d (newDraft b s), silent)
-    (record { open-fits = ap given e; slots-named = all-cons (λ u. isSlot (u .slot)) (writing b) [] h tt; room = refl })
+    (record {
+      admitted = record { open-fits = ap given e; stations-known = tt; slots-named = all-cons (λ u. isSlot (u .slot)) (writing b) [] h tt };
+      room = refl;
+    })
     (rw (when-held shapeOutside (shapeInRange s) k))
 
 pub record Opened (d : Desk) (b : ℕ) (s : Shape) (e : Effect) : Type 0 where
@@ -52,7 +55,7 @@ pub open-steps : (d : Desk) (b : ℕ) (s : Shape) → Passes (Opened d b s) (ope
 unfolding job kind
 open-steps d b s =
     passes-operation d (P b (s .arity) (s .roots)) (λ t. passes-then (test-held shapeOutside (shapeInRange s))
-    (λ _ k. passes (record { named = all-head (λ u. isSlot (u .slot)) (writing b) [] (t .slots-named); in-range = k; effect = refl })))
+    (λ _ k. passes (record { named = all-head (λ u. isSlot (u .slot)) (writing b) [] (t .admitted .slots-named); in-range = k; effect = refl })))
 
 -- M, on a desk with an open plan
 pub pair-pass : (d : Desk) (o : Draft) (from to : Bytes) → T (areWords (o .shape) from to) → length (o .rows) < maxPairs
@@ -60,7 +63,7 @@ pub pair-pass : (d : Desk) (o : Draft) (from to : Bytes) → T (areWords (o .sha
 unfolding job kind withDraft _>>=_
 pair-pass d o from to h k =
     operation-pass (withDraft d o) (M from to) (withDraft d (withPair o (typedPair from to)), silent)
-    (record { open-fits = refl; slots-named = tt; room = refl })
+    (record { admitted = record { open-fits = refl; stations-known = tt; slots-named = tt }; room = refl })
     (rw (when-held badWord (areWords (o .shape) from to) h, lt-leb maxPairs (length (o .rows)) k))
 
 pub record Added (d : Desk) (o : Draft) (from to : Bytes) (e : Effect) : Type 0 where
@@ -81,7 +84,7 @@ pub close-pass : (d : Desk) (o : Draft) → d .draft ≡ some o → verdict (o .
 unfolding job kind _>>=_
 close-pass d o x v l =
     operation-pass d E (keepIn d (o .slot) (closed o))
-    (record { open-fits = ap (λ y. not (given y)) x; slots-named = tt; room = l })
+    (record { admitted = record { open-fits = ap (λ y. not (given y)) x; stations-known = tt; slots-named = tt }; room = l })
     (rw (x, v))
 
 pub record Closed (d : Desk) (e : Effect) : Type 0 where

@@ -10,10 +10,10 @@ use Rattle.higman.specs.Limits.{Plan}
 use Rattle.higman.specs.Bases.{all}
 use Rattle.higman.specs.Answers.{Route, Image, TooShort, NotRouted, routed}
 use Rattle.higman.specs.Fronts.{block}
-use Rattle.higman.specs.Refusals.{wrongState, slotOutside, slotEmpty, countFull, Letter}
+use Rattle.higman.specs.Refusals.{wrongState, slotOutside, slotEmpty, countFull, stationOutside, Letter}
 use Rattle.higman.specs.Text.{Bytes, wordOf}
-use Rattle.desk.specs.Desk.{Draft, Desk, held, dropped}
-use Rattle.desk.specs.Records.{Record, P, M, E, F, I, K, S, W, L, C, T as Tᴿ, U, X, slotsNamed, isChange}
+use Rattle.desk.specs.Desk.{Draft, Desk, held, dropped, isStation}
+use Rattle.desk.specs.Records.{Record, P, M, E, F, I, K, S, W, L, C, T as Tᴿ, U, X, Z, stationsNamed, slotsNamed, isChange}
 use Rattle.higman.specs.Listing.{slotNumber, isSlot}
 use Rattle.desk.specs.Replies.{Reply, silent, ok, okNumber, okWord, okBlock, lists, surveys, refuses, Outcome, refuse, pass, _>>=_}
 use Rattle.desk.specs.Replies.{openAmiss, openPlan, planIn, atLimit, ofRoute, job}
@@ -76,27 +76,32 @@ plan-open d = by-draft (d .draft) refl
     by-draft none e = stops
     by-draft (some o) e = passes e
 
--- what the tests around a job have found where it is done
-pub record Tested (d : Desk) (r : Record) : Type 0 where
+-- what the tests before a job have found where it is done, and the one behind it
+pub record Admitted (d : Desk) (r : Record) : Type 0 where
   pub open-fits : openAmiss d r ≡ false
+  pub stations-known : T (all isStation (stationsNamed r))
   pub slots-named : T (all (λ u. isSlot (u .slot)) (slotsNamed r))
+
+pub record Tested (d : Desk) (r : Record) : Type 0 where
+  pub admitted : Admitted d r
   pub room : (isChange r && atLimit d) ≡ false
 
-pub admitted : (d : Desk) (r : Record)
-    → Passes (λ _. (openAmiss d r ≡ false) × T (all (λ u. isSlot (u .slot)) (slotsNamed r))) (admission d r)
+pub admitted : (d : Desk) (r : Record) → Passes (λ _. Admitted d r) (admission d r)
 unfolding admission
 admitted d r =
-    passes-then (test-failed wrongState (openAmiss d r)) (λ _ o. named o (all (λ u. isSlot (u .slot)) (slotsNamed r)))
+    passes-then (test-failed wrongState (openAmiss d r)) (λ _ o.
+    passes-then (test-held stationOutside (all isStation (stationsNamed r))) (λ _ s.
+    named (all (λ u. isSlot (u .slot)) (slotsNamed r)) (λ k. record { open-fits = o; stations-known = s; slots-named = k })))
   where
-    named : openAmiss d r ≡ false → (b : Bool) → Passes (λ _. (openAmiss d r ≡ false) × T b) (slotOutside when not b)
-    named o true = passes (o, tt)
-    named o false = stops
+    named : {A : Type 0} (b : Bool) → (T b → A) → Passes (λ _. A) (slotOutside when not b)
+    named true f = passes (f tt)
+    named false f = stops
 
 pub passes-operation : (d : Desk) (r : Record) {Q : Effect → Type 0} → (Tested d r → Passes Q (job d r)) → Passes Q (operation d r)
 unfolding operation
 passes-operation d r {Q} done =
     passes-then (admitted d r)
-    (λ _ a. by-room (isChange r && atLimit d) refl (λ m. record { open-fits = a .0; slots-named = a .1; room = m }))
+    (λ _ a. by-room (isChange r && atLimit d) refl (λ m. record { admitted = a; room = m }))
   where
     by-room : (b : Bool) → (isChange r && atLimit d) ≡ b → ((isChange r && atLimit d) ≡ false → Tested d r)
         → Passes Q (job d r >>= λ e. (countFull when b) >>= λ _. pass e)
@@ -107,7 +112,14 @@ passes-operation d r {Q} done =
 pub operation-pass : (d : Desk) (r : Record) (e : Effect) → Tested d r → job d r ≡ pass e → operation d r ≡ pass e
 unfolding operation admission _>>=_
 operation-pass d r e t j =
-    rw (t .open-fits, test-passed (all (λ u. isSlot (u .slot)) (slotsNamed r)) (t .slots-named), j, t .room) refl
+    rw (
+      t .admitted .open-fits,
+      test-passed (all isStation (stationsNamed r)) (t .admitted .stations-known),
+      test-passed (all (λ u. isSlot (u .slot)) (slotsNamed r)) (t .admitted .slots-named),
+      j,
+      t .room,
+    )
+    refl
   where
     test-passed : (b : Bool) → T b → b ≡ true
     test-passed true h = refl
@@ -149,6 +161,7 @@ job-answers d (C a) = any-then _ (λ _. passes tt)
 job-answers d Tᴿ = passes tt
 job-answers d U = passes tt
 job-answers d (X a n r s seed) = any-then _ (λ _. any-then _ (λ _. passes tt))
+job-answers d (Z s) = passes tt
 
 -- only a refusal replies as one
 pub operation-answers : (d : Desk) (r : Record) → Passes Answered (operation d r)

@@ -1,24 +1,24 @@
--- What P, M, C, L, T and U do when they are not refused, which records change slots and count, and what a change is.
-use Prim.Native.Nat.{ℕ, zero, suc, _+_, _<_}
-use native.Mathlib.Omega.{arith}
+-- What P, M, C, L, T and U do when they are not refused, which records change slots and counts, and what a change is.
+use Prim.Native.Nat.{ℕ, _+_, _<_}
 use mathlib.Core.Path.{_≡_, refl, sym, _∙_, ap, subst}
 use mathlib.Core.Bool.{Bool, true, false}
 use mathlib.Core.List.{List, [], _∷_, List·Memᴰ, List·Memᴰ·head, List·Memᴰ·tail, List·Memᴰ·cases-cons, List·Memᴰ·not-nil}
 use mathlib.Core.Logic.{_⊎_, inl, inr}
 use mathlib.Core.Option.{Option, none, some}
 use lib.Dec.{T as So}
-use lib.ListN.{length, getD, set, replicate}
 use Rattle.higman.specs.Words.{given}
 use Rattle.higman.specs.Limits.{Plan, slotCount}
 use Rattle.higman.proofs.Tests.{clash, all-head}
 use Rattle.higman.specs.Text.{Bytes, wordOf}
-use Rattle.desk.specs.Desk.{Draft, Desk, freshDesk, countOf, held, changed, withDraft, withPair, dropped}
-use Rattle.desk.specs.Records.{Record, P, M, E, F, I, K, S, W, L, C, T, U, X, Use, reads, target, SlotUse, reading, writing, kind}
+use Rattle.desk.specs.Limits.{stationCount}
+use Rattle.desk.specs.Desk.{Draft, Desk, freshDesk, countOf, held, IsDesk, changed, withDraft, withPair, dropped, atStation}
+use Rattle.desk.specs.Records.{Record, P, M, E, F, I, K, S, W, L, C, T, U, X, Z, Use, reads, target, SlotUse, reading, writing, kind}
 use Rattle.desk.specs.Records.{needsOpen, slotsNamed, isChange}
 use Rattle.higman.specs.Listing.{slotNumber, isSlot}
 use Rattle.desk.specs.Replies.{Effect, silent, ok, okNumber, lists, surveys, isOpen, surveyed, newDraft, job, operation}
 use Rattle.desk.specs.Demands.{RepliesExact, SlotsUsed, DeskParts}
 use Rattle.desk.proofs.Outcomes.{Passes, passes, passes-then, any-then, passed, plan-held, plan-open, passes-operation}
+use Rattle.desk.proofs.Stays.{set-here, set-elsewhere, replicated, counted-own, counted-other}
 
 -- no plan is open where the test says so
 not-open : (d : Desk) → isOpen d ≡ false → d .draft ≡ none
@@ -33,7 +33,7 @@ Opens d a n r e = (d .draft ≡ none) × (e ≡ (withDraft d (newDraft a (record
 
 open-steps : (d : Desk) (a n r : ℕ) → Passes (Opens d a n r) (operation d (P a n r))
 unfolding job kind
-open-steps d a n r = passes-operation d (P a n r) (λ t. any-then _ (λ _. passes (not-open d (t .open-fits), refl)))
+open-steps d a n r = passes-operation d (P a n r) (λ t. any-then _ (λ _. passes (not-open d (t .admitted .open-fits), refl)))
 
 abbrev Adds : Desk → Bytes → Bytes → Effect → Type 0
 Adds d from to e = (o : Draft) × (d .draft ≡ some o) × (e ≡ (withDraft d (withPair o (record { from = wordOf from; to = wordOf to })), silent))
@@ -61,7 +61,7 @@ pub show-steps : (d : Desk) (a : ℕ) → Passes (Shows d a) (operation d (L a))
 unfolding job kind
 show-steps d a =
     passes-operation d (L a)
-    (λ t. let slot = all-head (λ u. isSlot (u .slot)) (reading a) [] (t .slots-named) in
+    (λ t. let slot = all-head (λ u. isSlot (u .slot)) (reading a) [] (t .admitted .slots-named) in
     passes-then (plan-held d a) (λ p x. passes (record { named = slot; plan = p; in-slot = x; effect = refl })))
 
 count-steps : (d : Desk) → Passes (λ e. e ≡ (d, okNumber (countOf d))) (operation d T)
@@ -72,32 +72,37 @@ find-steps : (d : Desk) → Passes (λ e. e ≡ (d, surveys (surveyed d))) (oper
 unfolding job
 find-steps d = passes-operation d U (λ _. passes refl)
 
--- slots and count: as they were, or the count one higher
+-- slots and counts: as they were, or the count of the named station one higher
 abbrev Unchanged : Desk → Effect → Type 0
-Unchanged d e = (e .0 .slots ≡ d .slots) × (countOf (e .0) ≡ countOf d)
+Unchanged d e = (e .0 .slots ≡ d .slots) × (e .0 .control .changes ≡ d .control .changes)
 
 abbrev Raised : Desk → Effect → Type 0
-Raised d e = countOf (e .0) ≡ countOf d + 1
+Raised d e = IsDesk d → countOf (e .0) ≡ countOf d + 1
 
 abbrev Counts : Bool → Desk → Effect → Type 0
 Counts true d e = Raised d e
 Counts false d e = Unchanged d e
 
+raised : (d : Desk) (i : ℕ) (x : Option Plan) → IsDesk d → countOf (changed d i x) ≡ countOf d + 1
+unfolding changed
+raised d i x D = counted-own (d .control) (D .control)
+
 count-of : (d : Desk) (r : Record) → Passes (Counts (isChange r) d) (job d r)
-unfolding job kind changed withDraft
+unfolding job kind withDraft atStation
 count-of d (P a n r) = any-then _ (λ _. passes (refl, refl))
 count-of d (M from to) = any-then _ (λ _. any-then _ (λ _. any-then _ (λ _. passes (refl, refl))))
-count-of d E = any-then _ (λ _. any-then _ (λ _. passes refl))
-count-of d (F a b c) = any-then _ (λ _. any-then _ (λ _. any-then _ (λ _. passes refl)))
-count-of d (I a c) = any-then _ (λ _. any-then _ (λ _. passes refl))
-count-of d (K a k c) = any-then _ (λ _. any-then _ (λ _. any-then _ (λ _. passes refl)))
+count-of d E = any-then _ (λ _. any-then _ (λ _. passes (raised d _ _)))
+count-of d (F a b c) = any-then _ (λ _. any-then _ (λ _. any-then _ (λ _. passes (raised d _ _))))
+count-of d (I a c) = any-then _ (λ _. any-then _ (λ _. passes (raised d _ _)))
+count-of d (K a k c) = any-then _ (λ _. any-then _ (λ _. any-then _ (λ _. passes (raised d _ _))))
 count-of d (S a b) = any-then _ (λ _. any-then _ (λ _. any-then _ (λ _. passes (refl, refl))))
 count-of d (W a code) = any-then _ (λ _. any-then _ (λ _. passes (refl, refl)))
 count-of d (L a) = any-then _ (λ _. passes (refl, refl))
-count-of d (C a) = any-then _ (λ _. passes refl)
+count-of d (C a) = any-then _ (λ _. passes (raised d _ _))
 count-of d T = passes (refl, refl)
 count-of d U = passes (refl, refl)
-count-of d (X a n r s seed) = any-then _ (λ _. any-then _ (λ _. passes refl))
+count-of d (X a n r s seed) = any-then _ (λ _. any-then _ (λ _. passes (raised d _ _)))
+count-of d (Z s) = passes (refl, refl)
 
 operation-counts : (d : Desk) (r : Record) → Passes (Counts (isChange r) d) (operation d r)
 operation-counts d r = passes-operation d r (λ _. count-of d r)
@@ -112,40 +117,25 @@ replies-exact =
       counts = λ d e h. passed (count-steps d) e h;
       surveys = λ d e h. passed (find-steps d) e h;
       only-changes = λ d r e b h. subst (λ x. Counts x d e) b (passed (operation-counts d r) e h);
-      raises = λ d r e b h. subst (λ x. Counts x d e) b (passed (operation-counts d r) e h);
+      raises = λ d r e D b h. subst (λ x. Counts x d e) b (passed (operation-counts d r) e h) D;
     }
 
--- a list with one place written
-set-here : (l : List (Option Plan)) (i : ℕ) (x : Option Plan) → i < length l → getD (set l i x) i none ≡ x
-set-here [] i x h = absurd (omega arith)
-set-here (y ∷ l) zero x h = refl
-set-here (y ∷ l) (suc i) x h = set-here l i x (omega arith)
-
-set-elsewhere : (l : List (Option Plan)) (i j : ℕ) (x : Option Plan) → (i ≡ j → ⊥) → getD (set l i x) j none ≡ getD l j none
-set-elsewhere [] i j x h = refl
-set-elsewhere (y ∷ l) zero zero x h = absurd (h refl)
-set-elsewhere (y ∷ l) zero (suc j) x h = refl
-set-elsewhere (y ∷ l) (suc i) zero x h = refl
-set-elsewhere (y ∷ l) (suc i) (suc j) x h = set-elsewhere l i j x (λ e. h (ap suc e))
-
-replicated : (n i : ℕ) (x : Option Plan) → getD (replicate n x) i x ≡ x
-replicated zero i x = refl
-replicated (suc n) zero x = refl
-replicated (suc n) (suc i) x = replicated n i x
-
 pub desk-parts : DeskParts
-unfolding freshDesk changed withDraft dropped
+unfolding freshDesk changed withDraft dropped atStation
 desk-parts =
     record {
       fresh-slots = λ i. replicated slotCount i none;
       fresh-open = refl;
-      fresh-count = refl;
-      changed-here = λ d i x e h. set-here (d .slots) i x (subst (λ n. i < n) (sym e) h);
-      changed-elsewhere = λ d i j x h. set-elsewhere (d .slots) i j x h;
-      changed-count = λ d i x. refl;
+      fresh-counts = λ s. replicated stationCount s 0;
+      changed-here = λ d i x e h. set-here (d .slots) i x none (subst (λ n. i < n) (sym e) h);
+      changed-elsewhere = λ d i j x h. set-elsewhere (d .slots) i j x none h;
+      changed-station = λ d i x. refl;
+      changed-count = λ d i x D. counted-own (d .control) (D .control);
+      other-counts = λ d i s x n. counted-other (d .control) s n;
       changed-open = λ d i x. refl;
       drafted = λ d o. (refl, refl, refl);
       dropped-parts = λ d. (refl, refl, refl);
+      station-parts = λ d s. (refl, refl, refl, refl);
     }
 
 -- a slot that is read holds a plan, at the first place of some uses and at the others
@@ -196,6 +186,7 @@ job-reads d (C a) = any-then _ (λ _. passes (writing-held d a [] (no-uses d)))
 job-reads d T = passes (no-uses d)
 job-reads d U = passes (no-uses d)
 job-reads d (X a n r s seed) = any-then _ (λ _. any-then _ (λ _. passes (writing-held d a [] (no-uses d))))
+job-reads d (Z s) = passes (no-uses d)
 
 -- slots other than the targets are as they were
 abbrev Spares : Desk → Record → Effect → Type 0
@@ -204,7 +195,7 @@ Spares d r e =
     → held (e .0) j ≡ held d j
 
 job-spares : (d : Desk) (r : Record) → Passes (Spares d r) (job d r)
-unfolding job kind withDraft
+unfolding job kind withDraft atStation
 job-spares d (P a n r) = any-then _ (λ _. passes (λ o j h. refl))
 job-spares d (M from to) = any-then _ (λ _. any-then _ (λ _. any-then _ (λ _. passes (λ o. absurd (clash refl o)))))
 job-spares d E = any-then _ (λ _. any-then _ (λ _. passes (λ o. absurd (clash refl o))))
@@ -227,6 +218,7 @@ job-spares d U = passes (λ o j h. refl)
 job-spares d (X a n r s seed) =
     any-then _ (λ _. any-then _ (λ p. passes (λ o j h. desk-parts .changed-elsewhere d (slotNumber a) j (some p)
     (h (writing a) (List·Memᴰ·head refl) refl))))
+job-spares d (Z s) = passes (λ o j h. refl)
 
 pub slots-used : SlotsUsed
 slots-used =

@@ -1,14 +1,14 @@
 -- A desk stays one, whatever line it is given. What is kept is a kept plan by higman's theorems; the rest is that one slot is
 -- written and the others are not.
-use Prim.Native.Nat.{ℕ, zero, suc, _<_, zero-le}
+use Prim.Native.Nat.{ℕ, zero, suc, _+_, _≤_, _<_}
 use native.Mathlib.Omega.{arith}
-use mathlib.Core.Path.{_≡_, refl, sym, _∙_, subst}
+use mathlib.Core.Path.{_≡_, refl, sym, _∙_, ap, subst}
 use mathlib.Core.Logic.{_⊎_, inl, inr}
-use mathlib.Core.Bool.{false, _&&_}
+use mathlib.Core.Bool.{Bool, true, false, _&&_}
 use mathlib.Core.List.{List, [], _∷_, _++_, map-append, List·Memᴰ, List·Memᴰ·head}
 use mathlib.Core.Option.{Option, none, some, Option·some-injective, Option·none-ne-some}
-use borrow.Author.Tests.{leb-false}
-use lib.Dec.{T, leb, le→leb, nleb→lt, not-T}
+use borrow.Author.Tests.{leb-false, eqb-true, eqb-false}
+use lib.Dec.{T, leb, eqb, le→leb, nleb→lt, not-T}
 use lib.ListN.{length, getD, set, replicate, length-set, length-append, length-replicate}
 use Rattle.higman.specs.Words.{Shape, isWord}
 use Rattle.higman.specs.Bases.{all}
@@ -20,18 +20,21 @@ use Rattle.higman.proofs.Demand3.{demand3}
 use Rattle.higman.proofs.Statements.{answers-exact}
 use Rattle.higman.specs.Exercises.{exercise}
 use Rattle.higman.proofs.Exercises.{exercises-exact}
-use Rattle.higman.proofs.Tests.{so, clash, and-left, and-right, and-intro, all-at, all-snoc}
+use Rattle.higman.proofs.Tests.{so, clash, and-left, and-right, and-intro, all-at, all-head, all-snoc}
 use Rattle.higman.proofs.KeptPlans.{arity-of-range}
 use Rattle.higman.specs.Text.{Bytes, wordOf}
 use Rattle.higman.proofs.PlanWords.{word-of-plan-word, plan-word-fits}
 use Rattle.higman.specs.Refusals.{wrongState, shapeOutside, badWord, pairsFull, slotEmpty}
-use Rattle.desk.specs.Limits.{maxChanges}
-use Rattle.desk.specs.Desk.{Draft, Desk, freshDesk, countOf, held, IsDraft, IsDesk, changed, withDraft, dropped, withPair}
-use Rattle.desk.specs.Records.{Record, P, M, E, F, I, K, S, W, L, C, T as Tᴿ, U, X, SlotUse, writing, slotsNamed, kind}
+use Rattle.desk.specs.Limits.{stationCount, maxChanges}
+use Rattle.desk.specs.Desk.{Draft, Control, Desk, freshControl, freshDesk, changesOf, countIn, countOf, held, IsDraft, IsControl}
+use Rattle.desk.specs.Desk.{IsDesk, counted}
+use Rattle.desk.specs.Desk.{changed, withDraft, dropped, naming, atStation, withPair, isStation}
+use Rattle.desk.specs.Records.{Record, P, M, E, F, I, K, S, W, L, C, T as Tᴿ, U, X, Z, SlotUse, writing, slotsNamed, kind}
 use Rattle.higman.specs.Listing.{slotNumber, isSlot}
 use Rattle.desk.specs.Replies.{Outcome, refuse, pass, openPlan, planIn, atLimit, ofVerdict, ofAnswer, Effect, newDraft, closed, job}
 use Rattle.desk.specs.Replies.{operation, recordOf, lineOperation, settle, respondLine}
 use Rattle.desk.specs.Theorems.{DeskStays}
+use Rattle.desk.proofs.Desks.{station-test}
 use Rattle.desk.proofs.Outcomes.{Passes, stops, passes, passes-then, any-then, test-failed, test-held, Tested, passes-operation}
 
 -- what a slot holds after one was written: what was written, or what it held
@@ -46,13 +49,72 @@ held-set (y ∷ l) (suc i) (suc j) x p e = held-set l i j x p e
 pub below-limit : (d : Desk) → atLimit d ≡ false → countOf d < maxChanges
 below-limit d e = leb-false maxChanges (countOf d) e
 
+-- a list with one place written, and one that has the same at all places
+pub set-here : {A : Type 0} (l : List A) (i : ℕ) (x z : A) → i < length l → getD (set l i x) i z ≡ x
+set-here [] i x z h = absurd (omega arith)
+set-here (y ∷ l) zero x z h = refl
+set-here (y ∷ l) (suc i) x z h = set-here l i x z (omega arith)
+
+pub set-elsewhere : {A : Type 0} (l : List A) (i j : ℕ) (x z : A) → (i ≡ j → ⊥) → getD (set l i x) j z ≡ getD l j z
+set-elsewhere [] i j x z h = refl
+set-elsewhere (y ∷ l) zero zero x z h = absurd (h refl)
+set-elsewhere (y ∷ l) zero (suc j) x z h = refl
+set-elsewhere (y ∷ l) (suc i) zero x z h = refl
+set-elsewhere (y ∷ l) (suc i) (suc j) x z h = set-elsewhere l i j x z (λ e. h (ap suc e))
+
+pub replicated : {A : Type 0} (n i : ℕ) (x : A) → getD (replicate n x) i x ≡ x
+replicated zero i x = refl
+replicated (suc n) zero x = refl
+replicated (suc n) (suc i) x = replicated n i x
+
+-- a change more, of the station that is named: its own count is one higher, and the others are what they were
+module _ (c : Control) where
+  pub counted-own : IsControl c → countIn (counted c) ≡ countIn c + 1
+  counted-own h = set-here (c .changes) (c .station) (countIn c + 1) 0 (omega (arith, h .named, h .each))
+
+  pub counted-other : (s : ℕ) → (c .station ≡ s → ⊥) → changesOf (counted c) s ≡ changesOf c s
+  counted-other s n = set-elsewhere (c .changes) (c .station) s (countIn c + 1) 0 n
+
+  pub counted-control : IsControl c → countIn c < maxChanges → IsControl (counted c)
+  counted-control h b =
+      record {
+        named = h .named;
+        each = length-set (c .changes) (c .station) (countIn c + 1) ∙ h .each;
+        within = λ s. by s (eqb (c .station) s) refl;
+      }
+    where
+      by : (s : ℕ) (t : Bool) → eqb (c .station) s ≡ t → changesOf (counted c) s ≤ maxChanges
+      by s true e = subst (λ k. changesOf (counted c) k ≤ maxChanges) (eqb-true (c .station) s e) (omega (arith, counted-own h))
+      by s false e = omega (arith, counted-other s (eqb-false (c .station) s e), h .within s)
+
+  pub naming-control : IsControl c → (s : ℕ) → s < stationCount → IsControl (naming c s)
+  naming-control h s k = record { named = k; each = h .each; within = h .within }
+
+some-station : 0 < stationCount
+unfolding stationCount
+some-station = omega arith
+
+fresh-control : IsControl freshControl
+fresh-control =
+    record {
+      named = some-station;
+      each = length-replicate stationCount 0;
+      within = λ s. omega (arith, replicated {A = ℕ} stationCount s 0);
+    }
+
 no-draft : {A : Type 0} {o : Draft} → none ≡ some o → A
 no-draft q = absurd (Option·none-ne-some _ q)
 
 changed-desk : (d : Desk) → IsDesk d → atLimit d ≡ false → (i : ℕ) (x : Option Plan) → ((p : Plan) → x ≡ some p → Kept p)
     → IsDesk (changed d i x)
 unfolding changed
-changed-desk d h e i x k = record { eight = length-set (d .slots) i x ∙ h .eight; kept = λ j p q. by j p (held-set (d .slots) i j x p q); drafted = λ o q. no-draft q; counted = let b : countOf d < maxChanges = below-limit d e in omega arith }
+changed-desk d h e i x k =
+    record {
+      eight = length-set (d .slots) i x ∙ h .eight;
+      kept = λ j p q. by j p (held-set (d .slots) i j x p q);
+      drafted = λ o q. no-draft q;
+      control = counted-control (d .control) (h .control) (below-limit d e);
+    }
   where
     by : (j : ℕ) (p : Plan) → (x ≡ some p) ⊎ (held d j ≡ some p) → Kept p
     by j p (inl q) = k p q
@@ -60,20 +122,26 @@ changed-desk d h e i x k = record { eight = length-set (d .slots) i x ∙ h .eig
 
 pub dropped-desk : (d : Desk) → IsDesk d → IsDesk (dropped d)
 unfolding dropped
-dropped-desk d h = record { eight = h .eight; kept = h .kept; drafted = λ o q. no-draft q; counted = h .counted }
+dropped-desk d h = record { eight = h .eight; kept = h .kept; drafted = λ o q. no-draft q; control = h .control }
 
 drafted-desk : (d : Desk) → IsDesk d → (o : Draft) → IsDraft o → IsDesk (withDraft d o)
 unfolding withDraft
-drafted-desk d h o k = record { eight = h .eight; kept = h .kept; drafted = λ o′ q. subst IsDraft (Option·some-injective o o′ q) k; counted = h .counted }
+drafted-desk d h o k = record { eight = h .eight; kept = h .kept; drafted = λ o′ q. subst IsDraft (Option·some-injective o o′ q) k; control = h .control }
+
+station-desk : (d : Desk) → IsDesk d → (s : ℕ) → s < stationCount → IsDesk (atStation d s)
+unfolding atStation
+station-desk d h s k =
+    record { eight = h .eight; kept = h .kept; drafted = h .drafted; control = naming-control (d .control) (h .control) s k }
 
 fresh-desk : IsDesk freshDesk
 unfolding freshDesk
-fresh-desk = record { eight = length-replicate slotCount none; kept = λ i p q. absurd (Option·none-ne-some p (sym (held-none slotCount i) ∙ q)); drafted = λ o q. no-draft q; counted = zero-le }
-  where
-    held-none : (n i : ℕ) → _≡_ {A = Option Plan} (getD (replicate n none) i none) none
-    held-none zero i = refl
-    held-none (suc n) zero = refl
-    held-none (suc n) (suc i) = held-none n i
+fresh-desk =
+    record {
+      eight = length-replicate slotCount none;
+      kept = λ i p q. absurd (Option·none-ne-some p (sym (replicated slotCount i none) ∙ q));
+      drafted = λ o q. no-draft q;
+      control = fresh-control;
+    }
 
 -- what each step passes on
 plan-kept : (d : Desk) → IsDesk d → (b : ℕ) → Passes Kept (planIn d b)
@@ -149,7 +217,7 @@ closed-kept o h e = answers-exact .keeps (o .shape) (h .in-range) (o .rows) (ans
 
 -- a slot that a record names is one of the eight
 pub slot-of-record : (d : Desk) (r : Record) → Tested d r → (u : SlotUse) → List·Memᴰ u (slotsNamed r) → slotNumber (u .slot) < slotCount
-slot-of-record d r t u m = slot-below (u .slot) (all-at (λ u. isSlot (u .slot)) (slotsNamed r) (t .slots-named) u m)
+slot-of-record d r t u m = slot-below (u .slot) (all-at (λ u. isSlot (u .slot)) (slotsNamed r) (t .admitted .slots-named) u m)
 
 job-stays : (d : Desk) → IsDesk d → (r : Record) → Tested d r → Passes Stays (job d r)
 unfolding job kind
@@ -180,6 +248,8 @@ job-stays d h (L a) t = any-then _ (λ _. passes h)
 job-stays d h (C a) t = any-then _ (λ _. passes (changed-desk d h (t .room) _ none none-kept))
 job-stays d h Tᴿ t = passes h
 job-stays d h U t = passes h
+job-stays d h (Z s) t =
+    passes (station-desk d h s (station-test s .0 (all-head isStation s [] (t .admitted .stations-known))))
 job-stays d h (X a n r s seed) t =
     let shape : Shape = record { arity = n; roots = r } in
     passes-then (test-held shapeOutside (shapeInRange shape)) (λ _ y. passes-then

@@ -73,7 +73,7 @@ needs-open-refused d h r n e o = clash (amiss (needsOpen r) n) (passed fits e o)
     known f (pass y) = passes-on f
 
     fits : Passes (λ _. openAmiss d r ≡ false) (operation d r)
-    fits = passes-operation d r (λ t. known (t .open-fits) (job d r))
+    fits = passes-operation d r (λ t. known (t .admitted .open-fits) (job d r))
 
 closed-left : (d : Desk) → d .draft ≡ none → (rs : List Record) → T (all needsOpen rs) → T (all wellFormed rs) → left d rs ≡ d
 unfolding run

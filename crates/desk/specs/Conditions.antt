@@ -3,7 +3,7 @@
 -- what is done besides, with one order for all records and by higman's answers. The table stands beside it to be held against the paper
 -- line by line: each number has here its own condition, in the words of the definitions and by itself, so that no number hides in an
 -- answer, in a record's kind or behind another step. This table is to be believed, with the tests that the theorems of higman fix. Read
--- Demands.antt next.
+-- Stations.antt next.
 use Prim.Native.Nat.{ℕ}
 use mathlib.Core.Path.{_≡_, refl}
 use mathlib.Core.Bool.{Bool, true, false, _&&_, _||_, not}
@@ -21,10 +21,10 @@ use Rattle.higman.specs.Limits.{seedInRange, pairFits}
 use Rattle.higman.specs.Answers.{sameShape}
 use Rattle.higman.specs.Exercises.{exercised}
 use Rattle.higman.specs.Refusals.{wrongState, shapeOutside, badWord, pairsFull, wordsOverlap, rootUncovered, slotOutside, slotEmpty}
-use Rattle.higman.specs.Refusals.{shapesDiffer, limitBroken, powerOutside, countFull, seedOutside, Letter}
+use Rattle.higman.specs.Refusals.{shapesDiffer, limitBroken, powerOutside, countFull, seedOutside, stationOutside, Letter}
 use Rattle.higman.specs.Text.{byte, wordOf}
-use Rattle.desk.specs.Desk.{Draft, Desk, freshDesk, held}
-use Rattle.desk.specs.Records.{Record, P, M, E, F, I, K, S, W, L, C, T, U, X}
+use Rattle.desk.specs.Desk.{Draft, Desk, freshDesk, held, isStation}
+use Rattle.desk.specs.Records.{Record, P, M, E, F, I, K, S, W, L, C, T, U, X, Z}
 use Rattle.higman.specs.Listing.{slotNumber, isSlot}
 use Rattle.desk.specs.Replies.{Outcome, refuse, pass, isOpen, atLimit}
 
@@ -146,6 +146,11 @@ conditions d (X a n r s seed) =
     (pairsFull if not (leb (length (exercised (record { arity = n; roots = r }) s seed)) maxPairs)) ∷
     (badWord if not (all pairFits (exercised (record { arity = n; roots = r }) s seed))) ∷
     (countFull if atLimit d) ∷
+    []
+-- "18, a digit above 7, after 1 and 2" (change request E5)
+conditions d (Z s) =
+    (wrongState if isOpen d) ∷
+    (stationOutside if not (isStation s)) ∷
     []
 
 -- the first condition that holds: its number and column

@@ -22,10 +22,11 @@ use Rattle.higman.specs.Fronts.{block}
 use Rattle.higman.specs.Exercises.{exercised, exercisePlan, ExercisesExact}
 use Rattle.higman.specs.Automorphisms.{PlansAreAutomorphisms}
 use Rattle.higman.specs.Refusals.{noRecord, wrongState, shapeOutside, badWord, pairsFull, wordsOverlap, rootUncovered, slotOutside}
-use Rattle.higman.specs.Refusals.{slotEmpty, shapesDiffer, limitBroken, powerOutside, countFull, seedOutside, Letter}
-use Rattle.desk.specs.Limits.{maxChanges, maxLine}
-use Rattle.desk.specs.Desk.{Draft, Desk, freshDesk, countOf, held, IsDesk, changed, withDraft, withPair, dropped}
-use Rattle.desk.specs.Records.{Record, P, M, E, F, I, K, S, W, L, C, T as Tᴿ, U, X, SlotUse, reads, target, needsOpen}
+use Rattle.higman.specs.Refusals.{slotEmpty, shapesDiffer, limitBroken, powerOutside, countFull, seedOutside, stationOutside, Letter}
+use Rattle.desk.specs.Limits.{stationCount, maxChanges, maxLine}
+use Rattle.desk.specs.Desk.{Draft, Desk, freshDesk, stationOf, changesOf, countOf, held, IsDesk, changed, withDraft, withPair}
+use Rattle.desk.specs.Desk.{dropped, atStation, isStation}
+use Rattle.desk.specs.Records.{Record, P, M, E, F, I, K, S, W, L, C, T as Tᴿ, U, X, Z, SlotUse, reads, target, needsOpen}
 use Rattle.desk.specs.Records.{slotsNamed, isChange, recordText, wellFormed}
 use Rattle.higman.specs.Listing.{slotNumber}
 use Rattle.desk.specs.Replies.{refuse, pass, Effect, silent, ok, okNumber, okWord, okBlock, lists, surveys, refuses, surveyed}
@@ -36,6 +37,7 @@ use Rattle.desk.specs.Theorems.{RefusalDrops, DeskStays, DeskTest, Surve
 use Rattle.desk.specs.Theorems.{TypedIn, AcceptedFromLines, BlockReplied}
 use Rattle.desk.specs.Theorems.{ListingReadBack, LentCallsExact}
 use Rattle.desk.specs.Grammar.{NoRecord, TextExact}
+use Rattle.desk.specs.Stations.{CountsOfStations}
 
 -- the numbers that the operation of a record may be refused with; 13, 14 and 15 are of library calls
 unfoldable pub operationNumbers : List ℕ
@@ -53,6 +55,7 @@ operationNumbers =
     powerOutside ∷
     countFull ∷
     seedOutside ∷
+    stationOutside ∷
     []
 
 -- and those of a line, which may be no record
@@ -89,6 +92,7 @@ OfOpenPlan (C a) = ⊥
 OfOpenPlan Tᴿ = ⊥
 OfOpenPlan U = ⊥
 OfOpenPlan (X a n r s seed) = ⊥
+OfOpenPlan (Z s) = ⊥
 
 -- "2, an M or E with no plan open, or any other record while one is open", before every other number of a record
 pub record WrongState : Type 0 where
@@ -111,7 +115,7 @@ pub record Demand1 : Type 0 where
   pub desk-stays : DeskStays
   -- the paper's numbers, name by name, and those of a line
   pub numbers-named : NumbersNamed
-  pub numbers : refusalNumbers ≡ 1 ∷ 2 ∷ 3 ∷ 4 ∷ 5 ∷ 6 ∷ 7 ∷ 8 ∷ 9 ∷ 10 ∷ 11 ∷ 12 ∷ 16 ∷ 17 ∷ []
+  pub numbers : refusalNumbers ≡ 1 ∷ 2 ∷ 3 ∷ 4 ∷ 5 ∷ 6 ∷ 7 ∷ 8 ∷ 9 ∷ 10 ∷ 11 ∷ 12 ∷ 16 ∷ 17 ∷ 18 ∷ []
   -- 1 exactly where a line is no record, a record's line does what the record does, and every other number is given under its
   -- condition and no other: the first that holds
   pub no-record : (d : Desk) (line : Bytes) → ((c : Option Letter) × (lineOperation d line ≡ refuse noRecord c)) ↔ NoRecord line
@@ -125,25 +129,32 @@ pub record Demand1 : Type 0 where
   pub desk-test : DeskTest
   pub calls : LentCallsExact
 
--- What becomes of a desk that is changed, gets an open plan or loses it.
+-- What becomes of a desk that is changed, gets an open plan or loses it, or has another station named.
 pub record DeskParts : Type 0 where
   -- "A fresh desk has empty slots and count 0."
   pub fresh-slots : (i : ℕ) → held freshDesk i ≡ none
   pub fresh-open : freshDesk .draft ≡ none
-  pub fresh-count : countOf freshDesk ≡ 0
-  -- a change: one slot holds something else, the others hold what they held, and the count is one higher
+  pub fresh-counts : (s : ℕ) → changesOf (freshDesk .control) s ≡ 0
+  -- a change: one slot holds something else, the others hold what they held, and the count of the named station is one higher
   pub changed-here : (d : Desk) (i : ℕ) (content : Option Plan) → length (d .slots) ≡ slotCount → i < slotCount
       → held (changed d i content) i ≡ content
   pub changed-elsewhere : (d : Desk) (i j : ℕ) (content : Option Plan) → (i ≡ j → ⊥) → held (changed d i content) j ≡ held d j
-  pub changed-count : (d : Desk) (i : ℕ) (content : Option Plan) → countOf (changed d i content) ≡ countOf d + 1
+  pub changed-station : (d : Desk) (i : ℕ) (content : Option Plan) → stationOf (changed d i content) ≡ stationOf d
+  pub changed-count : (d : Desk) (i : ℕ) (content : Option Plan) → IsDesk d → countOf (changed d i content) ≡ countOf d + 1
+  pub other-counts : (d : Desk) (i s : ℕ) (content : Option Plan) → (stationOf d ≡ s → ⊥)
+      → changesOf (changed d i content .control) s ≡ changesOf (d .control) s
   pub changed-open : (d : Desk) (i : ℕ) (content : Option Plan) → changed d i content .draft ≡ none
   -- an open plan: nothing else changes
   pub drafted : (d : Desk) (o : Draft)
-      → (withDraft d o .slots ≡ d .slots) × (withDraft d o .draft ≡ some o) × (countOf (withDraft d o) ≡ countOf d)
+      → (withDraft d o .slots ≡ d .slots) × (withDraft d o .draft ≡ some o) × (withDraft d o .control ≡ d .control)
   -- it is dropped: nothing else changes
-  pub dropped-parts : (d : Desk) → (dropped d .slots ≡ d .slots) × (dropped d .draft ≡ none) × (countOf (dropped d) ≡ countOf d)
+  pub dropped-parts : (d : Desk) → (dropped d .slots ≡ d .slots) × (dropped d .draft ≡ none) × (dropped d .control ≡ d .control)
+  -- another station is named: nothing else changes
+  pub station-parts : (d : Desk) (s : ℕ)
+      → (atStation d s .slots ≡ d .slots) × (atStation d s .draft ≡ d .draft) × (stationOf (atStation d s) ≡ s)
+      × (atStation d s .control .changes ≡ d .control .changes)
 
--- What P, M, C, L, T and U do when they are not refused, and which records change slots and count at all.
+-- What P, M, C, L, T and U do when they are not refused, and which records change slots and counts at all.
 pub record RepliesExact : Type 0 where
   pub opens : (d : Desk) (a n r : ℕ) (e : Effect) → operation d (P a n r) ≡ pass e
       → (d .draft ≡ none) × (e ≡ (withDraft d (newDraft a (record { arity = n; roots = r })), silent))
@@ -156,8 +167,9 @@ pub record RepliesExact : Type 0 where
   pub counts : (d : Desk) (e : Effect) → operation d Tᴿ ≡ pass e → e ≡ (d, okNumber (countOf d))
   pub surveys : (d : Desk) (e : Effect) → operation d U ≡ pass e → e ≡ (d, surveys (surveyed d))
   pub only-changes : (d : Desk) (r : Record) (e : Effect) → isChange r ≡ false → operation d r ≡ pass e
-      → (e .0 .slots ≡ d .slots) × (countOf (e .0) ≡ countOf d)
-  pub raises : (d : Desk) (r : Record) (e : Effect) → isChange r ≡ true → operation d r ≡ pass e → countOf (e .0) ≡ countOf d + 1
+      → (e .0 .slots ≡ d .slots) × (e .0 .control .changes ≡ d .control .changes)
+  pub raises : (d : Desk) (r : Record) (e : Effect) → IsDesk d → isChange r ≡ true → operation d r ≡ pass e
+      → countOf (e .0) ≡ countOf d + 1
 
 -- What a record does to the slots that it names: what it reads is held, and of all slots only its targets change. (E writes to the slot
 -- of the open plan, which it does not name.)
@@ -240,6 +252,7 @@ pub record Demand2 : Type 0 where
   -- the other records, and what "changed" means
   pub replies : RepliesExact
   pub slots-used : SlotsUsed
+  pub stations : CountsOfStations
   pub desk-parts : DeskParts
   pub survey : SurveyExact
   -- what E judges is what was typed, in the order in which it was typed, and all of this from the typed lines on
@@ -260,9 +273,13 @@ pub record SessionExact : Type 0 where
 -- Grammar.antt.
 pub record LimitsExact : Type 0 where
   pub plans : PlanLimitsExact
+  -- "Eight stations"; "18, a digit above 7"
+  pub stations : stationCount ≡ 8
+  pub station-numbers : (s : ℕ) → T (isStation s) ↔ (s ≤ 7)
   -- "a count of changes from 0 to 4,000,000,000"; "16, the count is at its limit"
   pub changes : maxChanges ≡ 4_000_000_000
   pub full-count : (d : Desk) → T (atLimit d) ↔ (4_000_000_000 ≤ countOf d)
+  pub counts-within : (d : Desk) → IsDesk d → (s : ℕ) → changesOf (d .control) s ≤ 4_000_000_000
   -- "Lines hold at most 1,100 bytes, byte 10 not counted"
   pub lines : maxLine ≡ 1_100
 

@@ -18,7 +18,7 @@ use Rattle.higman.specs.Refusals.{Letter}
 use Rattle.higman.specs.Listing.{slotByte, joinLines, listing}
 use Rattle.higman.specs.Theorems.{SlotsExact, DecimalsExact}
 use Rattle.desk.specs.Limits.{maxLine}
-use Rattle.desk.specs.Records.{Record, P, M, E, F, I, K, S, W, L, C, T, U, X, fields, parse, recordFields, recordText, noTab}
+use Rattle.desk.specs.Records.{Record, P, M, E, F, I, K, S, W, L, C, T, U, X, Z, fields, parse, recordFields, recordText, noTab}
 use Rattle.desk.specs.Records.{wellFormed}
 use Rattle.desk.specs.Replies.{Held, pairsIn, silent, ok, okNumber, okWord, okBlock, lists, surveys, refuses}
 use Rattle.desk.specs.Bytes.{lineOf, okLine, partFields, heldFields, replyBytes}
@@ -49,9 +49,11 @@ pub record RecordForms : Type 0 where
   -- "X⇥slot⇥n⇥r⇥s⇥seed" (change request E3)
   pub X-text : (a n r s seed : ℕ)
       → recordText (X a n r s seed) ≡ 88 ∷ 9 ∷ a ∷ 9 ∷ (decimal n ++ 9 ∷ (decimal r ++ 9 ∷ (decimal s ++ 9 ∷ decimal seed)))
+  -- "Z⇥digit" (change request E5)
+  pub Z-text : (s : ℕ) → recordText (Z s) ≡ 90 ∷ 9 ∷ decimal s
 
 -- what it is for the numbers of a record to fit their fields: "n and r one digit 0 to 9", "k .. one to four digits", "s one or two
--- digits and seed one to ten"
+-- digits and seed one to ten", and one digit for a station
 abbrev pub NumbersFit : Record → Type 0
 NumbersFit (P a n r) = (n < 10) × (r < 10)
 NumbersFit (M from to) = Unit {0}
@@ -66,6 +68,7 @@ NumbersFit (C a) = Unit {0}
 NumbersFit T = Unit {0}
 NumbersFit U = Unit {0}
 NumbersFit (X a n r s seed) = (n < 10) × (r < 10) × (s < 100) × (seed < 10_000_000_000)
+NumbersFit (Z s) = s < 10
 
 -- a record is well formed exactly when no field has a tab in it and its numbers fit
 abbrev pub WellFormedExact : Type 0

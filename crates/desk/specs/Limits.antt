@@ -2,7 +2,11 @@
 -- them need be believed: `LimitsExact` of Demands.antt and `NumbersFit` of Grammar.antt have the figures. Read Desk.antt next.
 use Prim.Native.Nat.{ℕ}
 
--- "a count of changes from 0 to 4,000,000,000"
+-- "Eight stations now type into one desk" (change request E5)
+unfoldable pub stationCount : ℕ
+stationCount = 8
+
+-- "a count of changes from 0 to 4,000,000,000", and "each station has the limit of 4,000,000,000"
 unfoldable pub maxChanges : ℕ
 maxChanges = 4_000_000_000
 

@@ -1,7 +1,8 @@
 -- From a line of bytes to a record (document 01, "Records", with "Field forms"). A line that is no record, by its letter, its number of
 -- fields or a field's form, has none: that is refusal 1. With it the text of each record, and what of its kind a record says: whether it
--- needs an open plan, which slots it names and what for, and whether it is a change. To be believed: `Record`. The grammar need not be:
--- `GrammarExact`, `RecordForms` and `WellFormedExact` fix it; and `RepliesExact` and `SlotsUsed` the kinds. Read Replies.antt next.
+-- needs an open plan, which stations it names, which slots and what for, and whether it is a change. To be believed: `Record`. The grammar
+-- need not be: `GrammarExact`, `RecordForms` and `WellFormedExact` fix it; and `RepliesExact`, `SlotsUsed` and `first-condition` of Demand1
+-- the kinds. Read Replies.antt next.
 use Prim.Native.Nat.{ℕ, zero, suc}
 use mathlib.Core.Path.{_≡_, refl}
 use mathlib.Core.Bool.{Bool, true, false, _&&_, not}
@@ -42,6 +43,8 @@ pub data Record : Type 0 where
   U : Record
   -- X⇥slot⇥n⇥r⇥s⇥seed makes a plan by numbers and keeps it (change request E3)
   X : ℕ → ℕ → ℕ → ℕ → ℕ → Record
+  -- Z⇥station names the station for the records after it (change request E5)
+  Z : ℕ → Record
 
 -- a byte in front of the first field
 abbrev pub inFront : ℕ → List Bytes → List Bytes
@@ -127,6 +130,7 @@ grammar =
     record { letter = byte "T"; reads = noMore T } ∷
     record { letter = byte "U"; reads = noMore U } ∷
     record { letter = byte "X"; reads = field slotField (λ a. field (numberField 1) (λ n. field (numberField 1) (exerciseFields a n))) } ∷
+    record { letter = byte "Z"; reads = field (numberField 1) (λ s. noMore (Z s)) } ∷
     []
 
 -- the record of a letter and fields by the first rule for the letter; an unknown letter has none
@@ -168,6 +172,8 @@ recordFields T = bytes "T" ∷ []
 recordFields U = bytes "U" ∷ []
 -- "X⇥slot⇥n⇥r⇥s⇥seed"
 recordFields (X a n r s seed) = bytes "X" ∷ (a ∷ []) ∷ decimal n ∷ decimal r ∷ decimal s ∷ decimal seed ∷ []
+-- "Z⇥digit"
+recordFields (Z s) = bytes "Z" ∷ decimal s ∷ []
 
 unfoldable pub recordText : Record → Bytes
 recordText r = parted (recordFields r)
@@ -194,6 +200,7 @@ numbersFit (C a) = true
 numbersFit T = true
 numbersFit U = true
 numbersFit (X a n r s seed) = hasDigits 1 n && hasDigits 1 r && hasDigits maxSplitsNumeral s && hasDigits maxSeedNumeral seed
+numbersFit (Z s) = hasDigits 1 s
 
 -- a record that some line is the text of
 unfoldable pub wellFormed : Record → Bool
@@ -214,19 +221,20 @@ reading a = record { slot = a; does = reads }
 abbrev pub writing : ℕ → SlotUse
 writing a = record { slot = a; does = target }
 
--- What a record says by its kind: whether it needs an open plan, the slots that it names in the order of its fields, and whether it is a
--- change.
+-- What a record says by its kind: whether it needs an open plan, the stations and the slots that it names in the order of its fields, and
+-- whether it is a change.
 pub record Kind : Type 0 where
   pub open-plan : Bool
+  pub stations : List ℕ
   pub slots : List SlotUse
   pub change : Bool
 
 -- a record of the open plan, and one of some slots: one that asks of them, and one that changes one
 abbrev pub ofOpenPlan : Bool → Kind
-ofOpenPlan b = record { open-plan = true; slots = []; change = b }
+ofOpenPlan b = record { open-plan = true; stations = []; slots = []; change = b }
 
 abbrev pub ofSlots : List SlotUse → Bool → Kind
-ofSlots us b = record { open-plan = false; slots = us; change = b }
+ofSlots us b = record { open-plan = false; stations = []; slots = us; change = b }
 
 abbrev pub asking : List SlotUse → Kind
 asking us = ofSlots us false
@@ -248,15 +256,19 @@ kind (C a) = changing (writing a ∷ [])
 kind T = asking []
 kind U = asking []
 kind (X a n r s seed) = changing (writing a ∷ [])
+kind (Z s) = record { open-plan = false; stations = s ∷ []; slots = []; change = false }
 
 -- "2, an M or E with no plan open, or any other record while one is open"
 abbrev pub needsOpen : Record → Bool
 needsOpen r = kind r .open-plan
 
+abbrev pub stationsNamed : Record → List ℕ
+stationsNamed r = kind r .stations
+
 abbrev pub slotsNamed : Record → List SlotUse
 slotsNamed r = kind r .slots
 
--- "E, F, I, K and C raise the count by one.", and X does so "as E does" (change request E3)
+-- "E, F, I, K and C raise the count by one.", X does so "as E does" (change request E3), and "Z counts no change" (E5)
 abbrev pub isChange : Record → Bool
 isChange r = kind r .change
 
@@ -285,6 +297,12 @@ parse-exercise-example : map (λ l. parse (bytes "X\tA\t2\t1\t" ++ bytes l))
     ≡ some (X (byte "A") 2 1 0 9_999_999_999) ∷ some (X (byte "A") 2 1 99 0) ∷ none ∷ none ∷ none ∷ none ∷ []
 unfolding parse grammar maxNumeral maxSplitsNumeral maxSeedNumeral
 parse-exercise-example = refl
+
+-- a station of one digit, whatever its range
+parse-station-example : map (λ l. parse (bytes "Z" ++ bytes l)) ("\t0" ∷ "\t9" ∷ "" ∷ "\t" ∷ "\t10" ∷ "\t-0" ∷ "\t1\t" ∷ [])
+    ≡ some (Z 0) ∷ some (Z 9) ∷ none ∷ none ∷ none ∷ none ∷ none ∷ []
+unfolding parse grammar
+parse-station-example = refl
 
 recordText-example : map recordText (K (byte "A") (negsuc 1) (byte "z") ∷ M (bytes "11") [] ∷ E ∷ [])
     ≡ bytes "K\tA\t-2\tz" ∷ bytes "M\t11\t" ∷ bytes "E" ∷ []

@@ -22,13 +22,14 @@ use Rattle.higman.specs.Answers.{routed}
 use Rattle.higman.specs.Fronts.{block}
 use Rattle.higman.specs.Exercises.{nextDraw, drawn, grown, shuffled, exercised, exercise}
 use Rattle.higman.specs.Refusals.{noRecord, wrongState, shapeOutside, badWord, pairsFull, slotOutside, slotEmpty, powerOutside, countFull}
-use Rattle.higman.specs.Refusals.{Letter}
+use Rattle.higman.specs.Refusals.{stationOutside, Letter}
 use Rattle.higman.specs.Text.{Bytes, byte, bytes, digitOf, wordOf}
 use Rattle.higman.specs.Listing.{slotNumber, isSlot}
-use Rattle.desk.specs.Limits.{maxChanges, maxLine}
-use Rattle.desk.specs.Desk.{Draft, Desk, freshDesk, countOf, held, changed, withDraft, dropped, atCount, withPair}
+use Rattle.desk.specs.Limits.{stationCount, maxChanges, maxLine}
+use Rattle.desk.specs.Desk.{Draft, Desk, freshDesk, countOf, held, changed, withDraft, dropped, atStation, atCount, withPair}
+use Rattle.desk.specs.Desk.{isStation}
 use Rattle.desk.specs.Records.{Record, P, M, E, F, I, K, S, W, L}
-use Rattle.desk.specs.Records.{C, T, U, X, grammar, parse, needsOpen, SlotUse, slotsNamed, isChange, kind}
+use Rattle.desk.specs.Records.{C, T, U, X, Z, grammar, parse, needsOpen, SlotUse, stationsNamed, slotsNamed, isChange, kind}
 
 -- a slot that holds a plan
 pub record Held : Type 0 where
@@ -77,6 +78,10 @@ openAmiss d r = elim (needsOpen r) [ true ↦ not (isOpen d) | false ↦ isOpen 
 abbrev pub openPlan : Desk → Outcome Draft
 openPlan d = elim (d .draft) [ none ↦ refuse wrongState none | some o ↦ pass o ]
 
+-- 18, "a digit above 7" (change request E5)
+abbrev pub noStation : List ℕ → Bool
+noStation ss = not (all isStation ss)
+
 -- 8, "a slot byte outside A to H"
 abbrev pub outside : List SlotUse → Bool
 outside us = not (all (λ u. isSlot (u .slot)) us)
@@ -85,7 +90,7 @@ outside us = not (all (λ u. isSlot (u .slot)) us)
 abbrev pub planIn : Desk → ℕ → Outcome Plan
 planIn d b = elim (held d (slotNumber b)) [ none ↦ refuse slotEmpty none | some p ↦ pass p ]
 
--- 16, "the count is at its limit"
+-- 16, "the count is at its limit": that of the named station, so that "one station at its limit leaves the others free to work"
 abbrev pub atLimit : Desk → Bool
 atLimit d = leb maxChanges (countOf d)
 
@@ -226,11 +231,13 @@ job d (X a n r s seed) = do
   -- 17, 5 and 4
   p ← ofAnswer (exercise (record { arity = n; roots = r }) s seed)
   pass (keepIn d (slotNumber a) p)
+job d (Z s) = pass (atStation d s, ok)
 
--- the tests that all records have in common, by what a record says of its kind: 2, then 8
+-- the tests that all records have in common, by what a record says of its kind: 2, then 18, then 8
 unfoldable pub admission : Desk → Record → Outcome (Unit {0})
 admission d r = do
   _ ← wrongState when openAmiss d r
+  _ ← stationOutside when noStation (stationsNamed r)
   slotOutside when outside (slotsNamed r)
 
 -- "When each operation says no": what all records have in common, then the record's own numbers, and 16 last where the record is a change
@@ -274,7 +281,7 @@ deskAfter d (e ∷ es) = deskAfter (e .0) es
 operation-example : map (λ r. settle freshDesk (operation freshDesk r) .1)
     (T ∷ U ∷ M [] [] ∷ P (byte "I") 2 1 ∷ P (byte "H") 1 1 ∷ L (byte "A") ∷ F (byte "A") (byte "A") (byte "a") ∷ K (byte "A") (pos 1001) (byte "A") ∷ [])
     ≡ okNumber 0 ∷ surveys [] ∷ refuses 2 none ∷ refuses 8 none ∷ refuses 3 none ∷ refuses 9 none ∷ refuses 8 none ∷ refuses 12 none ∷ []
-unfolding _>>=_ operation admission job surveyed kind freshDesk slotCount shapeInRange maxPower
+unfolding _>>=_ operation admission job surveyed kind freshDesk slotCount stationCount shapeInRange maxPower
 operation-example = refl
 
 -- "Lines hold at most 1,100 bytes": W with a code so long that the line has 1,100, and one byte more
@@ -290,7 +297,7 @@ openDesk = withDraft freshDesk (newDraft (byte "A") (record { arity = 2; roots =
 open-example : map (λ r. settle openDesk (operation openDesk r) .1)
     (T ∷ U ∷ P (byte "A") 2 1 ∷ L (byte "A") ∷ X (byte "I") 2 1 2 1 ∷ M (bytes "1") (bytes "1") ∷ E ∷ [])
     ≡ refuses 2 none ∷ refuses 2 none ∷ refuses 2 none ∷ refuses 2 none ∷ refuses 2 none ∷ silent ∷ refuses 7 (some Letter.F) ∷ []
-unfolding _>>=_ operation admission job kind freshDesk withDraft slotCount isPlanWord maxPairs maxDigits verdict digitOf
+unfolding _>>=_ operation admission job kind freshDesk withDraft slotCount stationCount isPlanWord maxPairs maxDigits verdict digitOf
 open-example = refl
 
 -- X on a fresh desk: two pairs kept; a slot outside, a shape outside, a seed outside and 199 pairs, some of whose words have 17 digits,
@@ -298,19 +305,19 @@ open-example = refl
 exercise-example : map (λ r. settle freshDesk (operation freshDesk r) .1)
     (X (byte "A") 2 1 2 1 ∷ X (byte "I") 1 1 99 0 ∷ X (byte "A") 1 1 99 0 ∷ X (byte "A") 3 1 99 0 ∷ X (byte "A") 3 1 99 22 ∷ [])
     ≡ okNumber 2 ∷ refuses 8 none ∷ refuses 3 none ∷ refuses 17 none ∷ refuses 5 none ∷ []
-unfolding _>>=_ operation admission job kind freshDesk changed slotCount shapeInRange seedInRange maxPairs maxDigits maxChanges
+unfolding _>>=_ operation admission job kind freshDesk changed slotCount stationCount shapeInRange seedInRange maxPairs maxDigits maxChanges
     exercise exercised grown shuffled drawn nextDraw keep normalForm normal joined
 exercise-example = refl
 
 -- a line that is no record, and a record
 respondLine-example : map (λ l. respondLine freshDesk (bytes l) .1) ("" ∷ "T " ∷ "T" ∷ [])
     ≡ refuses 1 none ∷ refuses 1 none ∷ okNumber 0 ∷ []
-unfolding _>>=_ respondLine lineOperation operation admission job kind parse grammar freshDesk slotCount maxLine
+unfolding _>>=_ respondLine lineOperation operation admission job kind parse grammar freshDesk slotCount stationCount maxLine
 respondLine-example = refl
 
 -- 100 pairs, and two from-words of 17 digits among them
 exercise-word-example : operation freshDesk (X (byte "A") 2 1 99 5) ≡ refuse 4 none
-unfolding _>>=_ operation admission job kind freshDesk slotCount shapeInRange seedInRange maxPairs maxDigits exercise exercised
+unfolding _>>=_ operation admission job kind freshDesk slotCount stationCount shapeInRange seedInRange maxPairs maxDigits exercise exercised
     grown shuffled drawn nextDraw
 exercise-word-example = refl
 
@@ -325,7 +332,7 @@ fullCount = atCount (changed freshDesk 0 (some (plan21 ψ))) maxChanges
 full-count-example : map (λ r. settle fullCount (operation fullCount r) .1)
     (T ∷ C (byte "A") ∷ C (byte "B") ∷ I (byte "A") (byte "B") ∷ K (byte "A") (pos 1001) (byte "B") ∷ X (byte "B") 2 1 2 1 ∷ X (byte "B") 2 1 2 0 ∷ W (byte "A") (bytes "12") ∷ [])
     ≡ okNumber 4_000_000_000 ∷ refuses 16 none ∷ refuses 9 none ∷ refuses 16 none ∷ refuses 12 none ∷ refuses 16 none ∷ refuses 17 none ∷ okWord (spell 122) ∷ []
-unfolding _>>=_ operation admission job kind freshDesk changed slotCount maxChanges maxPower inverted inverse keep normalForm
+unfolding _>>=_ operation admission job kind freshDesk changed slotCount stationCount maxChanges maxPower inverted inverse keep normalForm
     normal joined routed isCode maxCode digitOf shapeInRange seedInRange maxPairs maxDigits exercise exercised grown shuffled drawn nextDraw
 full-count-example = refl
 
@@ -336,29 +343,30 @@ twoPlans = changed (changed freshDesk 0 (some (plan21 ψ))) 1 (some (plan21 φ))
 done-example : map (λ r. settle twoPlans (operation twoPlans r) .1)
     (S (byte "A") (byte "A") ∷ S (byte "A") (byte "B") ∷ L (byte "B") ∷ C (byte "B") ∷ U ∷ [])
     ≡ okNumber 1 ∷ okNumber 0 ∷ lists (byte "B") (plan21 φ) ∷ ok ∷ surveys (record { slot = 0; plan = plan21 ψ } ∷ record { slot = 1; plan = plan21 φ } ∷ []) ∷ []
-unfolding _>>=_ operation admission job surveyed kind freshDesk changed slotCount same maxChanges
+unfolding _>>=_ operation admission job surveyed kind freshDesk changed slotCount stationCount same maxChanges
 done-example = refl
 
 -- one pair in A, three in B and in H: the most pairs first, and of equal ones the lower letter
 surveyed-example : map (λ h. h .slot) (surveyed (changed (changed twoPlans 7 (some (plan21 ψ))) 0 (some (plan21 (row 1 1 ∷ []))))) ≡ 1 ∷ 7 ∷ 0 ∷ []
-unfolding surveyed freshDesk changed slotCount
+unfolding surveyed freshDesk changed slotCount stationCount
 surveyed-example = refl
 
 -- W by ψ: an image, the blocks of 11 and of the belt, and a wrong digit
 front-example : map (λ code. settle twoPlans (operation twoPlans (W (byte "A") (bytes code))) .1)
     ("1122" ∷ "11" ∷ "1" ∷ "13" ∷ [])
     ≡ okWord (spell 1212) ∷ okBlock (row 111 11 ∷ row 112 121 ∷ []) ∷ okBlock ψ ∷ refuses 4 none ∷ []
-unfolding _>>=_ operation admission job kind freshDesk changed slotCount routed block isCode maxCode digitOf
+unfolding _>>=_ operation admission job kind freshDesk changed slotCount stationCount routed block isCode maxCode digitOf
 front-example = refl
 
 emptied-example : settle twoPlans (operation twoPlans (C (byte "B"))) .0 ≡ atCount (changed freshDesk 0 (some (plan21 ψ))) 3
-unfolding _>>=_ operation admission job kind freshDesk changed slotCount maxChanges
+unfolding _>>=_ operation admission job kind freshDesk changed slotCount stationCount maxChanges
 emptied-example = refl
 
 -- "Operands are read before c is written, so letters may repeat."
 repeated-letters-example : map (λ r. held (settle twoPlans (operation twoPlans r) .0) 0)
     (F (byte "A") (byte "A") (byte "A") ∷ F (byte "B") (byte "A") (byte "A") ∷ F (byte "A") (byte "B") (byte "A") ∷ I (byte "A") (byte "A") ∷ [])
     ≡ some (plan21 (row 1111 11 ∷ row 1112 121 ∷ row 112 1221 ∷ row 12 1222 ∷ [])) ∷ some (plan21 (row 111 1222 ∷ row 112 1221 ∷ row 121 11 ∷ row 122 121 ∷ [])) ∷ some (plan21 (row 1111 122 ∷ row 1112 121 ∷ row 112 111 ∷ row 12 112 ∷ [])) ∷ some (plan21 (row 11 111 ∷ row 121 112 ∷ row 122 12 ∷ [])) ∷ []
-unfolding _>>=_ operation admission job kind freshDesk changed slotCount maxChanges followed inverted granted maxPairs maxDigits
+unfolding _>>=_ operation admission job kind freshDesk changed slotCount stationCount maxChanges followed inverted granted maxPairs
+    maxDigits
     compose inverse keep normalForm normal joined
 repeated-letters-example = refl

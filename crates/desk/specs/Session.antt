@@ -17,7 +17,7 @@ use Rattle.higman.specs.Fronts.{block}
 use Rattle.higman.specs.Text.{digitOf, lineEnd, Bytes, byte, bytes, lines}
 use Rattle.higman.specs.Refusals.{noRecord}
 use Rattle.higman.specs.Listing.{joinLines}
-use Rattle.desk.specs.Limits.{maxChanges, maxLine, maxNumeral}
+use Rattle.desk.specs.Limits.{stationCount, maxChanges, maxLine, maxNumeral}
 use Rattle.desk.specs.Desk.{Desk, freshDesk, changed, withDraft, dropped}
 use Rattle.desk.specs.Records.{grammar, parse, kind}
 use Rattle.desk.specs.Replies.{_>>=_, Effect, refuse, settle, job, operation, admission, lineOperation, respondLine, run}
@@ -127,6 +127,7 @@ linesFrom-example = refl
 -- a last line without byte 10, and none behind the last byte 10
 last-line-example : map session (bytes "T" ∷ bytes "T\n" ∷ bytes "\nT\r" ∷ []) ≡ bytes "ok\t0\n" ∷ bytes "ok\t0\n" ∷ bytes "no\t1\nno\t1\n" ∷ []
 unfolding session run replyBytes _>>=_ respondLine lineOperation operation admission job kind parse grammar freshDesk dropped slotCount
+    stationCount
     maxLine
 last-line-example = refl
 
@@ -136,11 +137,13 @@ fullLine = record { desk = freshDesk; line = replicate maxLine (byte "T"); overl
 
 overlong-example : feed fullLine (bytes "TT\nT\n") ≡ (idle freshDesk, bytes "no\t1\nok\t0\n")
 unfolding feed feedByte replyBytes _>>=_ respondLine lineOperation operation admission job kind parse grammar freshDesk dropped slotCount
+    stationCount
     maxLine
 overlong-example = refl
 
 session-in-full : session inputInFull ≡ outputInFull
 unfolding session run replyBytes _>>=_ respondLine lineOperation operation admission job kind parse grammar freshDesk changed withDraft
-    dropped slotCount maxChanges maxLine maxNumeral isPlanWord digitOf maxPairs maxDigits maxCode maxPower shapeInRange granted isCode
+    dropped slotCount stationCount maxChanges maxLine maxNumeral isPlanWord digitOf maxPairs maxDigits maxCode maxPower shapeInRange granted
+    isCode
     verdict followed inverted raised powered routed block keep compose inverse identity normalForm normal joined
 session-in-full = refl

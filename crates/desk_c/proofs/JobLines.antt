@@ -21,8 +21,8 @@ use Rattle.higman.specs.Exercises.{exercise}
 use Rattle.higman.proofs.Tests.{and-left, and-right, all-head, all-tail, all-cons}
 use Rattle.higman.proofs.Exercises.{exercises-exact}
 use Rattle.desk.specs.Limits.{maxLine, maxNumeral, maxSplitsNumeral, maxSeedNumeral}
-use Rattle.desk.specs.Desk.{Desk as DeskOf, IsDesk}
-use Rattle.desk.specs.Records.{Record, P, M, E, F, I, K, S, W, L, C, T as Tᴿ, U, X, recordFields, recordText, noTab, hasDigits}
+use Rattle.desk.specs.Desk.{Desk as DeskOf, IsDesk, isStation}
+use Rattle.desk.specs.Records.{Record, P, M, E, F, I, K, S, W, L, C, T as Tᴿ, U, X, Z, recordFields, recordText, noTab, hasDigits}
 use Rattle.desk.specs.Records.{signedDecimal, numbersFit, wellFormed, SlotUse, slotsNamed, kind}
 use Rattle.desk.specs.Replies.{Reply, silent, ok, okNumber, okWord, okBlock, lists, surveys, refuses, Outcome, refuse, pass, Effect}
 use Rattle.desk.specs.Replies.{ofAnswer, job, operation}
@@ -33,6 +33,7 @@ use Rattle.desk.proofs.Grammar.{text-exact}
 use Rattle.desk.proofs.Outcomes.{Passes, stops, passes, passes-then, any-then, test-held, Tested, passes-operation}
 use Rattle.desk.proofs.Conditions.{first-condition}
 use Rattle.desk.proofs.ReadBack.{slot-plain}
+use Rattle.desk.proofs.Demands.{demands}
 use Rattle.desk_c.specs.declared.Job.{Job}
 use Rattle.desk_c.specs.Calls.{exerciseRecord, jobRecord}
 use Rattle.desk_c.specs.CallsExact.{IsJobOf}
@@ -65,9 +66,11 @@ job-record U j h = absurd h
 job-record (X a n r s seed) j (l, x, y, z, u, w, few) =
     (λ i. jobRecord (record { letter = l i; a = x i; b = y i; c = z i; k = j .k; seed = w i; splits = u i }))
     ∙ ap (exerciseBy (X a n r s seed)) (few-splits s few)
+job-record (Z s) j (l, x) =
+    λ i. jobRecord (record { letter = l i; a = x i; b = j .b; c = j .c; k = j .k; seed = j .seed; splits = j .splits })
 
--- its letter is one of nine, and the splits of X have two digits at most
-pub letter-known : (r : Record) (j : Job) → IsJobOf r j → List·Memᴰ (j .letter) (bytes "PEFIKSCTX")
+-- its letter is one of ten, and the splits of X have two digits at most
+pub letter-known : (r : Record) (j : Job) → IsJobOf r j → List·Memᴰ (j .letter) (bytes "PEFIKSCTXZ")
 letter-known (P a n r) j h = List·Memᴰ·head (h .0)
 letter-known (M from to) j h = absurd h
 letter-known E j h = List·Memᴰ·tail (List·Memᴰ·head h)
@@ -81,6 +84,7 @@ letter-known (C a) j h = List·Memᴰ·tail (List·Memᴰ·tail (List·Memᴰ·t
 letter-known Tᴿ j h = List·Memᴰ·tail (List·Memᴰ·tail (List·Memᴰ·tail (List·Memᴰ·tail (List·Memᴰ·tail (List·Memᴰ·tail (List·Memᴰ·tail (List·Memᴰ·head h)))))))
 letter-known U j h = absurd h
 letter-known (X a n r s seed) j h = List·Memᴰ·tail (List·Memᴰ·tail (List·Memᴰ·tail (List·Memᴰ·tail (List·Memᴰ·tail (List·Memᴰ·tail (List·Memᴰ·tail (List·Memᴰ·tail (List·Memᴰ·head (h .0)))))))))
+letter-known (Z s) j h = List·Memᴰ·tail (List·Memᴰ·tail (List·Memᴰ·tail (List·Memᴰ·tail (List·Memᴰ·tail (List·Memᴰ·tail (List·Memᴰ·tail (List·Memᴰ·tail (List·Memᴰ·tail (List·Memᴰ·head (h .0))))))))))
 
 pub splits-few : (r : Record) (j : Job) → IsJobOf r j → j .letter ≡ byte "X" → j .splits ≤ 99
 splits-few (P a n r) j h e = absurd (omega arith)
@@ -96,6 +100,7 @@ splits-few (C a) j h e = absurd (omega arith)
 splits-few Tᴿ j h e = absurd (omega arith)
 splits-few U j h e = absurd h
 splits-few (X a n r s seed) j h e = omega arith
+splits-few (Z s) j h e = absurd (omega arith)
 
 -- and no other job is a record
 module _ (j : Job) where
@@ -130,7 +135,9 @@ module _ (j : Job) where
       (by-letter (byte "K") _ _ (λ l. inl (K (j .a) (j .k) (j .b), refl, (l, refl, refl, refl)))
       (by-letter (byte "S") _ _ (λ l. inl (S (j .a) (j .b), refl, (l, refl, refl)))
       (by-letter (byte "C") _ _ (λ l. inl (C (j .a), refl, (l, refl)))
-      (by-letter (byte "T") _ _ (λ l. inl (Tᴿ, refl, l)) (by-letter (byte "X") _ _ exercise-read (inr refl)))))))))
+      (by-letter (byte "T") _ _ (λ l. inl (Tᴿ, refl, l))
+      (by-letter (byte "X") _ _ exercise-read
+      (by-letter (byte "Z") _ _ (λ l. inl (Z (j .a), refl, (l, refl))) (inr refl))))))))))
 
 -- the digits of a number that fits its field
 digits : (m k : ℕ) → T (hasDigits m k) → length (decimal k) ≤ m
@@ -177,6 +184,7 @@ text-short (X a n r s seed) j h wf =
       length-append (decimal r) (tab ∷ (decimal s ++ tab ∷ decimal seed)),
       length-append (decimal s) (tab ∷ decimal seed),
     )
+text-short (Z s) j h wf = let s-digits = digits 1 s (fit (Z s) wf) in omega arith
 
 -- fields of slots and of numbers have no tab
 slot-field : (a : ℕ) → T (isSlot a) → T (noTab (a ∷ []))
@@ -210,7 +218,7 @@ each-slot [] h = tt
 each-slot (u ∷ us) h = (all-head (λ v. isSlot (v .slot)) u us h, each-slot us (all-tail (λ v. isSlot (v .slot)) u us h))
 
 slots-of : (d : DeskOf) (r : Record) → Tested d r → EachSlot (slotsNamed r)
-slots-of d r t = each-slot (slotsNamed r) (t .slots-named)
+slots-of d r t = each-slot (slotsNamed r) (t .admitted .slots-named)
 
 always : {A Q : Type 0} (o : Outcome A) → Q → Passes (λ _. Q) o
 always (refuse n c) q = stops
@@ -292,6 +300,10 @@ module _ (d : DeskOf) where
       passes (formed (X a n r s seed)
       (tt, (slot-field a (u .0), (number-field n, (number-field r, (number-field s, (number-field seed, tt))))))
       (digit .ways, digit .belts, omega arith, seed-digits seed q)))))
+  done-well-formed (Z s) j h =
+      passes-operation d (Z s) (λ t.
+      let known = demands .limits .station-numbers s .0 (all-head isStation s [] (t .admitted .stations-known)) in
+      always (job d (Z s)) (formed (Z s) (tt, (number-field s, tt)) (omega arith)))
 
   -- what is done replies with nothing, `ok` or a number
   abbrev pub Plain : Reply → Type 0
@@ -319,6 +331,7 @@ module _ (d : DeskOf) where
   job-plain Tᴿ j h = passes tt
   job-plain U j h = absurd h
   job-plain (X a n r s seed) j h = any-then _ (λ _. any-then _ (λ _. passes tt))
+  job-plain (Z s) j h = passes tt
 
   pub replies-plainly : (r : Record) (j : Job) → IsJobOf r j → Passes (λ (e : Effect). Plain (e .1)) (operation d r)
   replies-plainly r j h = passes-operation d r (λ _. job-plain r j h)
@@ -359,6 +372,7 @@ numbers-positive d (C a) = tt
 numbers-positive d Tᴿ = tt
 numbers-positive d U = tt
 numbers-positive d (X a n r s seed) = tt
+numbers-positive d (Z s) = tt
 
 pub refusal-positive : (d : DeskOf) → IsDesk d → (r : Record) (n : ℕ) (c : Option Letter) → operation d r ≡ refuse n c → 1 ≤ n
 refusal-positive d D r n c e =

@@ -13,7 +13,7 @@ use lib.ListN.{length, take, drop}
 use Rattle.higman.specs.Text.{Bytes, byte, bytes, decimal}
 use Rattle.higman.specs.Refusals.{Letter}
 use Rattle.desk.specs.Desk.{dropped}
-use Rattle.desk.specs.Records.{Record, P, M, E, F, I, K, S, W, L, C, T, U, X, recordText, wellFormed}
+use Rattle.desk.specs.Records.{Record, P, M, E, F, I, K, S, W, L, C, T, U, X, Z, recordText, wellFormed}
 use Rattle.desk.specs.Replies.{refuse, pass, Effect, operation, lineOperation}
 use Rattle.desk.specs.Bytes.{replyBytes}
 use Rattle.desk_values.specs.declared.Desk.{Desk}
@@ -76,6 +76,7 @@ IsJobOf T j = j .letter ≡ byte "T"
 IsJobOf U j = ⊥
 IsJobOf (X a n r s seed) j =
     (j .letter ≡ byte "X") × (j .a ≡ a) × (j .b ≡ n) × (j .c ≡ r) × (j .splits ≡ s) × (j .seed ≡ seed) × (s ≤ 99)
+IsJobOf (Z s) j = (j .letter ≡ byte "Z") × (j .a ≡ s)
 
 -- a job is refused, with what is left of the desk
 abbrev pub JobRefused : Job → Desk → Desk → ℕ → ℕ → Type 0
@@ -104,12 +105,12 @@ pub record JobsExact : Type 0 where
   pub no-desk : (j : Job) (v : Desk) → isDeskValue v ≡ false → JobRefused j v v 15 0
   -- "1, unknown letter" or "a field form": no record has this job, by its letter or since it is X with splits of three digits
   pub no-record : (j : Job) (v : Desk) → TakenForDesk v → ((r : Record) → IsJobOf r j → ⊥) → JobRefused j v (planDropped v) 1 0
-  pub unknown-letter : (j : Job) (v : Desk) → TakenForDesk v → (List·Memᴰ (j .letter) (bytes "PEFIKSCTX") → ⊥)
+  pub unknown-letter : (j : Job) (v : Desk) → TakenForDesk v → (List·Memᴰ (j .letter) (bytes "PEFIKSCTXZ") → ⊥)
       → JobRefused j v (planDropped v) 1 0
   pub many-splits : (j : Job) (v : Desk) → TakenForDesk v → j .letter ≡ byte "X" → 99 < j .splits → JobRefused j v (planDropped v) 1 0
   pub as-line : (r : Record) (j : Job) (v : Desk) (out : Bytes) → IsJobOf r j → So (wellFormed r) → TakenForDesk v
       → (served (recordText r) v out .answer .number ≡ 14 → ⊥) → DoneAsLine j (recordText r) v out
-  -- a job of numbers that no line has digits for is refused as its record is: n of 10 with 3, k of 10000 with 12
+  -- a job of numbers that no line has digits for is refused as its record is: n of 10 with 3, k of 10000 with 12, a station of 10 with 18
   pub refused : (r : Record) (j : Job) (v : Desk) (n : ℕ) (c : Option Letter) → IsJobOf r j → TakenForDesk v
       → operation (deskIn v) r ≡ refuse n c → JobRefused j v (planDropped v) n (columnByte c)
   -- so every job that is done has a line

@@ -55,7 +55,7 @@ pub extern "C" fn desk_fresh() -> Desk
 pub extern "C" fn desk_size() -> usize
     ensures { λ r. ⌜ r ≡ deskSize ⌝ }
 {
-    18584
+    18616
 }
 
 // Whether a value is a desk.

@@ -212,6 +212,9 @@ fn perform(head: Head, columns: &mut [u64], job: Job) -> Work
         }
         return changing::exercise(head, columns, job.a, job.b, job.c, job.splits, job.seed);
     }
+    if letter == b'Z' {
+        return stations::name(head, job.a);
+    }
     slots::refused(head, slots::numbers::NO_RECORD)
 }
 

@@ -10,6 +10,8 @@ use Rattle.higman.specs.Words.{Word}
 use Rattle.higman.specs.Tables.{froms, tos}
 use Rattle.higman.specs.Limits.{Plan as PlanOf, maxPairs}
 use Rattle.words.specs.Packed.{pack}
+use Rattle.desk.specs.Limits.{stationCount}
+use Rattle.desk.specs.Desk.{Desk as DeskOf, IsDesk}
 use Rattle.operations.specs.declared.Plan.{Plan}
 use Rattle.operations.specs.Plans.{column, packed, blank}
 use Rattle.slots.specs.Blocks.{fromPlace, toPlace, valueAt}
@@ -77,6 +79,10 @@ block-empty : (v : Desk) (i : ℕ) → valueAt (headOf v) (v .columns) i ≡ bla
 unfolding packed blank
 block-empty v i e = block-holds v i (record { shape = record { arity = 0; roots = 0 }; rows = [] }) e
 
+eight-counts : (d : DeskOf) → IsDesk d → length (d .control .changes) ≡ 8
+unfolding stationCount
+eight-counts d D = D .control .each
+
 pub desk-layout : DeskLayout
 unfolding packedDesk
 desk-layout d D =
@@ -91,5 +97,7 @@ desk-layout d D =
         ap openedBy e,
       );
       none-open = λ e. (block-empty v 8 (draft-value d D ∙ ap draftValue e), ap openedBy e);
-      changes = refl;
+      station = refl;
+      counts = eight-counts d D;
+      count = λ s _. refl;
     }

@@ -1,5 +1,5 @@
 -- The value of a desk place by place, in the figures that include/desk.h publishes: nine blocks, those of the slots A to H and then that of
--- the open plan, and for each 128 from-words and 128 to-words. How a word packs is `WordsPack` of the crate `plans`.
+-- the open plan, and for each 128 from-words and 128 to-words; and eight counts. How a word packs is `WordsPack` of the crate `plans`.
 use Prim.Native.Nat.{ℕ, _+_, _*_, _≤_, _<_}
 use mathlib.Core.Path.{_≡_}
 use mathlib.Core.List.{List, []}
@@ -10,7 +10,7 @@ use Rattle.higman.specs.Tables.{Table, froms, tos}
 use Rattle.higman.specs.Text.{byte}
 use Rattle.higman.specs.Limits.{Plan as PlanOf}
 use Rattle.words.specs.Packed.{pack}
-use Rattle.desk.specs.Desk.{Draft, Desk as DeskOf, countOf, held, IsDesk}
+use Rattle.desk.specs.Desk.{Draft, Desk as DeskOf, stationOf, changesOf, held, IsDesk}
 use Rattle.slots.specs.Blocks.{noSize}
 use Rattle.desk_values.specs.declared.Desk.{Desk}
 use Rattle.desk_values.specs.Values.{packedDesk}
@@ -38,7 +38,10 @@ pub record DeskLaidOut (d : DeskOf) (v : Desk) : Type 0 where
   -- the open plan, and the letter of the slot that it is meant for
   pub plan-open : (o : Draft) → d .draft ≡ some o → BlockHolds v 8 (o .shape) (o .rows) × (v .opened ≡ byte "A" + o .slot)
   pub none-open : d .draft ≡ none → BlockEmpty v 8 × (v .opened ≡ 0)
-  pub changes : v .control .changes ≡ countOf d
+  -- the station that is named, and each station's count at its place
+  pub station : v .control .station ≡ stationOf d
+  pub counts : length (v .control .changes) ≡ 8
+  pub count : (s : ℕ) → s < 8 → getD (v .control .changes) s 0 ≡ changesOf (d .control) s
 
 abbrev pub DeskLayout : Type 0
 DeskLayout = (d : DeskOf) → IsDesk d → DeskLaidOut d (packedDesk d)

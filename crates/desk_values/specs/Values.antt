@@ -15,8 +15,8 @@ use Rattle.higman.specs.Limits.{Plan as PlanOf, slotCount, maxPairs, maxDigits,
 use Rattle.higman.specs.Answers.{verdict, isKept}
 use Rattle.higman.specs.Listing.{isSlot, slotByte, slotNumber}
 use Rattle.words.specs.Packed.{packOn, pack, unpackIn, unpack}
-use Rattle.desk.specs.Limits.{maxChanges}
-use Rattle.desk.specs.Desk.{Draft, Desk as DeskOf, IsDesk, freshDesk, changed, withDraft}
+use Rattle.desk.specs.Limits.{stationCount, maxChanges}
+use Rattle.desk.specs.Desk.{Draft, Desk as DeskOf, IsDesk, freshDesk, changed, withDraft, isControl}
 use Rattle.operations.specs.declared.Plan.{Plan}
 use Rattle.operations.specs.Plans.{inTable, isPlan, packed, blank}
 use Rattle.slots.specs.declared.Size.{Size}
@@ -103,7 +103,7 @@ tidySize z = elim (eqb (z .pairs) 0) [ true ↦ noSize | false ↦ z ]
 abbrev pub tidySizes : List Size → Size → List Size
 tidySizes zs draft = map (λ i. tidySize (getD zs i noSize)) (count 0 slotCount) ++ (draft ∷ [])
 
--- a value whose arrays have their lengths, as every value has that a function is given
+-- a value whose arrays have their lengths, as every value has that a function is given; the length of the counts is part of the test
 pub record Whole (d : Desk) : Type 0 where
   pub headed : length (d .blocks) ≡ blockCount
   pub sized : length (d .columns) ≡ columnsSize
@@ -129,7 +129,8 @@ opened = withDraft held (record { slot = 1; shape = record { arity = 2; roots = 
 -- their values are desks, and hold them
 isDeskValue-example : map (λ d. isDeskValue (packedDesk d)) (freshDesk ∷ held ∷ opened ∷ []) ≡ true ∷ true ∷ true ∷ []
 unfolding isDeskValue packedDesk valueAt holdsTest isPlan inTable isKept shapeInRange granted isPlanWord maxPairs maxDigits
-    maxChanges slotCount verdict keep normalForm normal joined packed blank pack packOn unpack unpackIn freshDesk changed
+    maxChanges slotCount stationCount isControl verdict keep normalForm normal joined packed blank pack packOn unpack unpackIn freshDesk
+    changed
     withDraft
 isDeskValue-example = refl
 
@@ -137,7 +138,8 @@ deskIn-example : deskIn (packedDesk opened) ≡ opened
 unfolding deskIn packedDesk deskOf valueAt maxPairs slotCount packed blank pack packOn unpack unpackIn freshDesk changed withDraft
 deskIn-example = refl
 
--- a word behind the pairs of a slot; a shape of an empty slot; a letter where no plan is open; a byte that is no slot's
+-- a word behind the pairs of a slot; a shape of an empty slot; a letter where no plan is open; a byte that is no slot's; a station above 7;
+-- and a count above the limit, of a station that isn't named
 abbrev spoiled : List Desk
 spoiled =
     let v = packedDesk held in
@@ -150,10 +152,18 @@ spoiled =
     }
     ∷ record { blocks = v .blocks; opened = 65; control = v .control; columns = v .columns }
     ∷ record { blocks = v .blocks; opened = 1; control = v .control; columns = v .columns }
+    ∷ record { blocks = v .blocks; opened = 0; control = record { station = 8; changes = v .control .changes }; columns = v .columns }
+    ∷ record {
+      blocks = v .blocks;
+      opened = 0;
+      control = record { station = 0; changes = set (v .control .changes) 7 4_000_000_001 };
+      columns = v .columns;
+    }
     ∷ []
 
-spoiled-example : map isDeskValue spoiled ≡ false ∷ false ∷ false ∷ false ∷ []
+spoiled-example : map isDeskValue spoiled ≡ false ∷ false ∷ false ∷ false ∷ false ∷ false ∷ []
 unfolding isDeskValue packedDesk valueAt holdsTest isPlan inTable isKept shapeInRange granted isPlanWord maxPairs maxDigits
-    maxChanges slotCount verdict keep normalForm normal joined packed blank pack packOn unpack unpackIn freshDesk changed
+    maxChanges slotCount stationCount isControl verdict keep normalForm normal joined packed blank pack packOn unpack unpackIn freshDesk
+    changed
     withDraft
 spoiled-example = refl

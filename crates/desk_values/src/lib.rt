@@ -1,6 +1,6 @@
 // A desk as one value, which programs in C and Rust hold (document 01, "Records"): the blocks of the slots and of the open plan with their
-// sizes, the letter of the slot that an open plan is meant for, and the count. Each desk is one value and no other (`DeskValues`): what is
-// unused is zero, so that equal desks are equal field by field.
+// sizes, the letter of the slot that an open plan is meant for, and the control block. Each desk is one value and no other (`DeskValues`):
+// what is unused is zero, so that equal desks are equal field by field.
 ghost use mathlib.Core.Path.{_≡_};
 ghost use mathlib.Core.Bool.{true};
 ghost use Prim.Native.Nat.{_≤_};

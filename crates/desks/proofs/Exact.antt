@@ -18,8 +18,8 @@ use Rattle.higman.proofs.PlanWords.{word-of-plan-word, plan-word-fits}
 use Rattle.higman.proofs.Tests.{so, T-of, and-left, and-right, and-intro, all-head, all-tail, all-cons, all-at, all-of, count-mem, count-bounds}
 use Rattle.columns.specs.Packed.{wordsOf}
 use Rattle.columns.proofs.Rows.{rows-length}
-use Rattle.desk.specs.Limits.{maxChanges}
-use Rattle.desk.specs.Desk.{Draft, Desk, countIn, IsDraft, IsDesk, held}
+use Rattle.desk.specs.Desk.{Draft, Desk, IsDraft, IsControl, IsDesk, held}
+use Rattle.desk.proofs.Desks.{control-test}
 use Rattle.operations.specs.declared.Plan.{Plan}
 use Rattle.operations.specs.Plans.{shapeOf, rowsOf, planOf, zeros, inTable, isPlan}
 use Rattle.operations.proofs.KeptValues.{kept-plan}
@@ -111,10 +111,10 @@ module _ (h : Head) (columns : List ℕ) (headed : length (h .sizes) ≡ blockCo
     abbrev opens : Bool
     opens = openTest h v
 
-    changes-few : countIn (controlOf (h .control)) ≤ maxChanges
+    control-passes : IsControl (controlOf (h .control))
     unfolding holdsTest
-    changes-few =
-        leb→le (countIn (controlOf (h .control))) maxChanges
+    control-passes =
+        control-test (controlOf (h .control)) .0
         (and-left counts small (and-left (counts && small) opens (and-left (counts && small && opens) (slotsTest h columns) t)))
 
     pairs-few : sizeAt h draftBlock .pairs ≤ maxPairs
@@ -159,7 +159,7 @@ module _ (h : Head) (columns : List ℕ) (headed : length (h .sizes) ≡ blockCo
         record {
           sized = sized;
           headed = headed;
-          is-desk = record { eight = eight; kept = kept-in; drafted = drafted-in; counted = changes-few };
+          is-desk = record { eight = eight; kept = kept-in; drafted = drafted-in; control = control-passes };
           in-tables = λ i k. slot-table (valueAt h columns i) (slot-tested i k);
           few = pairs-few;
         }
@@ -202,7 +202,7 @@ module _ (h : Head) (columns : List ℕ) (headed : length (h .sizes) ≡ blockCo
         let opens = openTest h v in
         and-intro (counts && small && opens) (slotsTest h columns)
         (and-intro (counts && small) opens
-        (and-intro counts small (le→leb (countIn (controlOf (h .control))) maxChanges (H .is-desk .counted))
+        (and-intro counts small (control-test (controlOf (h .control)) .1 (H .is-desk .control))
         (le→leb (sizeAt h draftBlock .pairs) maxPairs (H .few))) open-passes)
         (all-of (λ j. slotTest (valueAt h columns j)) (count 0 slotCount) (λ i m. slot-passes i (omega (arith, count-bounds 0 slotCount i m))))
 

@@ -14,8 +14,7 @@ use Rattle.higman.specs.Limits.{maxPairs, maxDigits, slotCount, shapeInRange, g
 use Rattle.higman.specs.Answers.{verdict, isKept}
 use Rattle.words.specs.Packed.{packOn, pack, unpackIn, unpack}
 use Rattle.columns.specs.Packed.{wordsOf}
-use Rattle.desk.specs.Limits.{maxChanges}
-use Rattle.desk.specs.Desk.{countIn}
+use Rattle.desk.specs.Desk.{isControl}
 use Rattle.operations.specs.declared.Plan.{Plan}
 use Rattle.operations.specs.Plans.{shapeOf, zeros, inTable, isPlan, packed, blank}
 use Rattle.operations.specs.Answers.{value21}
@@ -42,9 +41,9 @@ draftTest slot v = leb (suc slot) slotCount && shapeInRange (shapeOf v) && words
 abbrev pub openTest : Head → Plan → Bool
 openTest h v = elim (h .is_open) [ false ↦ true | true ↦ draftTest (h .slot) v ]
 
--- a count in its range
+-- a station and counts in their ranges
 abbrev pub controlTest : Control → Bool
-controlTest c = leb (countIn (controlOf c)) maxChanges
+controlTest c = isControl (controlOf c)
 
 unfoldable pub holdsTest : Head → List ℕ → Bool
 holdsTest h columns =

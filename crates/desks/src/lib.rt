@@ -1,5 +1,6 @@
 // Whether a head and columns that somebody made hold a desk (document 01, "When each operation says no": "a plan or desk handed in isn't
-// one as described above"): each slot holds a kept plan or nothing, an open plan is one as P and M make it, and the count is in its range.
+// one as described above"): each slot holds a kept plan or nothing, an open plan is one as P and M make it, and
+// station and counts are in their ranges.
 ghost use mathlib.Core.Path.{_≡_};
 ghost use Prim.Native.Nat.{_≤_};
 ghost use Rattle.higman.specs.Limits.{maxPairs};
@@ -16,6 +17,7 @@ use slots::DRAFT;
 use slots::Desk;
 use slots::Head;
 use slots::MAX_CHANGES;
+use slots::STATIONS;
 use slots::blocks;
 
 // A to H: `slotCount` of higman's Limits.antt.
@@ -80,11 +82,22 @@ fn are_slots(head: Head, columns: &[u64]) -> bool
     true
 }
 
-// Whether a control block is as a desk keeps one.
+// Whether a control block is as a desk keeps one: no count is over the limit, whether or not its station is named.
 fn is_control(control: Control) -> bool
     ensures { λ r. ⌜ r ≡ controlTest control ⌝ }
 {
-    control.changes <= MAX_CHANGES
+    if STATIONS <= control.station as usize {
+        return false;
+    }
+    let changes = control.changes;
+    let mut i = 0;
+    while i < STATIONS {
+        if MAX_CHANGES < changes[i] {
+            return false;
+        }
+        i += 1;
+    }
+    true
 }
 
 // "a .. desk handed in isn't one as described above": whether it is one.

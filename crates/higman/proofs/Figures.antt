@@ -106,5 +106,6 @@ numbers-named =
       fifteen = refl;
       sixteen = refl;
       seventeen = refl;
+      eighteen = refl;
       cases = cases-numbered;
     }

@@ -74,6 +74,10 @@ countFull = 16
 abbrev pub seedOutside : ℕ
 seedOutside = 17
 
+-- "18, a digit above 7": a station outside 0 to 7 (change request E5)
+abbrev pub stationOutside : ℕ
+stationOutside = 18
+
 -- "those of E for a column add ⇥F or ⇥T (from, to)"
 pub data Letter : Type 0 where
   F : Letter
@@ -95,6 +99,6 @@ later-numbers-example : shapesDiffer ∷ limitBroken ∷ powerOutside ∷ codeTo
     ≡ 10 ∷ 11 ∷ 12 ∷ 13 ∷ 14 ∷ 15 ∷ 16 ∷ []
 later-numbers-example = refl
 
--- change request E3's
-seedOutside-example : seedOutside ≡ 17
-seedOutside-example = refl
+-- those of change requests E3 and E5
+requested-numbers-example : seedOutside ∷ stationOutside ∷ [] ≡ 17 ∷ 18 ∷ []
+requested-numbers-example = refl

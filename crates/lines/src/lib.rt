@@ -150,6 +150,7 @@ pub fn perform(head: Head, columns: &mut [u64], line: &[u8], record: Record, out
             splits,
             seed,
         } => changing::exercise(head, columns, slot, arity, roots, splits, seed),
+        Record::Station { station } => stations::name(head, station),
         Record::NoRecord => slots::refused(head, numbers::NO_RECORD),
     }
 }

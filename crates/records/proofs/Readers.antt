@@ -12,7 +12,7 @@ use lib.ListN.{length, getD, drop, length-drop}
 use Rattle.higman.specs.Text.{Bytes, isNumeral}
 use Rattle.higman.proofs.Tests.{passes}
 use Rattle.desk.specs.Limits.{maxNumeral, maxSplitsNumeral, maxSeedNumeral}
-use Rattle.desk.specs.Records.{Record, P, M, K, W, Form, slotField, anyField, numberField, signedField, exerciseFields}
+use Rattle.desk.specs.Records.{Record, P, M, K, W, Z, Form, slotField, anyField, numberField, signedField, exerciseFields}
 use Rattle.desk.specs.Records.{fields, field, noMore, noTab}
 use Rattle.records.specs.declared.Record.the-variants.{Pair, Route}
 use Rattle.records.specs.Reading.{placed}
@@ -28,14 +28,23 @@ use Rattle.records.proofs.fields.OneByte.{singles-first, singles-behind
 pub singles-end : (line : Bytes) (k : ℕ) → singles (suc k) (drop 2 line) ≡ true → length line ≡ k + k + 3
 singles-end line k t = omega (arith, length-drop 2 line, singles-length k (drop 2 line) t)
 
--- L and C, one slot
-module _ (make : ℕ → Record) (line : Bytes) where
-  pub one-slot-missing : singles 1 (drop 2 line) ≡ false → field slotField (λ a. noMore (make a)) (fields (drop 2 line)) ≡ none
-  one-slot-missing t = last-fails slot-single _ (drop 2 line) (λ a f fs. refl) t
+-- L, C and Z, one field, of two forms
+module _ {A : Type 0} {form : Form A} (make : A → Record) (line : Bytes) (single : SingleForm form) where
+  pub one-missing : singles 1 (drop 2 line) ≡ false → field form (λ a. noMore (make a)) (fields (drop 2 line)) ≡ none
+  one-missing t = last-fails single _ (drop 2 line) (λ a f fs. refl) t
 
-  pub one-slot-read : singles 1 (drop 2 line) ≡ true
-      → field slotField (λ a. noMore (make a)) (fields (drop 2 line)) ≡ some (make (getD line 2 0))
-  one-slot-read t = slot-last line 2 _ t
+module _ (line : Bytes) (t : singles 1 (drop 2 line) ≡ true) where
+  pub one-slot-read : (make : ℕ → Record) → field slotField (λ a. noMore (make a)) (fields (drop 2 line)) ≡ some (make (getD line 2 0))
+  one-slot-read make = slot-last line 2 _ t
+
+  abbrev asStation : Option Record
+  asStation = field (numberField 1) (λ s. noMore (Z s)) (fields (drop 2 line))
+
+  pub station-no-digit : isNumeral (getD line 2 0) ≡ false → asStation ≡ none
+  station-no-digit d = not-digit-last line 2 _ t d
+
+  pub station-read : isNumeral (getD line 2 0) ≡ true → asStation ≡ some (Z (getD line 2 0 - 48))
+  station-read d = digit-last line 2 _ t d
 
 -- I and S, two
 module _ (make : ℕ → ℕ → Record) (line : Bytes) where

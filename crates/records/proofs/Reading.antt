@@ -14,7 +14,7 @@ use Rattle.higman.specs.Refusals.{noRecord}
 use Rattle.higman.specs.Text.{Bytes, byte, tab, decimal}
 use Rattle.higman.proofs.Tests.{and-left, and-right}
 use Rattle.desk.specs.Limits.{maxLine, maxNumeral, maxSplitsNumeral, maxSeedNumeral}
-use Rattle.desk.specs.Records.{Record, P, M, E, F, I, K, S, W, L, C, U, X, parse, recordFields, recordText}
+use Rattle.desk.specs.Records.{Record, P, M, E, F, I, K, S, W, L, C, U, X, Z, parse, recordFields, recordText}
 use Rattle.desk.specs.Records.{noTab, numbersFit, hasDigits, signedDecimal, wellFormed}
 use Rattle.desk.specs.Replies.{Outcome, refuse, pass, recordOf}
 use Rattle.desk.proofs.NumberFields.{number-exact, signed-exact}
@@ -77,6 +77,7 @@ placed-means line (C a) e = refl
 placed-means line Record.T e = refl
 placed-means line U e = refl
 placed-means line (X a n r s seed) e = refl
+placed-means line (Z s) e = refl
 
 below-of-digits : (m n : ℕ) → T (hasDigits m n) → n < 10 ^ m
 below-of-digits m n h = number-below m (decimal n) n (number-exact m .reads n h)
@@ -112,6 +113,7 @@ placed-in-bounds line (X a n r s seed) h e =
       below-of-digits maxSplitsNumeral s (and-right up-to-roots (hasDigits maxSplitsNumeral s) splits),
       below-of-digits maxSeedNumeral seed (and-right up-to-splits (hasDigits maxSeedNumeral seed) h),
     )
+placed-in-bounds line (Z s) h e = one-digit s h
 
 -- What holds of a line that is no record, and of every record in the line that is its text, holds of what a line is read as.
 module _ (line : Bytes) (Q : Outcome Record → Type 0) (refused : Q (refuse noRecord none))

@@ -10,12 +10,12 @@ use lib.ListN.{length, take, drop, replicate}
 use Rattle.higman.specs.Refusals.{noRecord}
 use Rattle.higman.specs.Text.{Bytes, byte, bytes}
 use Rattle.desk.specs.Limits.{maxLine, maxNumeral, maxSplitsNumeral, maxSeedNumeral}
-use Rattle.desk.specs.Records.{Record as DeskRecord, P, M, E, F, I, K, S, W, L, C, T, U, X, grammar, parse}
+use Rattle.desk.specs.Records.{Record as DeskRecord, P, M, E, F, I, K, S, W, L, C, T, U, X, Z, grammar, parse}
 use Rattle.desk.specs.Replies.{Outcome, refuse, pass, recordOf}
 use Rattle.records.specs.declared.Part.{Part}
 use Rattle.records.specs.declared.Record.{Record}
 use Rattle.records.specs.declared.Record.the-variants.{Open, Pair, Close, Follow, Invert, Power, Same, Route}
-use Rattle.records.specs.declared.Record.the-variants.{List, Empty, Count, Survey, Exercise, NoRecord}
+use Rattle.records.specs.declared.Record.the-variants.{List, Empty, Count, Survey, Exercise, Station, NoRecord}
 
 -- so many bytes from a place on
 abbrev pub part : ℕ → ℕ → Part
@@ -37,6 +37,7 @@ placed (C a) = Empty a
 placed T = Count
 placed U = Survey
 placed (X a n r s seed) = Exercise a n r s seed
+placed (Z s) = Station s
 
 -- "Every record: 1, unknown letter, wrong number of fields, a field form, or a line too long": the one refusal of `recordOf`
 abbrev pub placedBy : Outcome DeskRecord → Record
@@ -65,6 +66,7 @@ meant line (Empty a) = pass (C a)
 meant line Count = pass T
 meant line Survey = pass U
 meant line (Exercise a n r s seed) = pass (X a n r s seed)
+meant line (Station s) = pass (Z s)
 meant line NoRecord = refuse noRecord none
 
 -- a part that can be lent: it stands within the line
@@ -73,7 +75,7 @@ pub record Within (line : Bytes) (p : Part) : Type 0 where
   pub inside : p .end ≤ length line
 
 -- the parts stand within the line; "n and r one digit 0 to 9", "k an optional minus and one to four digits", "s one or two digits and seed
--- one to ten"
+-- one to ten", a station one digit
 abbrev pub InBounds : Bytes → Record → Type 0
 InBounds line (Open a n r) = (n ≤ 9) × (r ≤ 9)
 InBounds line (Pair from to) = Within line from × Within line to
@@ -88,6 +90,7 @@ InBounds line (Empty a) = Unit {0}
 InBounds line Count = Unit {0}
 InBounds line Survey = Unit {0}
 InBounds line (Exercise a n r s seed) = (n ≤ 9) × (r ≤ 9) × (s < 10 ^ maxSplitsNumeral) × (seed < 10 ^ maxSeedNumeral)
+InBounds line (Station s) = s ≤ 9
 InBounds line NoRecord = Unit {0}
 
 -- What is read of a line means the record that the definitions give, refusal 1 included, and is in bounds.
@@ -96,15 +99,17 @@ pub record ReadExact : Type 0 where
   pub in-bounds : (line : Bytes) → InBounds line (readLine line)
 
 -- the numbers of P, the places of M's words, one of them empty, K's number, the place of W's code, the numbers of X, X with a tab at its
--- end, and a slot of two bytes
+-- end, a slot of two bytes, Z's station, and a station of two digits
 readLine-example : map (λ l. readLine (bytes l))
-    ("P\tA\t2\t1" ∷ "M\t11\t" ∷ "K\tA\t-2\tz" ∷ "W\tA\t1122" ∷ "X\tA\t2\t1\t10\t0" ∷ "X\tA\t2\t1\t1\t7\t" ∷ "L\tAB" ∷ [])
+    ("P\tA\t2\t1" ∷ "M\t11\t" ∷ "K\tA\t-2\tz" ∷ "W\tA\t1122" ∷ "X\tA\t2\t1\t10\t0" ∷ "X\tA\t2\t1\t1\t7\t" ∷ "L\tAB" ∷ "Z\t7" ∷ "Z\t10" ∷ [])
     ≡ Open (byte "A") 2 1
     ∷ Pair (part 2 2) (part 5 0)
     ∷ Power (byte "A") (negsuc 1) (byte "z")
     ∷ Route (byte "A") (part 4 4)
     ∷ Exercise (byte "A") 2 1 10 0
     ∷ NoRecord
+    ∷ NoRecord
+    ∷ Station 7
     ∷ NoRecord
     ∷ []
 unfolding readLine parse grammar maxLine maxNumeral maxSplitsNumeral maxSeedNumeral

@@ -90,6 +90,10 @@ pub enum Record {
         splits: u8,
         seed: u64,
     },
+    // Z⇥station
+    Station {
+        station: u8,
+    },
     // no record: refusal 1
     NoRecord,
 }
@@ -296,6 +300,22 @@ fn read_exercise(line: &[u8]) -> Record
     read_splits_and_seed(line, line[FIRST], arity - b'0', roots - b'0')
 }
 
+// One digit.
+fn read_station(line: &[u8]) -> Record
+    ensures { λ r. ⌜ r ≡ behindLetter (byte "Z") (drop 2 (now (line .entry))) ⌝ }
+{
+    if !fields::singles(line, FIRST, 1) {
+        return Record::NoRecord;
+    }
+    let station = line[FIRST];
+    if !fields::is_numeral(station) {
+        return Record::NoRecord;
+    }
+    Record::Station {
+        station: station - b'0',
+    }
+}
+
 // A letter that no field follows.
 fn read_alone(letter: u8) -> Record
     ensures { λ r. ⌜ r ≡ alone letter ⌝ }
@@ -323,6 +343,7 @@ fn read_fields(letter: u8, line: &[u8]) -> Record
         b'L' => read_list(line),
         b'C' => read_empty(line),
         b'X' => read_exercise(line),
+        b'Z' => read_station(line),
         _ => Record::NoRecord,
     }
 }

@@ -17,8 +17,8 @@ use Rattle.higman.specs.Fronts.{block}
 use Rattle.higman.specs.Listing.{slotNumber}
 use Rattle.higman.proofs.Tests.{all-at}
 use Rattle.desk.specs.Limits.{maxChanges}
-use Rattle.desk.specs.Desk.{Desk, IsDesk, countOf}
-use Rattle.desk.specs.Records.{Record, P, M, E, F, I, K, S, W, L, C, T, U, X}
+use Rattle.desk.specs.Desk.{Desk, IsDesk, stationOf, countOf}
+use Rattle.desk.specs.Records.{Record, P, M, E, F, I, K, S, W, L, C, T, U, X, Z}
 use Rattle.desk.specs.Replies.{okNumber, okWord, refuses, Effect, Outcome, refuse, pass, ofRoute, closed, job, operation, recordOf}
 use Rattle.desk.specs.Replies.{lineOperation, respondLine}
 use Rattle.desk.specs.Bytes.{replyBytes}
@@ -30,12 +30,12 @@ use Rattle.desk.proofs.Demand2.{demand2}
 use Rattle.replies.specs.Sizes.{maxReply, RepliesFit}
 use Rattle.replies.proofs.Sizes.{rooms, few-pairs, listing-fits, image-fits, block-fits, ok-number-size, no-size, survey-size}
 
--- 1 to 12, 16 and 17
+-- 1 to 12, and 16 to 18
 number-small : (n : ℕ) → List·Memᴰ n refusalNumbers → n < 10 ^ 3
 number-small n m =
-    let within = all-at (λ k. leb k 17) (1 ∷ 2 ∷ 3 ∷ 4 ∷ 5 ∷ 6 ∷ 7 ∷ 8 ∷ 9 ∷ 10 ∷ 11 ∷ 12 ∷ 16 ∷ 17 ∷ []) tt n
+    let within = all-at (λ k. leb k 18) (1 ∷ 2 ∷ 3 ∷ 4 ∷ 5 ∷ 6 ∷ 7 ∷ 8 ∷ 9 ∷ 10 ∷ 11 ∷ 12 ∷ 16 ∷ 17 ∷ 18 ∷ []) tt n
     (subst (λ l. List·Memᴰ n l) (demand1 .numbers) m) in
-    omega (arith, leb→le n 17 within)
+    omega (arith, leb→le n 18 within)
 
 -- an outcome of which every value has something passes it on
 passes-of : {A : Type 0} {Q : A → Type 0} (o : Outcome A) → ((a : A) → o ≡ pass a → Q a) → Passes Q o
@@ -102,11 +102,13 @@ module _ (d : Desk) (D : IsDesk d) where
       let (p, x, q) = demand2 .replies .lists d a e o in
       as-known q (listing-fits a p (D .kept (slotNumber a) p x))
   record-fits (C a) e o = let (p, x, q) = demand2 .replies .empties d a e o in as-known q (rooms .ok)
-  record-fits T e o = as-known (demand2 .replies .counts d e o) (number-fits (countOf d) (omega (arith, D .counted)))
+  record-fits T e o =
+      as-known (demand2 .replies .counts d e o) (number-fits (countOf d) (omega (arith, D .control .within (stationOf d))))
   record-fits U e o = as-known (demand2 .replies .surveys d e o) (omega (arith, rooms .survey, survey-size d D))
   record-fits (X a n r s seed) e o =
       let k = demand2 .exercises d a (record { arity = n; roots = r }) s seed e D o .plan in
       as-known (k .effect) (pairs-fit _ (k .kept))
+  record-fits (Z s) e o = as-known (demand2 .stations .named d s e o .1) (rooms .ok)
 
   line-fits : (line : Bytes) → Passes Fits (lineOperation d line)
   unfolding lineOperation

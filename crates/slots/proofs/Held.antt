@@ -15,15 +15,15 @@ use Rattle.higman.specs.Limits.{Plan as PlanOf, Kept, maxPairs, slotCount}
 use Rattle.higman.specs.Answers.{isKept}
 use Rattle.higman.proofs.Statements.{answers-exact}
 use Rattle.higman.proofs.Tests.{so, and-intro}
-use Rattle.desk.specs.Desk.{Desk, IsDesk, held, changed}
+use Rattle.desk.specs.Desk.{Desk, IsControl, IsDesk, held, changed}
 use Rattle.desk.specs.Replies.{isOpen}
 use Rattle.columns.proofs.Rows.{rows-length}
 use Rattle.operations.specs.declared.Plan.{Plan}
 use Rattle.operations.specs.Plans.{planOf, inTable, isPlan}
 use Rattle.slots.specs.declared.Size.{Size}
 use Rattle.slots.specs.declared.Head.{Head}
-use Rattle.slots.specs.Blocks.{InColumns, noSize, sizeAt, fromPlace, toPlace, valueAt, put, sizeOf, filledHead}
-use Rattle.slots.specs.Desks.{draftBlock, heldBy, slotAt, draftIn, deskOf, HoldsDesk}
+use Rattle.slots.specs.Blocks.{InColumns, noSize, sizeAt, fromPlace, toPlace, valueAt, put, sizeOf, notedIn, filledHead}
+use Rattle.slots.specs.Desks.{draftBlock, heldBy, slotAt, draftIn, controlOf, deskOf, HoldsDesk}
 use Rattle.columns.proofs.Limits.{pair-limit}
 use Rattle.slots.proofs.Windows.{put-length, put-from, put-to, put-before, put-behind}
 
@@ -88,6 +88,10 @@ module _ (h : Head) (columns : List ℕ) where
   slot-full i k e = held-at i k ∙ ap (holding i) (ne-eqb (sizeAt h i .pairs) 0 e)
 
   module _ (H : HoldsDesk h columns) where
+    pub control-held : IsControl (controlOf (h .control))
+    unfolding deskOf
+    control-held = H .is-desk .control
+
     pub slot-kept : (i : ℕ) → i < slotCount → (sizeAt h i .pairs ≡ 0 → ⊥) → Kept (planOf (valueAt h columns i))
     slot-kept i k e = H .is-desk .kept i (planOf (valueAt h columns i)) (slot-full i k e)
 
@@ -150,7 +154,7 @@ module _ (h : Head) (columns : List ℕ) where
           let slots = set-count (slotAt h columns) (slotAt head′ columns′) (heldBy p) 0 slotCount i k
           (ap (slotAt head′ columns′) first ∙ ap heldBy value-same)
           (λ j a b n. ap heldBy (value-other j (λ e. n (e ∙ sym first)))) in
-          λ x. record { slots = slots x; draft = none; control = record { changes = h .control .changes + 1 } }
+          λ x. record { slots = slots x; draft = none; control = controlOf (notedIn (h .control)) }
 
       pub holds-filled : T (inTable p) → IsDesk (changed (deskOf h columns) i (heldBy p)) → HoldsDesk head′ columns′
       unfolding filledHead

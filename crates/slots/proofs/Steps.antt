@@ -11,14 +11,15 @@ use lib.ListN.{length}
 use Rattle.higman.specs.Bases.{all}
 use Rattle.higman.specs.Limits.{slotCount}
 use Rattle.higman.specs.Listing.{isSlot, slotNumber}
-use Rattle.higman.specs.Refusals.{wrongState, slotOutside, countFull, Letter, letterByte}
+use Rattle.higman.specs.Refusals.{wrongState, slotOutside, countFull, stationOutside, Letter, letterByte}
 use Rattle.higman.specs.Buffers.{written}
 use Rattle.higman.proofs.Tests.{T-of, so, all-at}
 use Rattle.words.proofs.Checks.{check-map, check-append}
 use Rattle.desk.specs.Desk.{Desk, IsDesk}
-use Rattle.desk.specs.Records.{Record, SlotUse, reading, writing, Kind, kind, ofSlots, ofOpenPlan, needsOpen, slotsNamed, isChange}
+use Rattle.desk.specs.Records.{Record, SlotUse, reading, writing, Kind, kind, ofSlots, ofOpenPlan, needsOpen, stationsNamed, slotsNamed}
+use Rattle.desk.specs.Records.{isChange}
 use Rattle.desk.specs.Replies.{_>>=_, _when_, refuses, Outcome, refuse, pass, Effect}
-use Rattle.desk.specs.Replies.{openAmiss, outside, atLimit, job, admission, operation, isOpen}
+use Rattle.desk.specs.Replies.{openAmiss, noStation, outside, atLimit, job, admission, operation, isOpen}
 use Rattle.desk.proofs.Outcomes.{passed, admitted}
 use Rattle.desk.proofs.Stays.{operation-stays, slot-below as below}
 use Rattle.operations.specs.Plans.{inTable}
@@ -58,24 +59,28 @@ amiss-open h columns r e = rw (openAmiss, e) (ap not (open-is h columns))
 
 -- the tests that all records have in common, by what they find
 module _ (h : Head) (columns : List ℕ) (r : Record) where
-  abbrev tests : Bool → Bool → Outcome (Unit {0})
-  tests b c = (wrongState when b) >>= λ _. slotOutside when c
+  abbrev tests : Bool → Bool → Bool → Outcome (Unit {0})
+  tests b s c = (wrongState when b) >>= λ _. (stationOutside when s) >>= λ _. slotOutside when c
 
-  tested : {b c : Bool} → openAmiss (deskOf h columns) r ≡ b → outside (slotsNamed r) ≡ c → admission (deskOf h columns) r ≡ tests b c
+  -- in this order: 2, 18, 8
+  pub tested : {b s c : Bool} → openAmiss (deskOf h columns) r ≡ b → noStation (stationsNamed r) ≡ s → outside (slotsNamed r) ≡ c
+      → admission (deskOf h columns) r ≡ tests b s c
   unfolding admission
-  tested o s = ap₂ tests o s
+  tested o n u = rw (o, n, u) refl
 
   -- of a record of some slots
   admission-is : (us : List SlotUse) (change : Bool) → kind r ≡ ofSlots us change → {b c : Bool} → h .is_open ≡ b → outside us ≡ c
-      → admission (deskOf h columns) r ≡ tests b c
+      → admission (deskOf h columns) r ≡ tests b false c
   admission-is us change k o s =
-      tested (amiss-closed h columns r (ap (λ (z : Kind). z .open-plan) k) ∙ o) (ap outside (ap (λ (z : Kind). z .slots) k) ∙ s)
+      tested (amiss-closed h columns r (ap (λ (z : Kind). z .open-plan) k) ∙ o) (ap noStation (ap (λ (z : Kind). z .stations) k))
+      (ap outside (ap (λ (z : Kind). z .slots) k) ∙ s)
 
   -- and of one of the open plan
   module _ (change : Bool) (k : kind r ≡ ofOpenPlan change) where
-    plan-tested : {b : Bool} → h .is_open ≡ b → admission (deskOf h columns) r ≡ tests (not b) false
+    plan-tested : {b : Bool} → h .is_open ≡ b → admission (deskOf h columns) r ≡ tests (not b) false false
     plan-tested o =
-        tested (amiss-open h columns r (ap (λ (z : Kind). z .open-plan) k) ∙ ap not o) (ap outside (ap (λ (z : Kind). z .slots) k))
+        tested (amiss-open h columns r (ap (λ (z : Kind). z .open-plan) k) ∙ ap not o) (ap noStation (ap (λ (z : Kind). z .stations) k))
+        (ap outside (ap (λ (z : Kind). z .slots) k))
 
     pub no-plan-open : h .is_open ≡ false → admission (deskOf h columns) r ≡ refuse wrongState none
     unfolding _>>=_
@@ -116,7 +121,7 @@ slot-below a e = below a (T-of e)
 pub admitted-named : (d : Desk) (r : Record) → admission d r ≡ pass tt → (u : SlotUse) → List·Memᴰ u (slotsNamed r)
     → isSlot (u .slot) ≡ true
 admitted-named d r a u m =
-    so (isSlot (u .slot)) (all-at (λ (u : SlotUse). isSlot (u .slot)) (slotsNamed r) (passed (admitted d r) tt a .1) u m)
+    so (isSlot (u .slot)) (all-at (λ (u : SlotUse). isSlot (u .slot)) (slotsNamed r) (passed (admitted d r) tt a .slots-named) u m)
 
 -- a refusal leaves the desk as it is, whatever it is that is refused
 pub told-refusal : (d : Desk) (o : Outcome Effect) (n : ℕ) (c : Option Letter) → o ≡ refuse n c → (out : List ℕ)

@@ -55,9 +55,13 @@ put columns i p = written (written columns (fromPlace i) (p .from)) (toPlace i) 
 abbrev pub sizeOf : Plan → Size
 sizeOf p = record { arity = p .arity; roots = p .roots; pairs = p .pairs }
 
--- a change more
+-- one change more of the station that is named
 abbrev pub notedIn : Control → Control
-notedIn c = record { changes = c .changes + 1 }
+notedIn c = record { station = c .station; changes = set (c .changes) (c .station) (getD (c .changes) (c .station) 0 + 1) }
+
+-- this station named
+abbrev pub namedIn : Control → ℕ → Control
+namedIn c s = record { station = s; changes = c .changes }
 
 -- the head after a plan, or no plan, was put into a slot: no plan is open, and the change is counted
 unfoldable pub filledHead : Head → ℕ → Plan → Head

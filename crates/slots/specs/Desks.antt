@@ -10,8 +10,8 @@ use Rattle.higman.specs.Words.{count}
 use Rattle.higman.specs.Tables.{row}
 use Rattle.higman.specs.Limits.{Plan as PlanOf, maxPairs, slotCount}
 use Rattle.words.specs.Packed.{unpackIn, unpack}
-use Rattle.desk.specs.Limits.{maxChanges}
-use Rattle.desk.specs.Desk.{Draft, Desk, Control as ControlOf, countIn, IsDesk, freshDesk, changed}
+use Rattle.desk.specs.Limits.{stationCount, maxChanges}
+use Rattle.desk.specs.Desk.{Draft, Desk, Control as ControlOf, countIn, IsControl, IsDesk, freshDesk, changed}
 use Rattle.operations.specs.declared.Plan.{Plan}
 use Rattle.operations.specs.Plans.{shapeOf, rowsOf, planOf, inTable, blank}
 use Rattle.slots.specs.declared.Control.{Control}
@@ -41,15 +41,20 @@ draftOf h columns = elim (h .is_open) [ true ↦ some (draftIn (h .slot) (valueA
 
 -- what a desk keeps beside its plans
 abbrev pub controlOf : Control → ControlOf
-controlOf c = record { changes = c .changes }
+controlOf c = record { station = c .station; changes = c .changes }
 
 -- and its block
 abbrev pub controlIn : ControlOf → Control
-controlIn c = record { changes = c .changes }
+controlIn c = record { station = c .station; changes = c .changes }
 
--- no change more is counted
+-- no change more of the named station is counted
 abbrev pub fullIn : Control → Bool
 fullIn c = leb maxChanges (countIn (controlOf c))
+
+-- one more is
+pub record Countable (c : Control) : Type 0 where
+  pub is-control : IsControl (controlOf c)
+  pub room : fullIn c ≡ false
 
 -- "The desk has slots A to H, at most one open plan, and a count of changes"
 unfoldable pub deskOf : Head → List ℕ → Desk
@@ -71,7 +76,7 @@ heldHead =
       sizes = record { arity = 2; roots = 1; pairs = 2 } ∷ replicate 8 noSize;
       is_open = false;
       slot = 0;
-      control = record { changes = 1 };
+      control = record { station = 0; changes = 1 ∷ replicate 7 0 };
     }
 
 abbrev heldColumns : List ℕ
@@ -81,9 +86,9 @@ abbrev exchange : PlanOf
 exchange = record { shape = record { arity = 2; roots = 1 }; rows = row 11 12 ∷ row 12 11 ∷ [] }
 
 deskOf-example : deskOf heldHead heldColumns ≡ changed freshDesk 0 (some exchange)
-unfolding deskOf valueAt slotCount freshDesk changed maxPairs unpack unpackIn
+unfolding deskOf valueAt slotCount stationCount freshDesk changed maxPairs unpack unpackIn
 deskOf-example = refl
 
 emptied-example : deskOf (filledHead heldHead 0 blank) (put heldColumns 0 blank) ≡ changed (changed freshDesk 0 (some exchange)) 0 none
-unfolding deskOf valueAt filledHead put blank slotCount freshDesk changed maxPairs unpack unpackIn
+unfolding deskOf valueAt filledHead put blank slotCount stationCount freshDesk changed maxPairs unpack unpackIn
 emptied-example = refl

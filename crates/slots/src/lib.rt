@@ -4,9 +4,9 @@ ghost use mathlib.Core.Path.{_≡_};
 ghost use mathlib.Core.Bool.{true, false};
 ghost use Rattle.higman.specs.Listing.{isSlot, slotNumber};
 ghost use Rattle.higman.specs.Bases.{all};
-ghost use Rattle.desk.specs.Desk.{freshControl, countIn};
-ghost use Rattle.slots.specs.Blocks.{notedIn};
-ghost use Rattle.slots.specs.Desks.{controlOf, fullIn};
+ghost use Rattle.desk.specs.Desk.{freshControl, countIn, IsControl};
+ghost use Rattle.slots.specs.Blocks.{notedIn, namedIn};
+ghost use Rattle.slots.specs.Desks.{controlOf, fullIn, Countable};
 ghost use Rattle.slots.specs.Works.{HeadOfDesk, AdmittedAs, refusing};
 use operations::listing;
 
@@ -24,7 +24,10 @@ pub const BLOCKS: usize = 9;
 
 pub const DRAFT: usize = 8;
 
-// The most changes that are counted: `maxChanges` of desk's Limits.antt.
+// The stations: `stationCount` of desk's Limits.antt.
+pub const STATIONS: usize = 8;
+
+// The most changes that are counted for a station: `maxChanges` of desk's Limits.antt.
 pub const MAX_CHANGES: u32 = 4_000_000_000;
 
 // The shape and the number of pairs of what a block holds; a slot that holds no plan has no pairs.
@@ -35,10 +38,11 @@ pub struct Size {
     pub pairs: usize,
 }
 
-// What a desk keeps beside its plans: "a count of changes".
+// What a desk keeps beside its plans: the station that is named, and "a count of changes" for each station (change request E5).
 #[repr(C)]
 pub struct Control {
-    pub changes: u32,
+    pub station: u32,
+    pub changes: [u32; STATIONS],
 }
 
 // What is known of a desk beside its words: the sizes of the blocks, whether a plan is open and for which slot, and what it keeps beside
@@ -50,7 +54,7 @@ pub struct Head {
     pub control: Control,
 }
 
-// "The desk has slots A to H, at most one open plan, and a count of changes".
+// "The desk has slots A to H, at most one open plan, and a count of changes", one for each station.
 pub struct Desk {
     pub head: Head,
     pub columns: [u64; COLUMNS],
@@ -78,35 +82,53 @@ pub struct Work {
     pub reply: Reply,
 }
 
-// "count 0"
+// Station 0 is named, and every count is 0.
 pub fn fresh_control() -> Control
     ensures { λ r. ⌜ controlOf r ≡ freshControl ⌝ }
 {
-    Control { changes: 0 }
+    Control {
+        station: 0,
+        changes: [0u32; STATIONS],
+    }
 }
 
-// The count of changes.
+// The count of the named station's changes.
 pub fn count(head: Head) -> u32
+    requires { ⌜ IsControl (controlOf (head .control)) ⌝ }
     ensures { λ r. ⌜ r ≡ countIn (controlOf (head .control)) ⌝ }
 {
-    head.control.changes
+    let control = head.control;
+    let station = control.station as usize;
+    control.changes[station]
 }
 
-// Whether no change more is counted.
+// Whether no change more of the named station is counted.
 pub fn is_full(head: Head) -> bool
+    requires { ⌜ IsControl (controlOf (head .control)) ⌝ }
     ensures { λ r. ⌜ r ≡ fullIn (head .control) ⌝ }
 {
-    MAX_CHANGES <= head.control.changes
+    MAX_CHANGES <= count(head)
 }
 
-// A change counted.
+// A change of the named station counted.
 pub fn noted(control: Control) -> Control
-    requires { ⌜ fullIn control ≡ false ⌝ }
+    requires { ⌜ Countable control ⌝ }
     ensures { λ r. ⌜ r ≡ notedIn control ⌝ }
 {
-    Control {
-        changes: control.changes + 1,
-    }
+    let station = control.station as usize;
+    let made = control.changes[station];
+    let mut next = control;
+    next.changes[station] = made + 1;
+    next
+}
+
+// This station named.
+pub fn named(control: Control, station: u8) -> Control
+    ensures { λ r. ⌜ r ≡ namedIn control station ⌝ }
+{
+    let mut next = control;
+    next.station = station as u32;
+    next
 }
 
 // Whether all of some bytes name slots.

@@ -11,3 +11,5 @@ pub const SHAPE_OUTSIDE: u8 = 3;
 pub const SLOT_EMPTY: u8 = 9;
 // `countFull`
 pub const COUNT_FULL: u8 = 16;
+// `stationOutside`
+pub const STATION_OUTSIDE: u8 = 18;

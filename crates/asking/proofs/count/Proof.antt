@@ -10,6 +10,7 @@ use Rattle.desk.specs.Replies.{okNumber, job}
 use Rattle.desk.specs.Desk.{countOf}
 use Rattle.slots.specs.declared.Reply.the-variants.{Number}
 use Rattle.slots.specs.Desks.{deskOf}
+use Rattle.slots.proofs.Held.{control-held}
 use Rattle.slots.proofs.Steps.{admission-open, admission-passed, tells-by}
 use Rattle.asking.proofs.Answered.{asks-by, answered}
 use Rattle.asking.proofs.count.Statement.{statement}
@@ -29,5 +30,8 @@ returns-2 c = λ columns out.
     answered h columns T out (asks-by h columns T [] refl 0 (admission-passed h [] [] (e .if1 .left) refl refl) refl)
     (okNumber (countOf (deskOf h columns))) refl _ (ap Number (c .count .ensures)) out refl
 
+count-requires : tie.Need-count-requires
+count-requires c κs = let s = c .before in control-held (s .args .head) (s .pre .0) (s .pre .1)
+
 pub count-spec : {M : Type 1} → statement M
-count-spec = tie.close (tie.spec returns (λ c κs. search needs) returns-2)
+count-spec = tie.close (tie.spec returns count-requires returns-2)

@@ -15,7 +15,7 @@ use Rattle.slots.specs.declared.Reply.the-variants.{Ok}
 use Rattle.slots.specs.Blocks.{InColumns, sizeAt, filledHead, put}
 use Rattle.slots.specs.Desks.{fullIn, deskOf}
 use Rattle.slots.specs.Works.{admittedBy}
-use Rattle.slots.proofs.Held.{slots-eight, slot-inside}
+use Rattle.slots.proofs.Held.{control-held, slots-eight, slot-inside}
 use Rattle.slots.proofs.Steps.{admitted-named, slot-below, refused-by}
 use Rattle.changing.proofs.Emptying.{empty-already, empty-limit, empty-kept}
 use Rattle.changing.proofs.empty.Statement.{statement}
@@ -91,6 +91,9 @@ returns-3 c = λ out.
     empty-limit (a .t1) (a .columns .now) (s .pre) (a .a) (admitted (n .before)) out (full e) many (c .refused3 .result)
     (c .refused3 .ensures)
 
+is-full-requires : tie.Need-is-full-requires
+is-full-requires c κs = let s = begun (numbered c) in control-held (s .args .t1) (s .args .columns .now) (s .pre)
+
 room : (c : tie.Else3) → fullIn (begun (numbered (c .before .before)) .args .t1 .control) ≡ false
 room c = sym (c .before .is-full .ensures) ∙ c .if3 .left
 
@@ -99,8 +102,10 @@ fill-requires c κs =
     let e = c .before .before in
     let n = numbered (e .before .before) in
     let s = begun n in
-    let inside = slot-inside (s .args .t1) (s .args .columns .now) (s .pre) (n .slot-number .result) (below n) in
-    (record { block = inside .block; sized = inside .sized }, room e)
+    let inside = slot-inside (s .args .t1) (s .args .columns .now) (s .pre) (n .slot-number .result) (below n) in (
+      record { block = inside .block; sized = inside .sized },
+      record { is-control = control-held (s .args .t1) (s .args .columns .now) (s .pre); room = room e },
+    )
 
 returns-4 : tie.Need-returns-4
 returns-4 c = λ out.
@@ -129,7 +134,7 @@ empty-spec =
     element-copy-out-size
     (λ c κs. search needs)
     returns-2
-    (λ c κs. search needs)
+    is-full-requires
     (λ c κs. search needs)
     returns-3
     (λ c κs. search needs)

@@ -7,7 +7,7 @@ use Rattle.operations.specs.declared.Answer.the-variants as Told
 use Rattle.slots.specs.declared.Reply.the-variants.{Number}
 use Rattle.slots.specs.Desks.{fullIn}
 use Rattle.columns.proofs.Limits.{pair-limit}
-use Rattle.slots.proofs.Held.{slot-inside}
+use Rattle.slots.proofs.Held.{control-held, slot-inside}
 use Rattle.changing.proofs.Keeping.{keep-refused, keep-limit, keep-done, few-made}
 use Rattle.changing.proofs.keep.Statement.{statement}
 use Rattle.changing.proofs.keep.Tie as tie
@@ -23,6 +23,9 @@ granted c = c .enum-told .given .1
 room : (c : tie.Else1) → fullIn (start (c .before .before) .args .head .control) ≡ false
 room c = sym (c .before .is-full .ensures) ∙ c .if1 .left
 
+is-full-requires : tie.Need-is-full-requires
+is-full-requires c κs = let s = start c in control-held (s .args .head) (s .args .columns .now) (s .pre .holds)
+
 returns : tie.Need-returns
 returns c = λ r answer m t out.
     let f = c .before .before in
@@ -37,8 +40,10 @@ fill-requires : tie.Need-fill-requires
 fill-requires c κs =
     let e = c .before .before in
     let s = start (e .before .before) in
-    let inside = slot-inside (s .args .head) (s .args .columns .now) (s .pre .holds) (s .args .i) (s .pre .slot) in
-    (record { block = inside .block; sized = inside .sized }, room e)
+    let inside = slot-inside (s .args .head) (s .args .columns .now) (s .pre .holds) (s .args .i) (s .pre .slot) in (
+      record { block = inside .block; sized = inside .sized },
+      record { is-control = control-held (s .args .head) (s .args .columns .now) (s .pre .holds); room = room e },
+    )
 
 cast-t13 : tie.Need-cast-t13
 cast-t13 c =
@@ -72,7 +77,7 @@ keep-spec =
     (λ c. search needs)
     (λ c κs. search needs)
     (λ c. search needs)
-    (λ c κs. search needs)
+    is-full-requires
     (λ c κs. search needs)
     returns
     fill-requires

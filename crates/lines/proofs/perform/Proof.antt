@@ -189,6 +189,14 @@ returns-13 c =
 
 returns-14 : tie.Need-returns-14
 returns-14 c =
+    let r = c .before .before in
+    let s = start (r .before .before) in
+    let a = s .args in
+    line-done (a .head) (a .columns .now) (a .line .now) (a .«record») (a .out .now) _ _ _ _ _ (r .record11 .given .1) refl
+    (c .name .ensures (a .columns .now) (a .out .now) (s .pre .asked .holds))
+
+returns-15 : tie.Need-returns-15
+returns-15 c =
     let r = c .before in
     let s = start (r .before .before) in
     let a = s .args in
@@ -235,6 +243,8 @@ perform-spec =
     (λ c κs. search needs)
     (λ c. search needs)
     (λ c κs. search needs)
+    (λ c. search needs)
+    (λ c κs. search needs)
     returns
     (λ c. search needs)
     returns-2
@@ -261,4 +271,5 @@ perform-spec =
     returns-12
     (λ c. search needs)
     returns-13
-    returns-14)
+    returns-14
+    returns-15)

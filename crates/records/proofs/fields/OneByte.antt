@@ -1,5 +1,5 @@
--- Fields of one byte. A form that reads these alone, as those of slots and of n and r do, reads the byte at a place exactly where
--- `singleThen` or `singleLast` finds such a field there; what is read of the line then goes on behind it, or ends.
+-- Fields of one byte. A form that reads these alone, as those of slots, of n and r and of stations do, reads the byte at a place exactly
+-- where `singleThen` or `singleLast` finds such a field there; what is read of the line then goes on behind it, or ends.
 use Prim.Native.Nat.{ℕ, zero, suc, _+_, _-_, _<_}
 use mathlib.Core.Path.{_≡_, refl, sym, _∙_, ap, ap₂}
 use mathlib.Core.Logic.{_⊎_, inl, inr}

@@ -7,7 +7,8 @@ use native.Mathlib.Omega.{arith}
 use lib.ListN.{drop}
 use Rattle.desk.specs.Records.{C, grammar}
 use Rattle.records.specs.Fields.{singles, placedIf, behindLetter}
-use Rattle.records.proofs.Readers.{singles-end, one-slot-missing, one-slot-read}
+use Rattle.records.proofs.fields.OneByte.{slot-single}
+use Rattle.records.proofs.Readers.{singles-end, one-missing, one-slot-read}
 use Rattle.records.proofs.read_empty.Statement.{statement}
 use Rattle.records.proofs.read_empty.Tie as tie
 
@@ -20,7 +21,7 @@ returns c =
     let s = c .before in
     let line = s .before .before .args .line .now in
     let missing = sym (s .singles .ensures) ∙ not-true (s .singles .result) (c .if1 .taken) in
-    sym (ap placedIf (one-slot-missing C line missing))
+    sym (ap placedIf (one-missing C line slot-single missing))
 
 shared-slice-read-t5 : tie.Need-shared-slice-read-t5
 shared-slice-read-t5 c =
@@ -32,7 +33,7 @@ unfolding behindLetter grammar
 returns-2 c =
     let e = c .before in
     let line = e .before .before .before .args .line .now in
-    sym (ap placedIf (one-slot-read C line (slot-found e)))
+    sym (ap placedIf (one-slot-read line (slot-found e) C))
 
 pub read-empty-spec : {M : Type 1} → statement M
 read-empty-spec =

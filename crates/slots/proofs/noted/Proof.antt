@@ -1,16 +1,33 @@
--- `slots::noted` meets its contract: the count is below its limit, and so one more fits.
+-- `slots::noted` meets its contract: the station that is named is one of eight, and its count is below the limit, so that one more fits.
 use borrow.Author.Needs.{needs}
 use borrow.Author.Tests.{leb-false}
 use native.Mathlib.Omega.{arith}
-use Rattle.desk.specs.Limits.{maxChanges}
+use Rattle.desk.specs.Limits.{stationCount, maxChanges}
+use Rattle.desk.specs.Desk.{countIn}
+use Rattle.slots.specs.Desks.{controlOf}
 use Rattle.slots.proofs.noted.Statement.{statement}
 use Rattle.slots.proofs.noted.Tie as tie
 
-add-t2 : tie.Need-add-t2
+element-copy-out-made : tie.Need-element-copy-out-made
+unfolding stationCount
+element-copy-out-made c = c .pre .is-control .named
+
+add-next : tie.Need-add-next
 unfolding maxChanges
-add-t2 c =
-    let s = c .before in
-    record { fits = omega (arith, leb-false maxChanges (s .args .control .changes) (s .pre)) }
+add-next c = let s = c .before in record { fits = omega (arith, leb-false maxChanges (countIn (controlOf (s .args .t1))) (s .pre .room)) }
+
+element-write-next : tie.Need-element-write-next
+unfolding stationCount
+element-write-next c = c .before .pre .is-control .named
 
 pub noted-spec : {M : Type 1} → statement M
-noted-spec = tie.close (tie.spec add-t2 (λ c. search needs))
+noted-spec =
+    tie.close
+    (tie.spec
+    (λ c. search needs)
+    (λ c. search needs)
+    element-copy-out-made
+    add-next
+    (λ c. search needs)
+    element-write-next
+    (λ c. search needs))

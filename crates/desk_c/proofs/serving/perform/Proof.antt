@@ -9,7 +9,7 @@ use borrow.Author.Tests.{eq-eqb, ne-eqb}
 use lib.Dec.{eqb}
 use Rattle.higman.specs.Text.{byte}
 use Rattle.higman.specs.Refusals.{noRecord}
-use Rattle.desk.specs.Records.{Record, P, E, F, I, K, S, C, T, X}
+use Rattle.desk.specs.Records.{Record, P, E, F, I, K, S, C, T, X, Z}
 use Rattle.desk.specs.Replies.{Outcome, refuse, pass}
 use mathlib.Core.List.{List}
 use mir.Syntax.{w32}
@@ -23,8 +23,14 @@ use Rattle.desk_c.proofs.serving.perform.Statement.{statement}
 use Rattle.desk_c.proofs.serving.perform.Tie as tie
 
 -- the record of a job, behind the letters that were looked for
+abbrev after10 : Job → Outcome Record
+after10 j = refuse noRecord none
+
+abbrev at9 : Job → Bool → Outcome Record
+at9 j b = elim b [ true ↦ pass (Z (j .a)) | false ↦ after10 j ]
+
 abbrev after9 : Job → Outcome Record
-after9 j = refuse noRecord none
+after9 j = at9 j (eqb (j .letter) (byte "Z"))
 
 abbrev exercised : Job → Bool → Outcome Record
 exercised j b = elim b [ true ↦ pass (X (j .a) (j .b) (j .c) (j .splits) (j .seed)) | false ↦ refuse noRecord none ]
@@ -117,6 +123,11 @@ rest9 : (c : tie.Else9) → let j = c .before .before .before .before .before .b
     jobRecord j ≡ after9 j
 rest9 c = let j = c .before .before .before .before .before .before .before .before .before .before .args .job in rest8 (c .before)
     ∙ ap (at8 j) (ne-eqb (j .letter) (byte "X") (c .if9 .left))
+
+rest10 : (c : tie.Else11) → let j = c .before .before .before .before .before .before .before .before .before .before .before .args .job in
+    jobRecord j ≡ after10 j
+rest10 c = let j = c .before .before .before .before .before .before .before .before .before .before .before .args .job in rest9 (c .before)
+    ∙ ap (at9 j) (ne-eqb (j .letter) (byte "Z") (c .if11 .left))
 
 returns : tie.Need-returns
 returns c =
@@ -236,10 +247,19 @@ returns-10 c =
 
 returns-11 : tie.Need-returns-11
 returns-11 c =
-    let e = c .before in
-    let s = e .before .before .before .before .before .before .before .before .before .before in
+    let t = c .before in
+    let s = t .before .before .before .before .before .before .before .before .before .before .before in
     let a = s .args in
-    no-job (a .job) (a .head) (a .columns .now) (s .pre) (c .refused2 .result) (rest9 e) (c .refused2 .ensures)
+    let j = a .job in
+    job-done j (a .head) (a .columns .now) _ _ (Z (j .a)) (rest9 (t .before) ∙ ap (at9 j) (eq-eqb (j .letter) (byte "Z") (t .if11 .taken)))
+    (λ out. c .name .ensures (a .columns .now) out (s .pre))
+
+returns-12 : tie.Need-returns-12
+returns-12 c =
+    let e = c .before in
+    let s = e .before .before .before .before .before .before .before .before .before .before .before in
+    let a = s .args in
+    no-job (a .job) (a .head) (a .columns .now) (s .pre) (c .refused2 .result) (rest10 e) (c .refused2 .ensures)
 
 pub perform-spec : {M : Type 1} → statement M
 perform-spec =
@@ -273,4 +293,6 @@ perform-spec =
     (λ c. search needs)
     returns-10
     (λ c κs. search needs)
-    returns-11)
+    returns-11
+    (λ c κs. search needs)
+    returns-12)
