@@ -2,10 +2,10 @@
  * The sort plan desk for C and C++: link with libdesk_c.a (`rt staticlib desk_c`). It needs memcpy and the like, nothing else. A
  * program may link libplans_c.a beside it and use plans.h too: block i of a desk and its words are a `struct plan`, part by part.
  *
- * A desk has eight slots 'A' to 'H' for plans (plans.h says what a plan is), at most one open plan, and a count of changes. It is
- * a value of the caller's: the library keeps nothing, allocates nothing and prints nothing. Calls on different desks may run at the
- * same time, calls on one desk may not. A desk may be copied and stored like any other struct. A call needs some
- * 140 KB of stack.
+ * A desk has eight slots 'A' to 'H' for plans (plans.h says what a plan is), at most one open plan, and for each of eight stations,
+ * 0 to 7, a count of the changes done while that station was named. It is a value of the caller's: the library keeps nothing,
+ * allocates nothing and prints nothing. Calls on different desks may run at the same time, calls on one desk may not. A desk may be
+ * copied and stored like any other struct. A call needs some 140 KB of stack.
  *
  * desk_line takes the records that the desk program reads, one line a call, and desk_do those that have no text, by number:
  *
@@ -14,8 +14,9 @@
  *     E  closes it: reduces and keeps it                     K  keeps the power k of a in c
  *     S  whether a and b act alike, 1 or 0                   W  the image of a code under a, or its block
  *     L  lists a as P, M and E records                       C  empties a
- *     T  the count of changes                                U  lists the held slots: slot, n, r, pairs
+ *     T  the count of the named station's changes            U  lists the held slots: slot, n, r, pairs
  *     X  makes a plan of n ways and r belts from s splits and a seed, and keeps it in a slot
+ *     Z  names a station for the records after it; before the first Z it is station 0
  *
  * A block is W's reply to a code that no from-word begins: for each pair whose from-word extends the code, in the order of the
  * from-words, a line of "B", the from-word and the to-word, and last of all "ok" and how many they are.
@@ -34,7 +35,7 @@
  *     every record: 1, not a record; 2, M or E with no plan open, or any other record while one is open; and then
  *     P: 8, 3      M: 4, 5      E: 6 and 7 of the from column, 6 and 7 of the to column, 16      F: 8, 9, 10, 11, 16
  *     I: 8, 9, 16  C: 8, 9, 16  K: 8, 12, 9, 11, 16      S: 8, 9, 10      L: 8, 9      W: 8, 9, 4      T, U: no more
- *     X: 8, 3, 17, 5, 4, 16, of which 5 and 4 are those of the pairs before they are reduced
+ *     X: 8, 3, 17, 5, 4, 16, of which 5 and 4 are those of the pairs before they are reduced      Z: 18
  *
  * and last of all, in desk_line, 14.
  */
@@ -53,6 +54,7 @@ extern "C" {
 
 enum {
     DESK_SLOTS = 8,
+    DESK_STATIONS = 8,
     DESK_BLOCKS = 9,          /* the slots and the open plan */
     DESK_PLACES = 128,        /* the places of a column */
     DESK_WORDS = 2304,        /* two columns for each block */
@@ -69,6 +71,13 @@ struct desk_block {
     size_t pairs;  /* 1 to 128, of the open plan 0 to 128 */
 };
 
+/* The named station, and the changes of each station. One that has DESK_MOST_CHANGES is refused further ones with 16; the others are
+ * not. */
+struct desk_control {
+    uint32_t station;                /* 0 to 7 */
+    uint32_t changes[DESK_STATIONS]; /* 0 to DESK_MOST_CHANGES each; E, F, I, K, X and C raise the named station's by one */
+};
+
 /*
  * The desk. Block i has its from-words at columns[256 * i] and on, its to-words at columns[256 * i + 128] and on, packed with four
  * bits a digit, the last digit lowest; zeros stand behind the pairs, and everywhere in a block that is all zero. Slots hold kept
@@ -78,7 +87,7 @@ struct desk_block {
 struct desk {
     struct desk_block blocks[DESK_BLOCKS]; /* slots 'A' to 'H', then the open plan */
     uint8_t opened;                        /* the slot that the open plan is meant for, 'A' to 'H'; 0 if no plan is open */
-    uint32_t changes;                      /* 0 to DESK_MOST_CHANGES; E, F, I, K, X and C raise it by one */
+    struct desk_control control;
     uint64_t columns[DESK_WORDS];
 };
 
@@ -110,7 +119,7 @@ struct desk_done {
     uint32_t value;
 };
 
-/* A desk with empty slots, no open plan and count 0. */
+/* A desk with empty slots and no open plan, station 0 named, and all counts 0. */
 struct desk desk_fresh(void);
 
 /* The size of the struct as the library has it. Compare it with sizeof (struct desk) where the two might have been compiled apart. */
@@ -140,9 +149,10 @@ struct desk_written desk_line(struct desk *d, const uint8_t *line, size_t line_l
  *     'K'  a, k, and the target in b; k may be any number    value: the pairs kept
  *     'S'  a, b                                              value: 1 if they act alike, else 0
  *     'C'  a                                                 value 0
- *     'T'                                                    value: the count of changes
+ *     'T'                                                    value: the count of the named station's changes
  *     'X'  a slot, b = n, c = r (numbers), splits up to      value: the pairs kept
  *          99 and seed, which may be any number
+ *     'Z'  a = station (a number, not a digit)               value 0
  *
  * Every other letter is refused with 1, those of records with text or a listing (M, W, L, U) too, and so is X with more splits than 99,
  * which no line has digits for: a job that is done does what a line does. No 14 here: nothing is written.

@@ -22,8 +22,9 @@ enum refusal {
     REFUSED_TOO_SHORT = 13,     /* the code is a proper beginning of a from-word; plans_route alone, a desk has a block for it */
     REFUSED_BUFFER = 14,        /* the lent buffer is shorter than the output; looked for last */
     REFUSED_VALUE = 15,         /* what was handed in is no draft, no plan or no desk; looked for first */
-    REFUSED_COUNT = 16,         /* the count of changes is at its limit, 4,000,000,000 */
-    REFUSED_SEED = 17           /* a seed outside 1 to 2,147,483,646 */
+    REFUSED_COUNT = 16,         /* the named station's count of changes is at its limit, 4,000,000,000 */
+    REFUSED_SEED = 17,          /* a seed outside 1 to 2,147,483,646 */
+    REFUSED_STATION = 18        /* a station above 7 */
 };
 
 /* The column that an answer names beside REFUSED_OVERLAP and REFUSED_GAP; 0 beside every other number. */
@@ -55,6 +56,7 @@ static inline const char *refusal_reason(unsigned number)
         "not a plan or desk",
         "the count of changes is at its limit",
         "the seed is out of range",
+        "no such station",
     };
     return number < sizeof reasons / sizeof reasons[0] ? reasons[number] : "no such refusal";
 }

@@ -32,6 +32,7 @@ REASONS = [
     "not a plan or desk",
     "the count of changes is at its limit",
     "the seed is out of range",
+    "no such station",
 ]
 
 LONGEST_REPLY = 4618  # DESK_LONGEST_REPLY of include/desk.h
@@ -43,13 +44,19 @@ class Block(ctypes.Structure):
     _fields_ = [("arity", ctypes.c_uint8), ("roots", ctypes.c_uint8), ("pairs", ctypes.c_size_t)]
 
 
+class Control(ctypes.Structure):
+    """struct desk_control"""
+
+    _fields_ = [("station", ctypes.c_uint32), ("changes", ctypes.c_uint32 * 8)]
+
+
 class Desk(ctypes.Structure):
     """struct desk"""
 
     _fields_ = [
         ("blocks", Block * 9),
         ("opened", ctypes.c_uint8),
-        ("changes", ctypes.c_uint32),
+        ("control", Control),
         ("columns", ctypes.c_uint64 * 2304),
     ]
 

@@ -11,7 +11,7 @@ use std::process::ExitCode;
 const PLAN: [&str; 5] = ["P\tA\t2\t1", "M\t111\t11", "M\t112\t121", "M\t12\t122", "E"];
 
 /// The reasons of include/refusals.h, by their numbers.
-const REASONS: [&str; 18] = [
+const REASONS: [&str; 19] = [
     "done",
     "not a record",
     "no plan is open, or one is",
@@ -30,6 +30,7 @@ const REASONS: [&str; 18] = [
     "not a plan or desk",
     "the count of changes is at its limit",
     "the seed is out of range",
+    "no such station",
 ];
 
 /// `struct desk_block` of include/desk.h. All fields stand here for the layout,
@@ -42,13 +43,21 @@ struct Block {
     pairs: usize,
 }
 
+/// `struct desk_control`.
+#[repr(C)]
+#[allow(dead_code)]
+struct Control {
+    station: u32,
+    changes: [u32; 8],
+}
+
 /// `struct desk`.
 #[repr(C)]
 #[allow(dead_code)]
 struct Desk {
     blocks: [Block; 9],
     opened: u8,
-    changes: u32,
+    control: Control,
     columns: [u64; 2304],
 }
 
