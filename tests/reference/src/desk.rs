@@ -1,6 +1,6 @@
-//! The desk: eight slots, at most one open plan and the count of changes. It
-//! takes the bytes of standard input in any pieces and gives the bytes of the
-//! replies. Every refusal drops an open plan and changes nothing else.
+//! The desk: eight slots, at most one open plan and the stations with their
+//! counts. It takes the bytes of standard input in any pieces and gives the bytes
+//! of the replies. Every refusal drops an open plan and changes nothing else.
 
 use std::cmp::Reverse;
 use std::collections::BTreeMap;
@@ -8,10 +8,8 @@ use std::collections::BTreeMap;
 use crate::plan::{self, Plan, Routed};
 use crate::records::Record;
 use crate::refusal::Refusal;
+use crate::stations::Stations;
 use crate::words::{Shape, Word};
-
-/// "A count of changes from 0 to 4,000,000,000."
-pub const COUNT_LIMIT: u64 = 4_000_000_000;
 
 /// "Lines hold at most 1,100 bytes, byte 10 not counted".
 pub const LINE_BYTES: usize = 1100;
@@ -23,7 +21,7 @@ pub type Reply = Result<Vec<u8>, Refusal>;
 #[derive(Clone, Debug, Default)]
 pub struct Desk {
     slots: BTreeMap<u8, Plan>,
-    count: u64,
+    stations: Stations,
     open: Option<OpenPlan>,
     line: Line,
 }
@@ -65,36 +63,31 @@ pub fn session(input: &[u8]) -> Vec<u8> {
 }
 
 impl Desk {
-    /// "A fresh desk has empty slots and count 0."
+    /// "A fresh desk has empty slots and count 0", and station 0 is named.
     pub fn new() -> Desk {
         Desk::default()
     }
 
-    /// A desk with empty slots and this count. It is there for tests alone, so
-    /// that refusal 16 can be reached.
-    pub fn with_count(count: u64) -> Desk {
-        assert!(count <= COUNT_LIMIT, "the count has a limit");
-        Desk {
-            count,
-            ..Desk::default()
-        }
-    }
-
     /// A desk with these contents, for the calls that are handed one: it may
     /// have come about in any way.
-    pub fn with_contents(slots: BTreeMap<u8, Plan>, open: Option<OpenPlan>, count: u64) -> Desk {
+    pub fn with_contents(
+        slots: BTreeMap<u8, Plan>,
+        open: Option<OpenPlan>,
+        stations: Stations,
+    ) -> Desk {
         let targets = open.iter().map(|open| &open.slot);
         let letters: Vec<u8> = slots.keys().chain(targets).copied().collect();
         assert!(slots_in_range(&letters).is_ok(), "slots are A to H");
         Desk {
             slots,
+            stations,
             open,
-            ..Desk::with_count(count)
+            line: Line::default(),
         }
     }
 
-    pub fn count(&self) -> u64 {
-        self.count
+    pub fn stations(&self) -> &Stations {
+        &self.stations
     }
 
     /// The plan in this slot, if it holds one.
@@ -175,8 +168,9 @@ impl Desk {
                 splits,
                 seed,
             } => self.exercise(slot, Shape { arity, roots }, splits, seed),
-            Record::Count => Ok(ok_line(self.count)),
+            Record::Count => Ok(ok_line(self.stations.count())),
             Record::Held => Ok(self.held_slots()),
+            Record::Station { station } => self.name_station(station),
         }
     }
 
@@ -260,7 +254,7 @@ impl Desk {
     fn clear(&mut self, operand: u8) -> Reply {
         slots_in_range(&[operand])?;
         self.held(operand)?;
-        self.raise_count()?;
+        self.stations.count_change()?;
         self.slots.remove(&operand);
         Ok(b"ok\n".to_vec())
     }
@@ -287,10 +281,16 @@ impl Desk {
         lines
     }
 
+    /// Z: then 18. "Z counts no change and replies `ok`."
+    fn name_station(&mut self, station: u8) -> Reply {
+        self.stations.name(station)?;
+        Ok(b"ok\n".to_vec())
+    }
+
     /// Writes a plan into its slot: refusal 16, else "`ok⇥` and the number of
     /// pairs kept".
     fn keep(&mut self, target: u8, plan: Plan) -> Reply {
-        self.raise_count()?;
+        self.stations.count_change()?;
         let reply = ok_line(plan.size() as u64);
         self.slots.insert(target, plan);
         Ok(reply)
@@ -298,14 +298,6 @@ impl Desk {
 
     fn held(&self, slot: u8) -> Result<&Plan, Refusal> {
         self.slots.get(&slot).ok_or(Refusal::EmptySlot)
-    }
-
-    fn raise_count(&mut self) -> Result<(), Refusal> {
-        if self.count >= COUNT_LIMIT {
-            return Err(Refusal::CountLimit);
-        }
-        self.count += 1;
-        Ok(())
     }
 }
 

@@ -2,9 +2,9 @@
 //! It keeps words as strings of digits and plans as ordered maps, and follows
 //! the definitions word by word: it is made to be read and compared with, not
 //! to be fast. Document 01 decides on records and numbers, with change requests
-//! E1 for the blocks of W, E2 for the order of U's lines and E3 for the plans of
-//! X, and document 004 on words, bases and maps. The tables of E10, which may be
-//! laid beside a listing, have a module of their own and no limits.
+//! E1 for the blocks of W, E2 for the order of U's lines, E3 for the plans of X and
+//! E5 for the stations, and document 004 on words, bases and maps. The tables of
+//! E10, which may be laid beside a listing, have a module of their own and no limits.
 
 pub mod basis;
 pub mod desk;
@@ -13,12 +13,14 @@ pub mod maps;
 pub mod plan;
 pub mod records;
 pub mod refusal;
+pub mod stations;
 pub mod tables;
 pub mod words;
 
 pub use basis::{Fault, Flaw, Side};
-pub use desk::{session, Desk, OpenPlan, COUNT_LIMIT, LINE_BYTES};
+pub use desk::{session, Desk, OpenPlan, LINE_BYTES};
 pub use plan::{Plan, Routed};
 pub use records::Record;
 pub use refusal::Refusal;
+pub use stations::{Stations, COUNT_LIMIT, STATIONS};
 pub use words::{Shape, Word, CODE_DIGITS, PAIRS, WORD_DIGITS};

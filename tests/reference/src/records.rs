@@ -35,10 +35,12 @@ pub enum Record<'a> {
         splits: u8,
         seed: u64,
     },
-    /// T: the count.
+    /// T: the count of the named station.
     Count,
     /// U: the held slots.
     Held,
+    /// Z: names a station.
+    Station { station: u8 },
 }
 
 impl<'a> Record<'a> {
@@ -108,6 +110,9 @@ impl<'a> Record<'a> {
             },
             [b"T"] => Record::Count,
             [b"U"] => Record::Held,
+            [b"Z", station] => Record::Station {
+                station: one_digit(station)?,
+            },
             _ => return None,
         };
         Some(record)
@@ -122,7 +127,7 @@ fn one_byte(field: &[u8]) -> Option<u8> {
     }
 }
 
-/// "n and r one digit 0 to 9".
+/// "n and r one digit 0 to 9", and the station of Z is one digit too.
 fn one_digit(field: &[u8]) -> Option<u8> {
     match field {
         [byte] if byte.is_ascii_digit() => Some(byte - b'0'),

@@ -1,4 +1,4 @@
-//! The refusals of the desk and the numbers that document 01 and E3 give them.
+//! The refusals of the desk and the numbers that document 01, E3 and E5 give them.
 //! Numbers 14 and 15 belong to library calls with lent buffers and lent plans;
 //! nothing of that kind is lent here, so they don't occur. 13 is the library's
 //! alone too, since W has a block instead, but a route needs nothing lent.
@@ -33,14 +33,16 @@ pub enum Refusal {
     ExponentRange,
     /// 13, "the code is a proper beginning of a from-word".
     CodeTooShort,
-    /// 16, "the count is at its limit".
+    /// 16, "the count is at its limit", that of the named station.
     CountLimit,
     /// 17, "a seed outside 1 to 2147483646".
     SeedRange,
+    /// 18, "a digit above 7", which is no station.
+    StationRange,
 }
 
 impl Refusal {
-    /// The number of document 01, or of E3 for 17.
+    /// The number of document 01, or of E3 for 17 and of E5 for 18.
     pub fn number(self) -> u8 {
         match self {
             Refusal::Form => 1,
@@ -57,6 +59,7 @@ impl Refusal {
             Refusal::CodeTooShort => 13,
             Refusal::CountLimit => 16,
             Refusal::SeedRange => 17,
+            Refusal::StationRange => 18,
         }
     }
 

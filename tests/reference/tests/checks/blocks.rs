@@ -5,7 +5,7 @@
 
 use std::collections::{BTreeMap, BTreeSet};
 
-use reference::{Desk, Plan, Refusal, Routed, Shape, Word};
+use reference::{Desk, Plan, Refusal, Routed, Shape, Stations, Word};
 
 use crate::random::{shapes, Random};
 
@@ -22,7 +22,7 @@ fn fronts(plan: &Plan) -> BTreeSet<Word> {
 fn replies(a: &Plan, b: &Plan, records: &[u8]) -> Vec<u8> {
     let slots = BTreeMap::from([(b'A', a.clone()), (b'B', b.clone())]);
     let mut out = Vec::new();
-    Desk::with_contents(slots, None, 0).feed(records, &mut out);
+    Desk::with_contents(slots, None, Stations::default()).feed(records, &mut out);
     out
 }
 

@@ -120,7 +120,7 @@ fn typed_alike(shape: Shape, splits: u8, seed: u64) -> (usize, usize) {
     assert_eq!(reply, typed_reply, "{record}");
     let plan = made.plan(b'C').expect("it is kept");
     assert_eq!(Some(plan), typed.plan(b'C'), "{record}");
-    assert_eq!((made.count(), made.open_plan()), (1, None));
+    assert_eq!((made.stations().count(), made.open_plan()), (1, None));
     (pairs.len(), plan.size())
 }
 

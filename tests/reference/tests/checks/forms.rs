@@ -5,7 +5,9 @@
 use crate::prepared::{check, check_on, prepared};
 
 /// Letters that no record has; the first two lines have an empty one.
-const UNKNOWN_LETTERS: &[&str] = &["", " ", "Y", "p A 2 1", "PP A 2 1", "\r", "T\r", "\0", "tt"];
+const UNKNOWN_LETTERS: &[&str] = &[
+    "", " ", "Y", "p A 2 1", "PP A 2 1", "\r", "T\r", "\0", "tt", "z 1", "ZZ 1",
+];
 
 /// Records with a field too few or too many.
 const WRONG_NUMBERS_OF_FIELDS: &[&str] = &[
@@ -36,6 +38,9 @@ const WRONG_NUMBERS_OF_FIELDS: &[&str] = &[
     "U A",
     "X",
     "X A 2 1 3",
+    "Z",
+    "Z 1 ",
+    "Z 1 1",
 ];
 
 /// Slot fields of no byte or of two.
@@ -53,6 +58,12 @@ const WRONG_POWERS: &[&str] = &[
     "", "-", "+1", "00", "01", "-0", "-01", "10000", "-10000", "1x", "--1",
 ];
 
+/// Fields for the station of Z that are not one digit.
+const WRONG_STATIONS: &[&str] = &[
+    "", "00", "01", "10", "70", "-0", "-1", "+1", "1x", "x", "A", "-", "1\0", "1\r", "\0", ".",
+    "/", ":", "\u{661}",
+];
+
 #[test]
 fn forms() {
     let tables = [
@@ -66,6 +77,9 @@ fn forms() {
     }
     for k in WRONG_POWERS {
         check(&format!("K A {k} C"), "no 1");
+    }
+    for station in WRONG_STATIONS {
+        check(&format!("Z {station}"), "no 1");
     }
 }
 

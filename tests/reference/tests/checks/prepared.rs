@@ -1,14 +1,24 @@
 //! A desk with plans of two shapes in it, and the check of its reply to one
 //! more record: the ground of the checks of refusals.
 
-use reference::{Desk, Plan};
+use reference::{Desk, Plan, Stations, STATIONS};
 
 use crate::paper::lines;
 
 /// A desk with ψ in A, an exchange of two belts in B (shape 3, 2), nothing in
-/// C and a plan with words of 16 digits in D.
+/// C and a plan with words of 16 digits in D. Station 0 made it and has this count.
 pub fn prepared(count: u64) -> Desk {
-    let mut desk = Desk::with_count(count - 3);
+    let mut counts = [0; STATIONS];
+    counts[0] = count;
+    typed_by(0, counts)
+}
+
+/// The same desk with these counts. The station that is named typed the plans, so
+/// that they are three of its changes.
+pub fn typed_by(station: u8, mut counts: [u64; STATIONS]) -> Desk {
+    counts[usize::from(station)] -= 3;
+    let stations = Stations::new(station, counts);
+    let mut desk = Desk::with_contents(Default::default(), None, stations);
     let mut out = Vec::new();
     desk.feed(
         &lines(
@@ -30,9 +40,9 @@ pub fn prepared(count: u64) -> Desk {
 }
 
 /// All that a desk holds besides an open plan.
-fn contents(desk: &Desk) -> (Vec<Option<Plan>>, u64) {
+fn contents(desk: &Desk) -> (Vec<Option<Plan>>, Stations) {
     let plans = (b'A'..=b'H').map(|slot| desk.plan(slot).cloned());
-    (plans.collect(), desk.count())
+    (plans.collect(), desk.stations().clone())
 }
 
 /// Asserts the reply to one more line, and that a refusal "changes nothing

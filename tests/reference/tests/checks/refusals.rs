@@ -107,7 +107,7 @@ fn the_count_at_its_limit() {
     let replies = "no\t16\nno\t9\nno\t2\nno\t6\tF\nno\t7\tF\n\
                    D\t2\t1\t16\nA\t2\t1\t3\nB\t3\t2\t2\nok\t3\n";
     assert_eq!(String::from_utf8(out).unwrap(), replies);
-    assert_eq!(desk.count(), COUNT_LIMIT);
+    assert_eq!(desk.stations().count(), COUNT_LIMIT);
 }
 
 #[test]

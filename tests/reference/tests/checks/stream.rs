@@ -80,7 +80,11 @@ fn operation(random: &mut Random) -> Vec<u8> {
             format!("W\t{a}\t{code}")
         }
         8 => format!("L\t{a}"),
-        9 => random.pick(&["T", "U", "P\tA\t1\t1"]).to_string(),
+        9 => {
+            let station = random.below(10);
+            let naming = format!("Z\t{station}");
+            random.pick(&["T", "U", "P\tA\t1\t1", &naming]).to_string()
+        }
         10 => format!("C\t{a}"),
         _ => format!("S\t{a}\t{a}"),
     };
@@ -138,7 +142,7 @@ fn pieces_give_the_same_as_the_whole() {
         all.extend(whole);
     }
     let counts = tally(&all);
-    for number in [1, 2, 3, 4, 5, 8, 9, 10, 11, 12] {
+    for number in [1, 2, 3, 4, 5, 8, 9, 10, 11, 12, 18] {
         assert!(counts.contains_key(&format!("no\t{number}")), "{number}");
     }
     for column in ["6\tF", "6\tT", "7\tF", "7\tT"] {
@@ -208,6 +212,8 @@ fn the_program_answers_line_by_line() {
         ("W\tA\t112\n", "ok\t122"),
         ("X\n", "no\t1"),
         ("T\n", "ok\t1"),
+        ("Z\t7\n", "ok"),
+        ("T\n", "ok\t0"),
     ] {
         input.write_all(records.as_bytes()).expect("it reads");
         assert_eq!(replies.recv_timeout(wait).as_deref(), Ok(reply));

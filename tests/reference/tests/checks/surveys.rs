@@ -3,7 +3,7 @@
 
 use std::collections::BTreeMap;
 
-use reference::{Desk, Plan, Shape};
+use reference::{Desk, Plan, Shape, Stations};
 
 use crate::paper::lines;
 use crate::random::{shapes, Random};
@@ -28,7 +28,7 @@ fn desk(pairs: &[usize]) -> Desk {
     let slots = SLOTS.iter().zip(pairs);
     let held = slots.filter(|(_, pairs)| **pairs > 0);
     let held = held.map(|(slot, pairs)| (*slot, powered(*pairs)));
-    Desk::with_contents(held.collect(), None, 0)
+    Desk::with_contents(held.collect(), None, Stations::default())
 }
 
 /// What the desk replies to U.
@@ -130,7 +130,7 @@ fn the_shape_does_not_matter() {
         (b'E', powered(4)),
         (b'F', still(5, 4)),
     ];
-    let mut desk = Desk::with_contents(held.into(), None, 0);
+    let mut desk = Desk::with_contents(held.into(), None, Stations::default());
     let reply = "B\t9\t4\t4\nC\t2\t4\t4\nE\t2\t1\t4\nF\t5\t4\t4\nok\t4\n";
     assert_eq!(survey(&mut desk), reply);
 }
@@ -160,7 +160,8 @@ fn random_desks() {
                 held.insert(*slot, random.plan(shape, most));
             }
         }
-        let reply = survey(&mut Desk::with_contents(held.clone(), None, 0));
+        let mut desk = Desk::with_contents(held.clone(), None, Stations::default());
+        let reply = survey(&mut desk);
         let mut rows: Vec<&str> = reply.lines().collect();
         assert_eq!(rows.pop(), Some(&format!("ok\t{}", held.len())[..]));
         for pair in rows.windows(2) {
