@@ -84,6 +84,32 @@ pub fn long_garbage() -> Case {
     case
 }
 
+/// A line that is too long names no station, whatever it begins with, and the named
+/// one stays; 1,100 bytes of Z are refused for their form.
+pub fn long_namings() -> Case {
+    let mut case = Case::new("long-namings");
+    case.ask("Z|3", "ok");
+    case.load("P|A|2|1", &[row("1", "1")], "ok|1");
+    for line in [
+        format!("Z|{}", of("1", 1098)),
+        format!("Z|{}", of("1", 1099)),
+        format!("Z|1|{}", of("1", 1096)),
+        format!("Z|1|{}", of("1", 1097)),
+        format!("{}|Z|1", of("x", 1100)),
+        of("Z|1|", 2000),
+    ] {
+        case.ask(&line, "no|1");
+        case.ask("T", "ok|1");
+        case.ask("P|B|2|1", "");
+        case.ask(&line, "no|1");
+        case.ask("E", "no|2");
+        case.ask("T", "ok|1");
+    }
+    case.ask("Z|1", "ok");
+    case.ask("T", "ok|0");
+    case
+}
+
 pub fn last_line(name: &'static str, digits: usize, reply: &str) -> Case {
     let mut case = Case::new(name);
     case.ask("T", "ok|0");

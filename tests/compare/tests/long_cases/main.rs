@@ -25,6 +25,7 @@ fn all() -> Vec<Case> {
         lines::long_codes(),
         lines::long_lines(),
         lines::long_garbage(),
+        lines::long_namings(),
         lines::last_line("long-last-line-1100", 1096, "no|9"),
         lines::last_line("long-last-line-1101", 1097, "no|1"),
         lines::last_line("long-last-line-9000", 8996, "no|1"),
