@@ -8,7 +8,7 @@ use crate::judge::{expected, judge, lines, Step};
 use crate::program::{Feeding, Program, Trouble};
 use crate::report::{block, manner, Fault};
 use crate::shrink::{shortest_prefix, shrink, Effort};
-use sessions::{tally, Tally, EXERCISES};
+use sessions::{tally, Tally, EXERCISES, NAMINGS};
 use std::collections::BTreeMap;
 use std::fs;
 use std::io::{self, Write};
@@ -91,17 +91,22 @@ fn find_fault(program: &Program, steps: &[Step], feeding: Feeding) -> Option<Fau
 /// The replies to the records of each letter, over all sessions.
 type Replies = BTreeMap<char, Tally>;
 
+/// The replies that the records of one letter have to meet.
+const OWN: [(char, &[&str]); 2] = [('X', EXERCISES), ('Z', NAMINGS)];
+
 /// What the replies of a range of seeds come to: those that never came up, if any,
-/// from any record or from X, and whether that is a failure.
+/// from any record or from one that has its own, and whether that is a failure.
 fn verdict(replies: &Replies, seeds: u64) -> Option<(bool, String)> {
     let mut missing: Vec<String> = total(replies)
         .missing()
         .into_iter()
         .map(Into::into)
         .collect();
-    let exercises = replies.get(&'X').cloned().unwrap_or_default();
-    let to_x = exercises.missing_of(EXERCISES);
-    missing.extend(to_x.iter().map(|kind| format!("{kind} to X")));
+    for (letter, kinds) in OWN {
+        let own = replies.get(&letter).cloned().unwrap_or_default();
+        let own = own.missing_of(kinds);
+        missing.extend(own.iter().map(|kind| format!("{kind} to {letter}")));
+    }
     if missing.is_empty() {
         return None;
     }
@@ -306,7 +311,7 @@ fn operation(record: &[u8]) -> char {
     let body = record.strip_suffix(b"\n").unwrap_or(record);
     let letter = body.split(|&byte| byte == b'\t').next();
     match letter {
-        Some([letter]) if b"PMEFIKSWLCTUX".contains(letter) => *letter as char,
+        Some([letter]) if b"PMEFIKSWLCTUXZ".contains(letter) => *letter as char,
         _ => '?',
     }
 }
@@ -314,7 +319,9 @@ fn operation(record: &[u8]) -> char {
 #[cfg(test)]
 mod tests {
     use super::*;
+    use reference::Desk;
     use sessions::SURVEYS;
+    use std::collections::BTreeSet;
 
     #[test]
     fn a_reply_that_never_came_up_fails_a_full_range_only() {
@@ -322,6 +329,7 @@ mod tests {
         let (fails, missing) = verdict(&few, FULL_RANGE).unwrap();
         assert!(fails && missing.contains("no 12") && !missing.contains("no 1,"));
         assert!(missing.contains("no 1 to X") && !missing.contains("no 17"));
+        assert!(missing.contains("ok to Z") && missing.contains("no 18 to Z"));
         assert!(!verdict(&few, FULL_RANGE - 1).unwrap().0);
     }
 
@@ -338,11 +346,27 @@ mod tests {
             assert!(all.count(kind) > 200, "{}", all.line());
         }
         assert_eq!(all.count("no 13") + all.count("other"), 0);
-        let exercises = &replies[&'X'];
-        assert!(exercises.count("ok value") > 800, "{}", exercises.line());
-        for kind in EXERCISES {
-            assert!(exercises.count(kind) > 15, "{kind}: {}", exercises.line());
+        for (letter, kinds) in OWN {
+            let own = &replies[&letter];
+            for kind in kinds {
+                assert!(own.count(kind) > 15, "{kind} to {letter}: {}", own.line());
+            }
+            assert!(own.count(kinds[0]) > 800, "to {letter}: {}", own.line());
         }
+    }
+
+    /// Where all stations have as many changes, T says nothing of whose count it is.
+    #[test]
+    fn stations_come_to_counts_of_their_own() {
+        let mut apart = 0;
+        for seed in 0..FULL_RANGE {
+            let mut desk = Desk::new();
+            desk.feed(&sessions::session(seed), &mut Vec::new());
+            let counts = desk.stations().counts();
+            let different: BTreeSet<u64> = counts.into_iter().collect();
+            apart += u64::from(different.len() > 3);
+        }
+        assert!(apart > FULL_RANGE / 2, "{apart} sessions");
     }
 
     #[test]
@@ -352,6 +376,7 @@ mod tests {
         assert_eq!(operation(b"T\r\n"), '?');
         assert_eq!(operation(b"\n"), '?');
         assert_eq!(operation(b"X\t1\n"), 'X');
+        assert_eq!(operation(b"Z\t1\n"), 'Z');
         assert_eq!(operation(b"Y\t1\n"), '?');
     }
 }

@@ -96,7 +96,7 @@ fn failures(desk: &Path) -> (usize, usize) {
     let desk = [desk.to_str().unwrap()];
     // Making the faults small takes its time, and their number is enough.
     let on_cases = compare(&["--details", "0", "--cases", &cases()], &desk);
-    let on_seeds = compare(&["--details", "0", "--seeds", "0..16"], &desk);
+    let on_seeds = compare(&["--details", "0", "--seeds", "0..24"], &desk);
     let (on_cases, on_seeds) = (counts(&on_cases), counts(&on_seeds));
     (on_cases.1, on_seeds.1)
 }
@@ -282,6 +282,86 @@ fn a_seed_of_32_bits_is_found() {
 #[test]
 fn an_exercise_that_is_not_counted_is_found() {
     is_found("x-not-counted");
+}
+
+#[test]
+fn a_change_counted_for_station_zero_is_found() {
+    is_found("z-counted-for-zero");
+}
+
+#[test]
+fn the_count_of_station_zero_for_all_is_found() {
+    is_found("z-count-of-zero-told");
+}
+
+#[test]
+fn a_sum_of_all_counts_is_found() {
+    is_found("z-sum-told");
+}
+
+#[test]
+fn a_naming_that_is_counted_is_found() {
+    is_found("z-counted");
+}
+
+#[test]
+fn a_ninth_station_is_found() {
+    is_found("z-eight-taken");
+}
+
+#[test]
+fn a_digit_that_wraps_is_found() {
+    is_found("z-digit-wrapped");
+}
+
+#[test]
+fn a_station_of_two_digits_is_found() {
+    is_found("z-two-digits");
+}
+
+#[test]
+fn a_wrong_digit_before_an_open_plan_is_found() {
+    is_found("z-18-before-2");
+}
+
+#[test]
+fn a_station_named_by_a_wrong_digit_is_found() {
+    is_found("z-refused-names");
+}
+
+#[test]
+fn a_station_named_in_an_open_plan_is_found() {
+    is_found("z-while-open-names");
+}
+
+#[test]
+fn an_open_plan_left_open_by_a_naming_is_found() {
+    is_found("z-while-open-stays-open");
+}
+
+#[test]
+fn a_naming_done_in_an_open_plan_is_found() {
+    is_found("z-while-open-done");
+}
+
+#[test]
+fn counts_that_are_forgotten_are_found() {
+    is_found("z-counts-forgotten");
+}
+
+#[test]
+fn a_station_that_a_refusal_forgets_is_found() {
+    is_found("z-station-forgotten");
+}
+
+#[test]
+fn a_station_named_for_one_change_is_found() {
+    is_found("z-named-for-one-change");
+}
+
+#[test]
+fn a_naming_that_replies_a_number_is_found() {
+    is_found("z-number-told");
 }
 
 /// A directory with this one case in it, and nothing else.

@@ -2,8 +2,8 @@
 //! kinds that a long run of sessions has to have met. Refusals 13, 14 and 15
 //! are given by library calls alone, and 16 needs four thousand million
 //! changes, so no session meets them. Of U not only the lines are counted but
-//! also the replies that show something of their order, and X has to meet its own
-//! refusals, some of which other records have too.
+//! also the replies that show something of their order, and X and Z have to meet
+//! their own refusals, some of which other records have too.
 
 use std::collections::BTreeMap;
 use std::fmt;
@@ -11,7 +11,7 @@ use std::fmt;
 /// The refusals that sessions can meet, in the form of the tally.
 const REFUSALS: &[&str] = &[
     "no 1", "no 2", "no 3", "no 4", "no 5", "no 6 F", "no 6 T", "no 7 F", "no 7 T", "no 8", "no 9",
-    "no 10", "no 11", "no 12", "no 17",
+    "no 10", "no 11", "no 12", "no 17", "no 18",
 ];
 
 /// The other replies that sessions can meet.
@@ -27,6 +27,9 @@ pub const SURVEYS: &[&str] = &["U moved", "U tie"];
 pub const EXERCISES: &[&str] = &[
     "ok value", "no 1", "no 2", "no 3", "no 4", "no 5", "no 8", "no 17",
 ];
+
+/// The replies that Z alone has to meet.
+pub const NAMINGS: &[&str] = &["ok", "no 1", "no 2", "no 18"];
 
 /// How often each kind of reply came up.
 #[derive(Default, Clone, PartialEq, Eq, Debug)]
@@ -174,6 +177,9 @@ mod tests {
         assert!(tally.missing_of(EXERCISES).is_empty());
         tally.counts.remove("no 17");
         assert_eq!(tally.missing_of(EXERCISES), ["no 17"]);
+        assert!(tally.missing_of(NAMINGS).is_empty());
+        tally.counts.remove("no 18");
+        assert_eq!(tally.missing_of(NAMINGS), ["no 18"]);
     }
 
     /// A reply to U is closed by its number, so that two of them aren't one.

@@ -41,29 +41,30 @@ const SEEDS_BEYOND: &[usize] = &[
 ];
 
 /// n, r, s and seeds of plans with a word of 17 digits or more: in the from column
-/// alone, in the to column alone, in both, and in one that would join. The last
-/// four have too many pairs as well, or in their stead, once with a join that
-/// would bring them within the limit.
+/// alone, in the to column alone and in both. The last three have too many pairs as
+/// well, or in their stead.
 const PLANS_BEYOND: &[(usize, usize, usize, usize)] = &[
     (2, 1, 99, 5),
     (2, 1, 99, 19),
     (2, 1, 99, 29),
-    (2, 9, 99, 1246),
     (2, 1, 99, 195),
     (2, 1, 60, 1),
     (3, 1, 99, 22),
     (3, 1, 99, 74),
     (4, 1, 99, 42),
-    (3, 1, 64, 1357),
 ];
+
+/// Those of plans with such a word, or with 129 pairs, that a join would bring within
+/// the limits.
+const PLANS_THAT_JOIN: &[(usize, usize, usize, usize)] = &[(2, 9, 99, 1246), (3, 1, 64, 1357)];
 
 /// One X that is wrong, or nearly, and a look at what it left.
 pub fn step(session: &mut Session) {
-    match session.rng.below(8) {
-        0 | 1 => wrong_form(session),
-        2 | 3 => wrong_seed(session),
-        4 => too_many_pairs(session),
-        5 => wrong_slot_or_shape(session),
+    match session.rng.below(9) {
+        0..=2 => wrong_form(session),
+        3 | 4 => wrong_seed(session),
+        5 => too_many_pairs(session),
+        6 => wrong_slot_or_shape(session),
         _ => known_to_be_beyond(session),
     }
     let slot = session.held_slot();
@@ -86,7 +87,7 @@ pub fn interrupting(session: &mut Session, letter: &[u8]) {
 }
 
 fn some_letter(session: &mut Session) -> &'static [u8] {
-    match session.rng.chance(20) {
+    match session.rng.chance(25) {
         true => *session.rng.pick(BAD_SLOTS),
         false => name(session.some_slot()),
     }
@@ -113,7 +114,7 @@ fn wrong_seed(session: &mut Session) {
         true => session.some_shape(),
         false => plans::any_shape(&mut session.rng),
     };
-    let splits = *session.rng.pick(&[0, 1, 3, 99, 99]);
+    let splits = *session.rng.pick(&[0, 1, 3, 99, 99, 99]);
     let seed = *session.rng.pick(SEEDS_BEYOND);
     session.exercise_record(letter, shape, splits, seed);
 }
@@ -144,6 +145,10 @@ fn wrong_slot_or_shape(session: &mut Session) {
 
 fn known_to_be_beyond(session: &mut Session) {
     let slot = session.some_slot();
-    let (n, r, splits, seed) = *session.rng.pick(PLANS_BEYOND);
+    let plans = match session.rng.chance(30) {
+        true => PLANS_THAT_JOIN,
+        false => PLANS_BEYOND,
+    };
+    let (n, r, splits, seed) = *session.rng.pick(plans);
     session.exercise_record(name(slot), Shape { n, r }, splits, seed);
 }

@@ -1,12 +1,13 @@
 //! The records that a desk has to refuse, or nearly: plans spoiled a little
 //! and records in the middle of an open plan stand here, the limits and the
-//! first value beyond each in `limits`, wrong forms of records in `forms`, and
-//! wrong values of a right form in `values`, and what is wrong with an X in
-//! `exercises`.
+//! first value beyond each in `limits`, wrong forms of records in `forms`,
+//! wrong values of a right form in `values`, what is wrong with an X in
+//! `exercises`, and with a Z in `stations`.
 
 mod exercises;
 mod forms;
 mod limits;
+mod stations;
 mod values;
 
 use crate::plans::{self, Row, Shape};
@@ -19,17 +20,18 @@ const BAD_SLOTS: &[&[u8]] = &[
 
 /// One record or a few that are wrong in some way.
 pub fn step(session: &mut Session) {
-    match session.rng.below(14) {
-        0 | 1 => interrupted_plan(session),
-        2 => limits::boundary(session),
-        3 => limits::long_line(session),
-        4 => forms::wrong_field_count(session),
-        5 | 6 => forms::wrong_form(session),
-        7 => forms::stray_bytes(session),
-        8 => values::wrong_slots(session),
-        9 => values::wrong_code(session),
-        10 => values::empty_slots(session),
-        11 | 12 => exercises::step(session),
+    match session.rng.below(18) {
+        0..=2 => interrupted_plan(session),
+        3 => limits::boundary(session),
+        4 => limits::long_line(session),
+        5 => forms::wrong_field_count(session),
+        6 | 7 => forms::wrong_form(session),
+        8 => forms::stray_bytes(session),
+        9 => values::wrong_slots(session),
+        10 => values::wrong_code(session),
+        11 => values::empty_slots(session),
+        12..=14 => exercises::step(session),
+        15 | 16 => stations::step(session),
         _ => values::wrong_opening(session),
     }
 }
@@ -62,6 +64,10 @@ fn interrupted_plan(session: &mut Session) {
     if session.rng.chance(60) {
         session.record(&[b"E"]);
     }
+    // the count of the station that is still named
+    if session.rng.chance(40) {
+        session.record(&[b"T"]);
+    }
 }
 
 fn short_plan(session: &mut Session, shape: Shape) -> Vec<Row> {
@@ -71,7 +77,7 @@ fn short_plan(session: &mut Session, shape: Shape) -> Vec<Row> {
 
 fn interruption(session: &mut Session, slot: usize) {
     let letter = name(slot);
-    match session.rng.below(16) {
+    match session.rng.below(20) {
         0 => session.record(&[b"T"]),
         1 => session.record(&[b"U"]),
         2 => session.record(&[b"L", letter]),
@@ -86,6 +92,7 @@ fn interruption(session: &mut Session, slot: usize) {
         11 => session.record(&[b"E"]),
         12 => session.record(&[b""]),
         13 | 14 => exercises::interrupting(session, letter),
+        15..=18 => stations::interrupting(session),
         _ => forms::wrong_form(session),
     }
 }

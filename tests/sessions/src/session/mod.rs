@@ -1,12 +1,14 @@
 //! The course of a session: it loads a few plans and then takes steps, chosen
 //! by weight, that load plans (`loading`) or have X make them (`exercises`), work
-//! on them and ask about them (`operations`), or bring what a desk has to refuse
-//! (`mischief`). A book (`book`) says what the slots are thought to hold.
+//! on them and ask about them (`operations`), name the stations that do it
+//! (`stations`), or bring what a desk has to refuse (`mischief`). A book (`book`)
+//! says what the slots are thought to hold.
 
 mod book;
 mod exercises;
 mod loading;
 mod operations;
+mod stations;
 #[cfg(test)]
 mod tests;
 
@@ -15,6 +17,7 @@ pub use book::{name, Held, SLOTS};
 use crate::mischief;
 use crate::plans::{self, Blocks, Shape, Word};
 use crate::rng::Rng;
+use stations::STATIONS;
 
 /// A session while it is being written.
 pub struct Session {
@@ -30,6 +33,8 @@ pub struct Session {
     blocks: Blocks,
     /// The slots that are written to; the others stay empty.
     in_play: Vec<usize>,
+    /// The stations that type; the others are hardly ever named.
+    stations: Vec<usize>,
     pub slots: [Option<Held>; 8],
 }
 
@@ -39,7 +44,7 @@ pub fn session(seed: u64) -> Vec<u8> {
     for _ in 0..session.rng.between(2, 5) {
         session.load_some_plan();
     }
-    for _ in 0..session.rng.between(30, 90) {
+    for _ in 0..session.rng.between(32, 98) {
         session.step();
     }
     session.end()
@@ -67,6 +72,9 @@ impl Session {
         let mut in_play: Vec<usize> = (0..SLOTS.len()).collect();
         rng.shuffle(&mut in_play);
         in_play.truncate(rng.between(4, SLOTS.len()));
+        let mut stations: Vec<usize> = (0..STATIONS).collect();
+        rng.shuffle(&mut stations);
+        stations.truncate(rng.between(2, STATIONS));
         Session {
             rng,
             bytes: Vec::new(),
@@ -74,6 +82,7 @@ impl Session {
             common,
             blocks,
             in_play,
+            stations,
             slots: Default::default(),
         }
     }
@@ -86,7 +95,7 @@ impl Session {
 
     /// One step of the session, chosen by weight.
     fn step(&mut self) {
-        match self.rng.below(106) {
+        match self.rng.below(117) {
             0..=12 => self.load_some_plan(),
             13..=20 => mischief::load_near_miss(self),
             21..=34 => self.follow(),
@@ -102,6 +111,8 @@ impl Session {
             75..=76 => self.survey(),
             77..=78 => self.record(&[b"T"]),
             79..=84 => self.exercise(),
+            85..=91 => self.next_station(),
+            92 => self.every_count(),
             _ => mischief::step(self),
         }
     }
@@ -116,6 +127,7 @@ impl Session {
         } else {
             self.record(&[b"U"]);
             self.record(&[b"T"]);
+            self.every_count();
         }
         if self.rng.chance(25) {
             self.bytes.pop();

@@ -23,7 +23,7 @@ fn a_seed_decides_its_session() {
 #[test]
 fn every_operation_and_every_shape_comes_up() {
     let lines = all_lines(0..72);
-    for letter in b"PMEFIKSWLCTUX" {
+    for letter in b"PMEFIKSWLCTUXZ" {
         let found = lines.iter().any(|line| line.first() == Some(letter));
         assert!(found, "no record {}", *letter as char);
     }
@@ -132,6 +132,30 @@ fn exercises_come_up() {
         let behind = |pair: &&[Vec<String>]| pair[0][0] == "X" && pair[1][0] == letter;
         let found = all.windows(2).filter(behind).count();
         assert!(found > 20, "{found} times {letter} behind X");
+    }
+}
+
+/// Z with every digit and with all that is wrong, before T and in open plans too.
+#[test]
+fn stations_come_up() {
+    let lines = all_lines(0..200);
+    let times = |line: &[u8]| lines.iter().filter(|other| *other == line).count();
+    for digit in b'0'..=b'9' {
+        let found = times(&[b'Z', b'\t', digit]);
+        let least = if digit < b'8' { 200 } else { 40 };
+        assert!(found > least, "{found} of Z {}", digit as char);
+    }
+    for wrong in ["", "10", "00", "07", "-0", "x", "80", "1\t", "8\t8"] {
+        let found = times(format!("Z\t{wrong}").as_bytes());
+        assert!(found > 0, "no Z {wrong}");
+    }
+    assert!(times(b"Z") > 0);
+    for (first, second, least) in [(b'Z', b'T', 1000), (b'P', b'Z', 10), (b'M', b'Z', 30)] {
+        let starts = |line: &[u8], letter| line.first() == Some(&letter);
+        let behind = |pair: &&[Vec<u8>]| starts(&pair[0], first) && starts(&pair[1], second);
+        let found = lines.windows(2).filter(behind).count();
+        let [first, second] = [first, second].map(char::from);
+        assert!(found > least, "{found} times {second} behind {first}");
     }
 }
 
