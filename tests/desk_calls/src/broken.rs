@@ -66,7 +66,10 @@ impl Broken {
             }
             Fault::LeftIgnored if seen.opened == 0 => seen = seen.without_open(),
             Fault::OpenMustBePlan if is_mere_draft(&seen) => seen.opened = 1,
-            Fault::ChangesIgnored => seen.changes = seen.changes.min(COUNT_LIMIT as u32),
+            Fault::ChangesIgnored => {
+                let counts = &mut seen.control.changes;
+                *counts = counts.map(|count| count.min(COUNT_LIMIT as u32));
+            }
             _ => {}
         }
         seen
@@ -122,7 +125,7 @@ impl Broken {
     /// What an X that is done leaves besides a sound desk.
     fn leave_exercise(&self, desk: &mut Desk) {
         match self.fault {
-            Fault::UncountedExercise => desk.changes -= 1,
+            Fault::UncountedExercise => *desk.count() -= 1,
             Fault::OpenExercise => {
                 desk.opened = b'A';
                 desk.put(OPEN, &desk.value(0));
@@ -160,7 +163,7 @@ impl Broken {
                 desk.put(OPEN, &before.value(OPEN));
                 desk.blocks[OPEN] = Default::default();
             }
-            Fault::CountedRefusal if number == 11 => desk.changes += 1,
+            Fault::CountedRefusal if number == 11 => *desk.count() += 1,
             _ => {}
         }
     }

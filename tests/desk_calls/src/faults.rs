@@ -4,8 +4,11 @@
 use library::misread::{Step, STEPS};
 
 use crate::calls::Calls;
-use crate::checks::{buffers, bytes, damage, jobs, lines, paper, refusals, sessions, tables};
+use crate::checks::{
+    buffers, bytes, damage, jobs, lines, paper, refusals, sessions, stations, tables,
+};
 use crate::mislisted::{Listing, LISTINGS};
+use crate::misnamed::{Naming, NAMINGS};
 use crate::misread::{Text, TEXTS};
 use crate::missplit::{Limit, LIMITS};
 
@@ -61,7 +64,7 @@ pub enum Fault {
     LeftIgnored,
     /// An open plan has to be one that could be kept.
     OpenMustBePlan,
-    /// The count of changes isn't looked at.
+    /// The counts of changes aren't looked at.
     ChangesIgnored,
     /// The column of 6 and 7 isn't named.
     NoColumn,
@@ -212,4 +215,32 @@ pub fn missplits() -> Vec<(Fault, Check)> {
         faults.push((Fault::Missplit(limit), jobs::beside_lines));
     }
     faults
+}
+
+/// Each mistake about stations (E5), and the checks that have to see it: one by the
+/// words of E5 alone, and one beside the second implementation.
+pub fn misnamings() -> Vec<(Naming, [Check; 2])> {
+    let checks = NAMINGS.map(|naming| {
+        let checks: [Check; 2] = match naming {
+            Naming::LimitOfZero | Naming::LimitOfAny | Naming::LimitOfSum => {
+                [paper::stations::limits, stations::at_their_limits]
+            }
+            Naming::CountedForZero | Naming::ZeroTold | Naming::SumTold => {
+                [paper::stations::naming, stations::at_their_limits]
+            }
+            Naming::StationForgotten => [paper::stations::naming, refusals::one_after_another],
+            Naming::JobRefused | Naming::StationAsValue => {
+                [paper::stations::naming, stations::beside_lines]
+            }
+            Naming::NamedByShortBuffer => [paper::stations::naming, buffers::of_every_length],
+            Naming::StationUnseen
+            | Naming::OthersUnseen
+            | Naming::LastUnseen
+            | Naming::NamedByNoDesk
+            | Naming::CutByNoDesk => [paper::stations::damage, stations::damaged],
+            _ => [paper::stations::naming, stations::of_every_number],
+        };
+        (naming, checks)
+    });
+    checks.into()
 }

@@ -2,9 +2,10 @@
 //! `bindings` are the C interface, `second` answers the same calls by the
 //! reference, `broken` answers them wrongly with one of `faults`, of which those
 //! of digits are in `misread`, those of listings in `mislisted` and those of splits
-//! in `missplit`, `random` makes desks, and `checks` compares any offer of the calls
-//! with the second implementation. `tests/` runs the checks on the proved desk, and
-//! shows that they tell every broken offer from a sound one.
+//! in `missplit`, `misnamed` does so with stations, `random` makes desks, and `checks`
+//! compares any offer of the calls with the second implementation. `tests/` runs the
+//! checks on the proved desk, and shows that they tell every broken offer from a sound
+//! one.
 
 pub mod bindings;
 pub mod broken;
@@ -12,6 +13,7 @@ pub mod calls;
 pub mod checks;
 pub mod faults;
 pub mod mislisted;
+pub mod misnamed;
 pub mod misread;
 pub mod missplit;
 pub mod random;

@@ -91,7 +91,7 @@ impl Limit {
                 answer = Done::refused(1, 0);
             }
             Limit::OpenLeft if refused => *desk = before,
-            Limit::Counted if refused => desk.changes += 1,
+            Limit::Counted if refused => *desk.count() += 1,
             _ => {}
         }
         answer

@@ -7,10 +7,10 @@ use std::cell::RefCell;
 use std::collections::BTreeMap;
 
 use library::packed;
-use reference::{OpenPlan, Record, Refusal, Side, COUNT_LIMIT, LINE_BYTES};
+use reference::{OpenPlan, Record, Refusal, Side, Stations, COUNT_LIMIT, LINE_BYTES};
 
 use crate::calls::Calls;
-use crate::values::{Desk, Done, Job, Written, OPEN, SLOTS};
+use crate::values::{Control, Desk, Done, Job, Written, OPEN, SLOTS, STATIONS};
 
 /// "The lent buffer is shorter than the output."
 const SHORT_BUFFER: u8 = 14;
@@ -94,10 +94,7 @@ impl Second {
         if last.as_ref().is_some_and(|(value, _)| value == desk) {
             return last.take().map(|(_, held)| held);
         }
-        if u64::from(desk.changes) > COUNT_LIMIT {
-            return None;
-        }
-        let open = open_plan(desk)?;
+        let (stations, open) = (stations(desk)?, open_plan(desk)?);
         let mut slots = BTreeMap::new();
         for slot in (0..SLOTS).filter(|slot| !desk.is_empty(*slot)) {
             let value = desk.value(slot);
@@ -108,8 +105,7 @@ impl Second {
             };
             slots.insert(letter(slot), plan?);
         }
-        let count = desk.changes.into();
-        Some(reference::Desk::with_contents(slots, open, count))
+        Some(reference::Desk::with_contents(slots, open, stations))
     }
 
     /// The value of a desk, which is remembered.
@@ -118,6 +114,16 @@ impl Second {
         *self.last.borrow_mut() = Some((desk, held));
         desk
     }
+}
+
+/// The stations of a value; none if the named one is no station, or any of them has
+/// more changes than it may.
+fn stations(desk: &Desk) -> Option<Stations> {
+    let Control { station, changes } = desk.control;
+    let counts = changes.map(u64::from);
+    let within = counts.iter().all(|count| *count <= COUNT_LIMIT);
+    let sound = within && usize::from(station) < STATIONS;
+    sound.then(|| Stations::new(station, counts))
 }
 
 /// The open plan of a value, or none; nothing at all if the value is no desk
@@ -135,7 +141,11 @@ fn open_plan(desk: &Desk) -> Option<Option<OpenPlan>> {
 
 fn pack(held: &reference::Desk) -> Desk {
     let mut desk = Desk::FRESH;
-    desk.changes = held.count().try_into().expect("the count has a limit");
+    let (named, counts) = (held.stations().named(), held.stations().counts());
+    desk.control = Control {
+        station: named,
+        changes: counts.map(|count| count.try_into().expect("a count has a limit")),
+    };
     for slot in 0..SLOTS {
         if let Some(plan) = held.plan(letter(slot)) {
             desk.put(slot, &packed::plan_value(plan));
@@ -191,6 +201,7 @@ fn record(most_splits: u8, job: Job) -> Option<Record<'static>> {
             seed: job.seed,
         },
         b'T' => Record::Count,
+        b'Z' => Record::Station { station: a },
         _ => return None,
     };
     Some(record)
@@ -225,16 +236,19 @@ mod tests {
         assert_eq!(desk, Desk::FRESH);
         let mut out = [0; 100];
         for line in [
+            "Z\t6",
             "P\tC\t2\t1",
             "M\t12\t11",
             "M\t11\t12",
             "E",
+            "Z\t5",
             "P\tA\t3\t2",
             "M\t13\t2",
         ] {
             assert_eq!(second.line(&mut desk, line.as_bytes(), &mut out).number, 0);
         }
-        assert_eq!((desk.opened, desk.changes), (b'A', 1));
+        assert_eq!((desk.opened, desk.control.station), (b'A', 5));
+        assert_eq!(desk.control.changes, [0, 0, 0, 0, 0, 0, 1, 0]);
         assert_eq!(desk.columns[512..514], [0x11, 0x12]);
         assert_eq!(desk.columns[640..642], [0x12, 0x11]);
         assert_eq!((desk.columns[2048], desk.columns[2176]), (0x13, 0x2));

@@ -12,6 +12,9 @@ pub const SLOTS: usize = 8;
 pub const OPEN: usize = SLOTS;
 pub const BLOCKS: usize = SLOTS + 1;
 
+/// The stations, each with a count.
+pub const STATIONS: usize = 8;
+
 /// Two columns of words for each block.
 pub const WORDS: usize = BLOCKS * 2 * PLACES;
 
@@ -24,6 +27,14 @@ pub struct Block {
     pub pairs: usize,
 }
 
+/// The named station, and the changes of each.
+#[repr(C)]
+#[derive(Clone, Copy, Debug, Default, PartialEq, Eq)]
+pub struct Control {
+    pub station: u8,
+    pub changes: [u32; STATIONS],
+}
+
 /// What is handed to the calls as a desk. Any bytes may stand in it; which
 /// values are desks is for the calls to say.
 #[repr(C)]
@@ -31,12 +42,12 @@ pub struct Block {
 pub struct Desk {
     pub blocks: [Block; BLOCKS],
     pub opened: u8,
-    pub changes: u32,
+    pub control: Control,
     pub columns: [u64; WORDS],
 }
 
 impl Desk {
-    /// "A fresh desk has empty slots and count 0."
+    /// "A fresh desk has empty slots and count 0", and station 0 is named.
     pub const FRESH: Desk = Desk {
         blocks: [Block {
             arity: 0,
@@ -44,7 +55,10 @@ impl Desk {
             pairs: 0,
         }; BLOCKS],
         opened: 0,
-        changes: 0,
+        control: Control {
+            station: 0,
+            changes: [0; STATIONS],
+        },
         columns: [0; WORDS],
     };
 
@@ -96,6 +110,11 @@ impl Desk {
         desk
     }
 
+    /// The count of the named station, where it is one.
+    pub fn count(&mut self) -> &mut u32 {
+        &mut self.control.changes[usize::from(self.control.station)]
+    }
+
     /// Whether a block is all zeros.
     pub fn is_empty(&self, block: usize) -> bool {
         self.value(block) == Plan::ZERO
@@ -105,7 +124,8 @@ impl Desk {
 /// The head, and the blocks that aren't all zeros.
 impl fmt::Debug for Desk {
     fn fmt(&self, f: &mut fmt::Formatter) -> fmt::Result {
-        write!(f, "open {}, {} changes", self.opened, self.changes)?;
+        let Control { station, changes } = self.control;
+        write!(f, "open {}, station {station} of {changes:?}", self.opened)?;
         for block in (0..BLOCKS).filter(|block| !self.is_empty(*block)) {
             write!(f, "\n  block {block}: {:?}", self.value(block))?;
         }
@@ -184,7 +204,7 @@ impl Done {
 
 #[cfg(test)]
 mod tests {
-    use super::Job;
+    use super::{Control, Desk, Job};
     use std::mem::{offset_of, size_of};
 
     /// The members of a job stand where include/desk.h has them.
@@ -201,5 +221,20 @@ mod tests {
         ];
         assert_eq!(offsets, [0, 1, 2, 3, 4, 8, 16]);
         assert_eq!(size_of::<Job>(), 24);
+    }
+
+    /// The members of a desk stand where include/desk.h has them.
+    #[test]
+    fn the_layout_of_a_desk() {
+        let offsets = [
+            offset_of!(Desk, blocks),
+            offset_of!(Desk, opened),
+            offset_of!(Desk, control),
+            offset_of!(Desk, columns),
+        ];
+        assert_eq!(offsets, [0, 144, 148, 184]);
+        assert_eq!(size_of::<Desk>(), 18_616);
+        assert_eq!(offset_of!(Control, changes), 4);
+        assert_eq!(size_of::<Control>(), 36);
     }
 }

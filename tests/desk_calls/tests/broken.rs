@@ -5,7 +5,8 @@ use std::panic::{catch_unwind, AssertUnwindSafe};
 
 use desk_calls::broken::Broken;
 use desk_calls::checks::ALL;
-use desk_calls::faults::{mislistings, misreadings, missplits, FAULTS};
+use desk_calls::faults::{mislistings, misnamings, misreadings, missplits, FAULTS};
+use desk_calls::misnamed::Misnamed;
 use desk_calls::{Calls, Second};
 
 /// What the check says where it fails.
@@ -18,9 +19,19 @@ fn failure(check: fn(&dyn Calls), calls: &dyn Calls) -> Option<String> {
 #[test]
 fn sound_copies_pass() {
     for (name, check) in ALL {
-        let said = failure(check, &Second::default());
-        assert_eq!(said, None, "{name}");
+        let sound: [&dyn Calls; 2] = [&Second::default(), &Misnamed::new(None)];
+        for copy in sound {
+            assert_eq!(failure(check, copy), None, "{name}");
+        }
     }
+}
+
+/// The check has to fail for a difference.
+fn assert_caught(name: &str, check: fn(&dyn Calls), broken: &dyn Calls) {
+    let said = failure(check, broken);
+    let said = said.unwrap_or_else(|| panic!("{name} isn't caught"));
+    // that some kind of answer was rare is no difference yet
+    assert!(!said.contains("came up"), "{name}: {said}");
 }
 
 #[test]
@@ -30,9 +41,16 @@ fn broken_copies_are_caught() {
         .chain(mislistings())
         .chain(missplits());
     for (fault, check) in FAULTS.into_iter().chain(others) {
-        let said = failure(check, &Broken::new(fault));
-        let said = said.unwrap_or_else(|| panic!("{fault:?} isn't caught"));
-        // that some kind of answer was rare is no difference yet
-        assert!(!said.contains("came up"), "{fault:?}: {said}");
+        assert_caught(&format!("{fault:?}"), check, &Broken::new(fault));
+    }
+}
+
+#[test]
+fn mistakes_about_stations_are_caught() {
+    for (naming, checks) in misnamings() {
+        for check in checks {
+            let misnamed = Misnamed::new(Some(naming));
+            assert_caught(&format!("{naming:?}"), check, &misnamed);
+        }
     }
 }

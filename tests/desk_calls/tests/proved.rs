@@ -1,7 +1,9 @@
 //! The proved desk on the session of document 01, and against the second
 //! implementation.
 
-use desk_calls::checks::{buffers, bytes, damage, jobs, lines, paper, refusals, sessions, tables};
+use desk_calls::checks::{
+    buffers, bytes, damage, jobs, lines, paper, refusals, sessions, stations, tables,
+};
 use desk_calls::Library;
 
 #[test]
@@ -37,6 +39,21 @@ fn exercises_that_are_refused() {
 #[test]
 fn every_number_of_splits() {
     paper::splits(&Library);
+}
+
+#[test]
+fn stations_named_as_in_the_paper() {
+    paper::stations::naming(&Library);
+}
+
+#[test]
+fn limits_of_stations_in_the_paper() {
+    paper::stations::limits(&Library);
+}
+
+#[test]
+fn stations_that_are_none() {
+    paper::stations::damage(&Library);
 }
 
 #[test]
@@ -117,6 +134,26 @@ fn jobs_of_every_number_of_splits() {
 #[test]
 fn exercises_in_lines_and_in_jobs() {
     jobs::beside_lines(&Library);
+}
+
+#[test]
+fn stations_of_every_number() {
+    stations::of_every_number(&Library);
+}
+
+#[test]
+fn stations_in_lines_and_in_jobs() {
+    stations::beside_lines(&Library);
+}
+
+#[test]
+fn stations_at_their_limits() {
+    stations::at_their_limits(&Library);
+}
+
+#[test]
+fn stations_with_every_damage() {
+    stations::damaged(&Library);
 }
 
 #[test]

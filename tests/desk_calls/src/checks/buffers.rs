@@ -10,7 +10,7 @@ use crate::second::Second;
 use crate::values::Desk;
 
 /// Records on the prepared desk.
-const LINES: [&[u8]; 19] = [
+const LINES: [&[u8]; 21] = [
     b"F\tA\tB\tC",
     b"I\tE\tF",
     b"K\tA\t14\tA",
@@ -30,6 +30,8 @@ const LINES: [&[u8]; 19] = [
     b"X",
     b"X\tA\t2\t1\t3\t7",
     b"X\tF\t9\t8\t15\t1",
+    b"Z\t7",
+    b"Z\t8",
 ];
 
 pub fn of_every_length(calls: &dyn Calls) {
@@ -51,6 +53,7 @@ pub fn of_every_length(calls: &dyn Calls) {
             // what a short buffer kept from being done can be done yet
             both.line(line);
             both.line(b"U");
+            both.line(b"T");
         }
     }
     both.tally.demand(10, &["0", "1", "2", "14", "a block"]);

@@ -12,7 +12,7 @@ use crate::random::Rng;
 use crate::values::{Desk, BLOCKS, WORDS};
 
 /// Lines that would be done, refused, or be no record at all.
-const LINES: [&[u8]; 12] = [
+const LINES: [&[u8]; 14] = [
     b"T",
     b"U",
     b"",
@@ -24,6 +24,8 @@ const LINES: [&[u8]; 12] = [
     b"P\tA\t2\t1",
     b"K\tA\t0\tB",
     b"X\tA\t2\t1\t3\t7",
+    b"Z\t1",
+    b"Z\t8",
     &[b'1'; 1101],
 ];
 

@@ -45,6 +45,7 @@ pub fn in_chains(calls: &dyn Calls) {
         .demand(10, &["0", "2", "3", "8", "9", "10", "11", "12", "16", "17"]);
     both.tally
         .demand(10, &["X 0", "X 1", "X 3", "X 5", "X 16", "X 17"]);
+    both.tally.demand(10, &["Z 0", "Z 2", "Z 18"]);
     both.tally.demand(2, &["7F"]);
 }
 
@@ -118,7 +119,7 @@ fn exercise(a: u8, [n, r, splits]: [u8; 3], seed: u64) -> Job {
 pub fn of_every_exercise(calls: &dyn Calls) {
     let mut both = SideBySide::new(calls, &Desk::FRESH);
     let mut full = prepared();
-    full.changes = 4_000_000_000;
+    *full.count() = 4_000_000_000;
     for desk in [prepared(), full] {
         for number in 0..=255 {
             for job in [
@@ -188,11 +189,11 @@ pub fn of_every_splits(calls: &dyn Calls) {
 
 /// The letters that have no splits, so that any number does.
 fn splits_of_others(both: &mut SideBySide, desk: &Desk, splits: u8) {
-    for letter in *b"PEFIKSCT" {
+    for letter in *b"PEFIKSCTZ" {
         let [b, c] = if letter == b'P' { [2, 1] } else { *b"BG" };
         let job = Job {
             letter,
-            a: b'A',
+            a: if letter == b'Z' { 3 } else { b'A' },
             b,
             c,
             k: 2,
@@ -209,7 +210,7 @@ fn splits_of_others(both: &mut SideBySide, desk: &Desk, splits: u8) {
 fn sound_desks() -> [Desk; 4] {
     let desk = prepared();
     let mut full = desk;
-    full.changes = 4_000_000_000;
+    *full.count() = 4_000_000_000;
     let [open, full_and_open] = [desk, full].map(|desk| with_psi_open(&desk, b'F'));
     [desk, full, open, full_and_open]
 }

@@ -8,7 +8,7 @@ use crate::random::Rng;
 use crate::values::Desk;
 
 /// Records that are done on the prepared desk, and then one for an open plan.
-const RECORDS: [&[u8]; 16] = [
+const RECORDS: [&[u8]; 17] = [
     b"P\tF\t2\t1",
     b"F\tA\tB\tF",
     b"I\tA\tF",
@@ -23,6 +23,7 @@ const RECORDS: [&[u8]; 16] = [
     b"U",
     b"X\tF\t2\t1\t3\t7",
     b"X\tA\t3\t2\t10\t2147483646",
+    b"Z\t5",
     b"M\t1211\t2",
     b"E",
 ];
@@ -108,12 +109,13 @@ fn filled(start: &[u8], byte: u8, length: usize) -> Vec<u8> {
     line
 }
 
-/// Each byte in each place of a slot, on a desk with all slots and none open.
+/// Each byte in each place of a slot and in that of a station, on a desk with all
+/// slots and none open.
 pub fn for_every_slot(calls: &dyn Calls) {
     let mut both = SideBySide::new(calls, &Desk::FRESH);
     let desk = prepared();
     for byte in 0..=255 {
-        let lines: [&[u8]; 14] = [
+        let lines: [&[u8]; 15] = [
             &[b'C', 9, byte],
             &[b'L', 9, byte],
             &[b'I', 9, byte, 9, b'F'],
@@ -128,6 +130,7 @@ pub fn for_every_slot(calls: &dyn Calls) {
             &[b'W', 9, byte, 9, b'1', b'2', b'1', b'1'],
             &[b'W', 9, byte, 9, b'1'],
             &[b'X', 9, byte, 9, b'2', 9, b'1', 9, b'3', 9, b'7'],
+            &[b'Z', 9, byte],
         ];
         for line in lines {
             both.start(&desk);
@@ -138,5 +141,6 @@ pub fn for_every_slot(calls: &dyn Calls) {
         both.line(b"M\t1\t1");
         both.line(b"E");
     }
-    both.tally.demand(2, &["0", "8", "9", "10", "1", "2"]);
+    both.tally.demand(2, &["0", "8", "9", "10", "1", "2", "18"]);
+    both.tally.demand(8, &["Z 0"]);
 }

@@ -11,6 +11,7 @@ pub mod paper;
 pub mod refusals;
 pub mod sessions;
 pub mod side_by_side;
+pub mod stations;
 pub mod tables;
 
 use crate::calls::Calls;
@@ -19,7 +20,7 @@ use crate::calls::Calls;
 pub type Check = (&'static str, fn(&dyn Calls));
 
 /// Every check, those that take long behind the others.
-pub const ALL: [Check; 30] = [
+pub const ALL: [Check; 37] = [
     ("paper::session", paper::session),
     ("paper::session_in_jobs", paper::session_in_jobs),
     ("paper::block_without_room", paper::block_without_room),
@@ -27,6 +28,9 @@ pub const ALL: [Check; 30] = [
     ("paper::exercises", paper::exercises),
     ("paper::exercises_refused", paper::exercises_refused),
     ("paper::splits", paper::splits),
+    ("paper::stations::naming", paper::stations::naming),
+    ("paper::stations::limits", paper::stations::limits),
+    ("paper::stations::damage", paper::stations::damage),
     ("paper::refusals_of_calls", paper::refusals_of_calls),
     ("lines::of_any_bytes", lines::of_any_bytes),
     ("lines::at_the_limit", lines::at_the_limit),
@@ -38,6 +42,10 @@ pub const ALL: [Check; 30] = [
     ("jobs::of_every_exercise", jobs::of_every_exercise),
     ("jobs::of_every_splits", jobs::of_every_splits),
     ("jobs::beside_lines", jobs::beside_lines),
+    ("stations::of_every_number", stations::of_every_number),
+    ("stations::beside_lines", stations::beside_lines),
+    ("stations::at_their_limits", stations::at_their_limits),
+    ("stations::damaged", stations::damaged),
     ("buffers::of_every_length", buffers::of_every_length),
     ("buffers::of_every_line", buffers::of_every_line),
     ("refusals::one_after_another", refusals::one_after_another),

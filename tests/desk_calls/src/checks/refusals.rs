@@ -1,5 +1,5 @@
 //! Each refusal, and then what the desk does after it: an open plan is gone, and
-//! the slots and the count are as they were.
+//! the slots, the station and the counts are as they were.
 
 use reference::COUNT_LIMIT;
 
@@ -9,7 +9,7 @@ use crate::random::desks::{prepared, with_psi_open};
 use crate::values::{Desk, Job};
 
 /// Refused on the prepared desk, or with a plan open there.
-const LINES: [&[u8]; 41] = [
+const LINES: [&[u8]; 46] = [
     b"",
     b"Y",
     b"X",
@@ -51,11 +51,16 @@ const LINES: [&[u8]; 41] = [
     b"X\tA\t2\t1\t99\t5",
     b"X\tA\t2\t1\t99\t19",
     b"X\tA\t2\t1\t3\t07",
+    b"Z",
+    b"Z\t1",
+    b"Z\t8",
+    b"Z\t9",
+    b"Z\t10",
 ];
 
 pub fn one_after_another(calls: &dyn Calls) {
     let mut full = prepared();
-    full.changes = COUNT_LIMIT as u32;
+    *full.count() = COUNT_LIMIT as u32;
     let desks = [prepared(), full, with_pairs(128), with_pairs(0)]
         .into_iter()
         .flat_map(|desk| [desk, with_psi_open(&desk, b'B')]);
@@ -80,7 +85,7 @@ pub fn one_after_another(calls: &dyn Calls) {
         1,
         &[
             "0", "1", "2", "3", "4", "5", "6F", "7F", "8", "9", "10", "11", "12", "16", "17",
-            "X 1", "X 2", "X 3", "X 4", "X 5", "X 8", "X 16", "X 17",
+            "X 1", "X 2", "X 3", "X 4", "X 5", "X 8", "X 16", "X 17", "18", "Z 1", "Z 2", "Z 18",
         ],
     );
 }

@@ -1,5 +1,5 @@
 //! Random sessions, line by line: real plans and records that must be refused.
-//! Some start near the limit of the count, some lines meet a buffer that is too
+//! Some start with stations near their limit, some lines meet a buffer that is too
 //! short first, and in some sessions jobs come between the lines.
 
 use library::checks::tally::Tally;
@@ -14,14 +14,14 @@ use crate::random::Rng;
 use crate::values::Desk;
 
 /// Every answer that a sound desk can get, and blocks of W.
-const ANSWERS: [&str; 19] = [
+const ANSWERS: [&str; 20] = [
     "0", "1", "2", "3", "4", "5", "6F", "6T", "7F", "7T", "8", "9", "10", "11", "12", "14", "16",
-    "17", "a block",
+    "17", "18", "a block",
 ];
 
-/// The answers to X alone.
-const EXERCISES: [&str; 9] = [
-    "X 0", "X 1", "X 2", "X 3", "X 4", "X 5", "X 8", "X 16", "X 17",
+/// The answers to X alone, and those to Z.
+const OWN: [&str; 13] = [
+    "X 0", "X 1", "X 2", "X 3", "X 4", "X 5", "X 8", "X 16", "X 17", "Z 0", "Z 1", "Z 2", "Z 18",
 ];
 
 pub fn of_lines(calls: &dyn Calls) {
@@ -30,7 +30,7 @@ pub fn of_lines(calls: &dyn Calls) {
         run(calls, seed, 0, &mut tally);
     }
     tally.demand(10, &ANSWERS);
-    tally.demand(5, &EXERCISES);
+    tally.demand(5, &OWN);
     tally.demand(10, SURVEYS);
 }
 
@@ -40,7 +40,7 @@ pub fn with_jobs(calls: &dyn Calls) {
         run(calls, seed, 25, &mut tally);
     }
     tally.demand(10, &ANSWERS);
-    tally.demand(5, &EXERCISES);
+    tally.demand(5, &OWN);
     tally.demand(10, SURVEYS);
 }
 
@@ -90,7 +90,11 @@ fn run(calls: &dyn Calls, seed: u64, jobs: usize, tally: &mut Tally) {
     let mut rng = Rng::new(1000 + seed);
     let mut desk = Desk::FRESH;
     if seed % 3 == 0 {
-        desk.changes = COUNT_LIMIT as u32 - rng.below(12) as u32;
+        for count in &mut desk.control.changes {
+            if rng.chance(70) {
+                *count = COUNT_LIMIT as u32 - rng.below(12) as u32;
+            }
+        }
     }
     let mut both = SideBySide::new(calls, &desk);
     std::mem::swap(tally, &mut both.tally);

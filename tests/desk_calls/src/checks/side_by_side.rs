@@ -110,7 +110,7 @@ impl<'a> SideBySide<'a> {
         );
         self.reply = room[GUARD..GUARD + answer.length].to_vec();
         self.count_lines(line);
-        self.count_exercise(line.starts_with(b"X\t"), answer.number);
+        self.count_own(line, answer.number);
         self.count(answer.number, answer.column);
         answer
     }
@@ -127,14 +127,17 @@ impl<'a> SideBySide<'a> {
             self.desk,
             self.expected
         );
-        self.count_exercise(job.letter == b'X', answer.number);
+        self.count_own(&[job.letter], answer.number);
         self.count(answer.number, answer.column);
         answer
     }
 
-    /// Counts an answer to X by itself: most of its numbers others have too.
-    fn count_exercise(&mut self, is: bool, number: u8) {
-        self.tally.count_if(is, &format!("X {number}"));
+    /// Counts an answer to X or Z by itself: most of its numbers others have too.
+    fn count_own(&mut self, record: &[u8], number: u8) {
+        if let [letter @ (b'X' | b'Z')] | [letter @ (b'X' | b'Z'), b'\t', ..] = record {
+            let letter = char::from(*letter);
+            self.tally.count(format!("{letter} {number}"));
+        }
     }
 
     /// Counts what the lines of a reply show: a block of W, slots of U that don't
@@ -182,7 +185,8 @@ fn placed(desk: &Desk, padding: u8) -> Box<Desk> {
             block.pairs = value.pairs;
         }
         placed.opened = desk.opened;
-        placed.changes = desk.changes;
+        placed.control.station = desk.control.station;
+        placed.control.changes = desk.control.changes;
         placed.columns = desk.columns;
         Box::from_raw(Box::into_raw(place).cast())
     }

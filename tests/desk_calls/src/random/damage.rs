@@ -8,7 +8,7 @@ use library::{Plan, PLACES};
 use reference::COUNT_LIMIT;
 
 use super::{desks, Rng};
-use crate::values::{Desk, OPEN, SLOTS};
+use crate::values::{Desk, OPEN, SLOTS, STATIONS};
 
 /// A damage and its name.
 pub type Named = (&'static str, fn(&mut Rng, &mut Desk));
@@ -167,13 +167,23 @@ pub const OF_OPEN: [Named; 11] = [
     }),
 ];
 
-pub const OF_COUNT: [Named; 1] = [("count above its limit", |rng, desk| {
-    let limit = COUNT_LIMIT as u32;
-    desk.changes = *rng.pick(&[limit + 1, limit + 2, u32::MAX - 1, u32::MAX]);
-})];
+/// What is done to the stations.
+pub const OF_STATIONS: [Named; 3] = [
+    ("no station", |rng, desk| {
+        let station = desk.control.station;
+        desk.control.station = *rng.pick(&[8, 9, station + 8, b'0' + station, 128, 255]);
+    }),
+    ("count above its limit", |rng, desk| {
+        *desk.count() = some_count_above(rng);
+    }),
+    ("another station's count above its limit", |rng, desk| {
+        let other = usize::from(desk.control.station) + rng.between(1, STATIONS - 1);
+        desk.control.changes[other % STATIONS] = some_count_above(rng);
+    }),
+];
 
 pub fn all() -> Vec<Named> {
-    [&OF_HELD[..], &OF_EMPTY, &OF_OPEN, &OF_COUNT].concat()
+    [&OF_HELD[..], &OF_EMPTY, &OF_OPEN, &OF_STATIONS].concat()
 }
 
 /// The desk with this damage, done where the desk has room for it.
@@ -190,6 +200,11 @@ pub fn damaged(rng: &mut Rng, desk: &Desk, damage: Named) -> Desk {
         }
     }
     panic!("there is no room for `{}` in {desk:?}", damage.0);
+}
+
+fn some_count_above(rng: &mut Rng) -> u32 {
+    let limit = COUNT_LIMIT as u32;
+    *rng.pick(&[limit + 1, limit + 2, u32::MAX - 1, u32::MAX])
 }
 
 fn held(rng: &mut Rng, desk: &Desk) -> usize {

@@ -1,6 +1,6 @@
 //! Sound desks: one with plans that bring up every refusal, and random ones with
-//! held and empty slots, at any count, with and without an open plan. The pairs
-//! of an open plan may be anything that M takes.
+//! held and empty slots, any station and any counts, with and without an open plan.
+//! The pairs of an open plan may be anything that M takes.
 
 use library::packed::{plan_value, value, Row};
 use library::random::bases::{most_splits, some_shape};
@@ -9,11 +9,11 @@ use reference::{Shape, COUNT_LIMIT};
 
 use super::Rng;
 use crate::second::letter;
-use crate::values::{Desk, OPEN, SLOTS};
+use crate::values::{Control, Desk, OPEN, SLOTS, STATIONS};
 
 /// ψ in A, φ in B, an exchange of two belts in C (shape 3, 2), the fourteenth
 /// power of ψ in D, which has words of 16 digits, and 128 pairs in E; the other
-/// slots are empty.
+/// slots are empty. Station 2 is named, and station 0 has all the changes there are.
 pub fn prepared() -> Desk {
     let shape = Shape { arity: 2, roots: 1 };
     let psi = typed(&[("111", "11"), ("112", "121"), ("12", "122")]);
@@ -27,7 +27,10 @@ pub fn prepared() -> Desk {
     desk.put(2, &value(belts, &typed(&[("1", "2"), ("2", "1")])));
     desk.put(3, &plan_value(&deep));
     desk.put(4, &plan_value(&plans::kept(shape, &wide)));
-    desk.changes = 5;
+    desk.control = Control {
+        station: 2,
+        changes: [COUNT_LIMIT as u32, 1, 5, 0, 7, 8, 9, COUNT_LIMIT as u32 - 1],
+    };
     desk
 }
 
@@ -53,7 +56,10 @@ pub fn some_desk(rng: &mut Rng) -> Desk {
     rng.shuffle(&mut slots);
     slots.truncate(rng.between(1, SLOTS - 1));
     let mut desk = Desk::FRESH;
-    desk.changes = some_count(rng);
+    desk.control = Control {
+        station: rng.below(STATIONS) as u8,
+        changes: [(); STATIONS].map(|()| some_count(rng)),
+    };
     // A plan that grows, whose pairs can be split, reordered and cut short.
     desk.put(slots[0], &value(shape, &families::shift(shape)));
     for slot in &slots[1..] {

@@ -47,9 +47,10 @@ pub const SEEDS: [u64; 16] = [
     u64::MAX / 2,
 ];
 
-/// A job of a letter that has jobs, its slots mostly slots.
+/// A job of a letter that has jobs, its slots mostly slots and its station mostly
+/// one or nearly.
 pub fn some_job(rng: &mut Rng) -> Job {
-    let letter = *rng.pick(b"PEEFFFIKKSSCTXX");
+    let letter = *rng.pick(b"PEEFFFIKKSSCTTXXZZ");
     let mut job = Job {
         letter,
         a: some_slot(rng),
@@ -62,6 +63,9 @@ pub fn some_job(rng: &mut Rng) -> Job {
     if matches!(letter, b'P' | b'X') && rng.chance(90) {
         job.b = rng.between(1, 10) as u8;
         job.c = rng.between(0, 10) as u8;
+    }
+    if letter == b'Z' && rng.chance(90) {
+        job.a = rng.between(0, 9) as u8;
     }
     job
 }

@@ -1,7 +1,10 @@
 //! The session of document 01 in full, with the replies that it and E1 give, in
 //! lines and as far as that goes in jobs; the slots of U in the order of E2; two
-//! plans of X (E3) that were worked by hand, in tests/cases/README.md; and what only
-//! calls refuse, in so many words. Nothing here asks the second implementation.
+//! plans of X (E3) that were worked by hand, in tests/cases/README.md; what only calls
+//! refuse, in so many words; and in `stations` those of E5. Nothing here asks the second
+//! implementation.
+
+pub mod stations;
 
 use crate::calls::Calls;
 use crate::values::{Desk, Done, Job, Written};
@@ -27,7 +30,7 @@ fn reply(calls: &dyn Calls, desk: &mut Desk, line: &str, reply: &str) {
 
 pub fn session(calls: &dyn Calls) {
     assert_eq!(calls.size(), std::mem::size_of::<Desk>());
-    assert_eq!(calls.size(), 18_584);
+    assert_eq!(calls.size(), 18_616);
     let mut desk = calls.fresh();
     assert_eq!(desk, Desk::FRESH);
     for line in PLAN {
@@ -38,7 +41,7 @@ pub fn session(calls: &dyn Calls) {
     assert_eq!(desk.columns[2048..2051], [0x111, 0x112, 0x12]);
     assert_eq!(desk.columns[2176..2179], [0x11, 0x121, 0x122]);
     reply(calls, &mut desk, "E", "ok\t3\n");
-    assert_eq!((desk.opened, desk.changes), (0, 1));
+    assert_eq!((desk.opened, *desk.count()), (0, 1));
     assert!(desk.is_empty(8));
     reply(calls, &mut desk, "W\tA\t1122", "ok\t1212\n");
     reply(calls, &mut desk, "K\tA\t2\tB", "ok\t4\n");
@@ -168,7 +171,7 @@ pub fn exercises(calls: &dyn Calls) {
     assert_eq!(desk.columns[128..131], [0x12, 0x11, 0]);
     assert_eq!(desk.columns[256..260], [0x111, 0x112, 0x12, 0]);
     assert_eq!(desk.columns[384..388], [0x121, 0x11, 0x122, 0]);
-    assert_eq!((desk.opened, desk.changes), (0, 2));
+    assert_eq!((desk.opened, *desk.count()), (0, 2));
     let mut again = calls.fresh();
     for (slot, numbers, pairs) in [(b'A', (2, 1, 2, 1), 2), (b'B', (2, 1, 3, 2_147_483_646), 3)] {
         let done = calls.job(&mut again, exercise_job(slot, numbers));
@@ -194,7 +197,7 @@ pub fn exercises(calls: &dyn Calls) {
         (b'A', (2, 1, 2, 1), 16),
     ] {
         let mut full = desk;
-        full.changes = 4_000_000_000;
+        *full.count() = 4_000_000_000;
         let before = full;
         let done = calls.job(&mut full, exercise_job(slot, numbers));
         assert_eq!(done, Done::refused(number, 0), "to {numbers:?}");
@@ -218,7 +221,7 @@ pub fn exercises_refused(calls: &dyn Calls) {
     let refused = calls.line(&mut open, b"X\tB\t2\t1\t2\t0", &mut []);
     assert_eq!((refused, open), (Written::refused(17, 0), Desk::FRESH));
     let mut no_desk = open;
-    no_desk.changes = 4_000_000_001;
+    *no_desk.count() = 4_000_000_001;
     let before = no_desk;
     let done = calls.job(&mut no_desk, exercise_job(b'@', (0, 0, 255, 0)));
     assert_eq!((done, no_desk), (Done::refused(15, 0), before));
@@ -230,11 +233,11 @@ pub fn exercises_refused(calls: &dyn Calls) {
 pub fn splits(calls: &dyn Calls) {
     let mut full = calls.fresh();
     reply(calls, &mut full, "X\tA\t2\t1\t2\t1", "ok\t2\n");
-    full.changes = 4_000_000_000;
+    *full.count() = 4_000_000_000;
     let mut open = full;
     reply(calls, &mut open, PLAN[0], "");
     let mut no_desk = open;
-    no_desk.changes += 1;
+    *no_desk.count() += 1;
     for splits in 0..=255 {
         let or_form = |number| if splits > 99 { 1 } else { number };
         for (slot, numbers, number) in [
@@ -276,7 +279,7 @@ fn splits_on_fresh(calls: &dyn Calls, splits: u8) {
         assert_eq!((kept, fresh), (Done::refused(1, 0), Desk::FRESH));
         assert_eq!((deep, desk), (Done::refused(1, 0), Desk::FRESH));
     } else {
-        assert_eq!((kept.number, fresh.changes), (0, 1), "{splits} splits");
+        assert_eq!((kept.number, *fresh.count()), (0, 1), "{splits} splits");
         assert!(matches!(deep.number, 0 | 4), "{splits} splits: {deep:?}");
     }
 }
@@ -306,7 +309,7 @@ pub fn refusals_of_calls(calls: &dyn Calls) {
     assert_eq!((desk, out), (Desk::FRESH, [b'.'; 4]));
 
     let mut no_desk = open;
-    no_desk.changes = 4_000_000_001;
+    *no_desk.count() = 4_000_000_001;
     assert!(calls.is_desk(&open) && !calls.is_desk(&no_desk));
     for line in ["E", "", "T", "M\t3\t1"] {
         let mut desk = no_desk;
@@ -322,8 +325,8 @@ pub fn refusals_of_calls(calls: &dyn Calls) {
     };
     assert_eq!(calls.job(&mut desk, job), Done::refused(15, 0));
     assert_eq!(desk, no_desk);
-    desk.changes -= 1;
+    *desk.count() -= 1;
     assert_eq!(calls.job(&mut desk, job), Done::refused(16, 0));
-    assert_eq!((desk.opened, desk.changes), (0, 4_000_000_000));
+    assert_eq!((desk.opened, *desk.count()), (0, 4_000_000_000));
     assert!(desk.is_empty(0) && desk.is_empty(8));
 }
