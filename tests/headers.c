@@ -173,10 +173,10 @@ static void check_exercises(void)
     check("desk_line makes a plan from a seed", written.number == 0 && holds_text(out, sizeof out, "ok\t2\n")
                                                     && holds_words(&d, 0, 2, from, to));
     check("desk_do makes a plan from a seed", done.number == 0 && done.value == 3 && holds_words(&d, 1, 3, from_b, to_b));
-    check("a plan from a seed is a change and opens none", d.changes == 2 && d.opened == 0);
+    check("a plan from a seed is a change and opens none", d.control.changes[0] == 2 && d.opened == 0);
     written = say(&d, "X\tA\t2\t1\t2\t01", out, sizeof out);
     check("desk_line refuses the form of a seed", written.number == REFUSED_FORM && holds_text(out, sizeof out, ""));
-    d.changes = DESK_MOST_CHANGES;
+    d.control.changes[0] = DESK_MOST_CHANGES;
     for (i = 0; i < sizeof refused / sizeof refused[0]; i++) {
         done = desk_do(&d, refused[i].job);
         snprintf(what, sizeof what, "desk_do refuses a plan from a seed with %d", refused[i].number);
@@ -192,7 +192,8 @@ static bool same_desks(const struct desk *a, const struct desk *b)
         if (one->arity != other->arity || one->roots != other->roots || one->pairs != other->pairs)
             return false;
     }
-    return a->opened == b->opened && a->changes == b->changes && !memcmp(a->columns, b->columns, sizeof a->columns);
+    return a->opened == b->opened && a->control.station == b->control.station
+        && !memcmp(a->control.changes, b->control.changes, sizeof a->control.changes) && !memcmp(a->columns, b->columns, sizeof a->columns);
 }
 
 /* Whether a copy of the first desk refuses the job with this number and is the second one then. */
@@ -214,13 +215,14 @@ static void check_splits(void)
 
     check("desk_do opens a plan that X drops", done.number == 0 && open.opened == 'A');
     no_desk = open;
-    no_desk.changes = DESK_MOST_CHANGES + 1;
+    no_desk.control.changes[0] = DESK_MOST_CHANGES + 1;
     for (splits = 0; splits <= UINT8_MAX; splits++) {
         struct desk_job job = {'X', 'B', 2, 1, 0, 87, (uint8_t)splits};
         if (splits <= 99) {
             struct desk d = fresh;
             done = desk_do(&d, job);
-            kept = kept && done.number == 0 && done.value == d.blocks[1].pairs && d.blocks[1].pairs > 0 && d.changes == 1;
+            kept = kept && done.number == 0 && done.value == d.blocks[1].pairs && d.blocks[1].pairs > 0
+                && d.control.changes[0] == 1;
             dropped = dropped && refuses(open, job, 2, &fresh);
         } else {
             refused = refused && refuses(fresh, job, REFUSED_FORM, &fresh);
@@ -232,6 +234,85 @@ static void check_splits(void)
     check("desk_do refuses 100 splits and more as no record", refused);
     check("desk_do with any splits drops an open plan, with 2 up to 99 and else with 1", dropped);
     check("desk_do with any splits leaves what is no desk", left);
+}
+
+/* Whether this station is named and the stations have these counts. */
+static bool has_counts(const struct desk *d, uint8_t station, const uint32_t *counts)
+{
+    return d->control.station == station && !memcmp(d->control.changes, counts, sizeof d->control.changes);
+}
+
+/* Stations and their counts by lines and by number, each station at its limit while the others work, and what is no desk. */
+static void check_stations(void)
+{
+    static const uint32_t counts[DESK_STATIONS] = {1, 0, 0, 2, 0, 0, 0, 1};
+    static const char *const session[][2] = {
+        {"X\tA\t2\t1\t2\t1", "ok\t2\n"},
+        {"Z\t3", "ok\n"},
+        {"T", "ok\t0\n"},
+        {"I\tA\tB", "ok\t2\n"},
+        {"I\tA\tC", "ok\t2\n"},
+        {"T", "ok\t2\n"},
+        {"Z\t7", "ok\n"},
+        {"C\tC", "ok\n"},
+        {"Z\t0", "ok\n"},
+        {"T", "ok\t1\n"},
+    };
+    uint8_t out[DESK_LONGEST_REPLY];
+    bool named = true, refused = true, dropped = true, limited = true, free_to_work = true, left = true, told = true;
+    struct desk d = desk_fresh(), open, other;
+    struct desk_job naming = {'Z', 0, 0, 0, 0, 0, 0}, telling = {'T', 0, 0, 0, 0, 0, 0}, inverse = {'I', 'A', 'H', 0, 0, 0, 0};
+    struct desk_written written;
+    struct desk_done done;
+    size_t i;
+    int station;
+
+    for (i = 0; i < sizeof session / sizeof session[0]; i++) {
+        written = say(&d, session[i][0], out, sizeof out);
+        told = told && written.number == 0 && holds_text(out, sizeof out, session[i][1]);
+    }
+    check("desk_line counts for the named station", told && has_counts(&d, 0, counts));
+    open = d;
+    written = say(&open, "P\tH\t2\t1", out, sizeof out);
+    check("desk_line opens a plan that Z drops", written.number == 0 && open.opened == 'H');
+    for (station = 0; station <= UINT8_MAX; station++) {
+        naming.a = (uint8_t)station;
+        dropped = dropped && refuses(open, naming, REFUSED_TURN, &d);
+        if (station >= DESK_STATIONS) {
+            refused = refused && refuses(d, naming, REFUSED_STATION, &d);
+            other = d;
+            other.control.station = (uint8_t)station;
+            left = left && !desk_is_desk(other) && refuses(other, telling, REFUSED_VALUE, &other);
+            continue;
+        }
+        other = d;
+        done = desk_do(&other, naming);
+        named = named && done.number == 0 && done.value == 0 && has_counts(&other, naming.a, counts);
+        done = desk_do(&other, telling);
+        named = named && done.number == 0 && done.value == counts[station];
+        other.control.changes[station] = DESK_MOST_CHANGES;
+        limited = limited && refuses(other, inverse, REFUSED_COUNT, &other);
+        other.control.station = (uint8_t)((station + 1) % DESK_STATIONS);
+        done = desk_do(&other, inverse);
+        free_to_work = free_to_work && done.number == 0 && done.value == 2
+            && other.control.changes[other.control.station] == counts[other.control.station] + 1;
+        other.control.changes[station]++;
+        left = left && !desk_is_desk(other) && refuses(other, telling, REFUSED_VALUE, &other);
+        other.control.station = (uint8_t)station;
+        left = left && !desk_is_desk(other) && refuses(other, telling, REFUSED_VALUE, &other);
+    }
+    check("desk_do names stations 0 to 7 and tells their counts", named);
+    check("desk_do refuses a station above 7", refused);
+    check("desk_do with any station drops an open plan", dropped);
+    check("a station at its limit is refused a change", limited);
+    check("a station at its limit leaves the next one free", free_to_work);
+    check("a station above 7 or a count above its limit, named or not, makes no desk", left);
+    written = say(&d, "Z\t8", out, sizeof out);
+    check("desk_line refuses a digit above 7", written.number == REFUSED_STATION && holds_text(out, sizeof out, ""));
+    written = say(&d, "Z\t10", out, sizeof out);
+    check("desk_line refuses two digits for a station", written.number == REFUSED_FORM && has_counts(&d, 0, counts));
+    written = say(&d, "Z\t1", out, 2);
+    check("desk_line names no station without room for its reply", written.number == REFUSED_BUFFER && has_counts(&d, 0, counts));
 }
 
 static void check_desk(void)
@@ -256,10 +337,11 @@ static void check_desk(void)
     struct desk_written written;
     struct desk_done done;
     struct plan p = psi();
+    static const uint32_t none[DESK_STATIONS] = {0};
     size_t i;
 
-    check("desk_size", desk_size() == sizeof(struct desk));
-    check("desk_fresh", d.opened == 0 && d.changes == 0 && d.blocks[0].pairs == 0 && desk_is_desk(d));
+    check("desk_size", desk_size() == sizeof(struct desk) && desk_size() == 18616);
+    check("desk_fresh", d.opened == 0 && d.blocks[0].pairs == 0 && has_counts(&d, 0, none) && desk_is_desk(d));
     for (i = 0; i < sizeof session / sizeof session[0]; i++) {
         written = say(&d, session[i][0], out, sizeof out);
         snprintf(what, sizeof what, "desk_line, record %d of the session", (int)i + 1);
@@ -273,7 +355,7 @@ static void check_desk(void)
     check("slot A holds what plans.h calls a plan", d.blocks[0].pairs == p.pairs && !memcmp(d.columns, p.from, sizeof p.from)
                                                         && !memcmp(d.columns + DESK_PLACES, p.to, sizeof p.to));
     done = desk_do(&d, job);
-    check("desk_do", done.number == 0 && done.value == 3 && d.blocks[7].pairs == 3 && d.changes == 3);
+    check("desk_do", done.number == 0 && done.value == 3 && d.blocks[7].pairs == 3 && d.control.changes[0] == 3);
     check_survey(&d);
     job.letter = 'L';
     done = desk_do(&d, job);
@@ -286,11 +368,11 @@ static void check_desk(void)
     job.letter = 'E';
     done = desk_do(&d, job);
     check("desk_do names the column", done.number == REFUSED_GAP && done.column == FROM_COLUMN && d.opened == 0);
-    d.changes = DESK_MOST_CHANGES;
+    d.control.changes[0] = DESK_MOST_CHANGES;
     check("desk_is_desk at the limit", desk_is_desk(d));
     written = say(&d, "C\tA", out, sizeof out);
     check("desk_line refuses a change at the limit", written.number == REFUSED_COUNT);
-    d.changes++;
+    d.control.changes[0]++;
     written = say(&d, "T", out, sizeof out);
     check("desk_line refuses what is no desk", written.number == REFUSED_VALUE && !desk_is_desk(d));
 }
@@ -298,11 +380,12 @@ static void check_desk(void)
 int main(void)
 {
     check("refusal_reason", !strcmp(refusal_reason(REFUSED_EMPTY), "the slot is empty")
-                                && !strcmp(refusal_reason(REFUSED_SEED), "the seed is out of range") && refusal_reason(99) != NULL);
-    check("refusal_reason beyond the last", !strcmp(refusal_reason(REFUSED_SEED + 1), refusal_reason(99)));
+                                && !strcmp(refusal_reason(REFUSED_STATION), "no such station") && refusal_reason(99) != NULL);
+    check("refusal_reason beyond the last", !strcmp(refusal_reason(REFUSED_STATION + 1), refusal_reason(99)));
     check_plans();
     check_desk();
     check_exercises();
     check_splits();
+    check_stations();
     return failures ? EXIT_FAILURE : EXIT_SUCCESS;
 }

@@ -18,7 +18,7 @@ const BEGINNING: usize = 150;
 
 /// The letters of the records, and D, which the libraries' harnesses take for
 /// damage.
-const LETTERS: &[u8] = b"PMEFIKSWLCTUXD";
+const LETTERS: &[u8] = b"PMEFIKSWLCTUXZD";
 
 /// Changes the input that stands at the front of the room, and gives its length.
 pub fn mutate(room: &mut [u8], length: usize, seed: u64) -> usize {
@@ -117,6 +117,7 @@ fn record(rng: &mut Rng) -> Vec<u8> {
             splits(rng),
             seed(rng),
         ],
+        b'Z' => vec![digits(rng, 1)],
         b'D' => {
             let place = vec![b'A' + rng.below(9) as u8];
             vec![place, (0..3).map(|_| rng.number() as u8).collect()]

@@ -28,7 +28,7 @@ fn tried(input: &[u8]) {
 /// Whether a line is handed over as a job: one in four of those that have one.
 /// Of the others few are, since a job that is refused drops the open plan.
 fn is_job(line: &[u8], chance: usize) -> bool {
-    let has_job = matches!(line, [letter, ..] if b"PEFIKSCTX".contains(letter));
+    let has_job = matches!(line, [letter, ..] if b"PEFIKSCTXZ".contains(letter));
     chance % if has_job { 4 } else { 256 } == 0
 }
 
@@ -50,15 +50,17 @@ fn room(rehearsal: &Second, both: &SideBySide, line: &[u8], chance: usize) -> us
 }
 
 /// The job that a line says, whatever it says: its letter, and the first byte of
-/// each field, of the numbers of P and X their value.
+/// each field, of the numbers of P, X and Z their value.
 fn job(line: &[u8]) -> Job {
     let fields: Vec<&[u8]> = line.split(|byte| *byte == b'\t').collect();
     let field = |place: usize| fields.get(place).copied().unwrap_or(b"");
     let [letter, a, b, c] = [0, 1, 2, 3].map(|place| field(place).first().copied().unwrap_or(0));
-    let (b, c, k) = match letter {
-        b'P' | b'X' => (b.wrapping_sub(b'0'), c.wrapping_sub(b'0'), 0),
-        b'K' => (c, 0, exponent(field(2))),
-        _ => (b, c, 0),
+    let digit = |byte: u8| byte.wrapping_sub(b'0');
+    let (a, b, c, k) = match letter {
+        b'P' | b'X' => (a, digit(b), digit(c), 0),
+        b'K' => (a, c, 0, exponent(field(2))),
+        b'Z' => (digit(a), b, c, 0),
+        _ => (a, b, c, 0),
     };
     let number = |field: &[u8]| -> u64 {
         let said = std::str::from_utf8(field).ok().and_then(|n| n.parse().ok());
@@ -95,15 +97,16 @@ fn damage(both: &mut SideBySide, letter: u8, edits: &[u8]) {
 fn change(desk: &mut Desk, block: usize, what: u8, place: usize, how: u8) {
     let digit = u64::from(how & 15) << (how >> 4 << 2);
     let head = &mut desk.blocks[block];
-    match what % 9 {
+    match what % 10 {
         0 => head.arity = how,
         1 => head.roots = how,
         2 => head.pairs = usize::from(how),
         3 => head.pairs ^= 1 << (how % 64),
         4 => desk.opened = how,
-        5 => desk.changes = (COUNT_LIMIT + 2 - u64::from(how)) as u32,
+        5 => desk.control.changes[place % 8] = (COUNT_LIMIT + 2 - u64::from(how)) as u32,
         6 => desk.words(block)[place] ^= digit,
         7 => desk.words(block).swap(place, usize::from(how)),
+        8 => desk.control.station = how % 16,
         _ => *desk = desk.without_open(),
     }
 }
