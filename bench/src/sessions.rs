@@ -69,6 +69,10 @@ pub fn sessions() -> Vec<Session> {
         front(rng, &words)
     }));
     all.extend(exercises(rng, &typed.concat()));
+    all.push(session("T", 1_000_000, &mut |_| "T\n".to_string()));
+    all.push(session("Z", 1_000_000, &mut |_| {
+        format!("Z\t{}\n", letter(rng, b'0', 8))
+    }));
     all
 }
 
@@ -120,6 +124,7 @@ fn digits(word: &Word) -> String {
     word.iter().map(|digit| char::from(*digit)).collect()
 }
 
+/// One of so many letters or digits.
 fn letter(rng: &mut Rng, first: u8, count: usize) -> char {
     char::from(first + rng.below(count) as u8)
 }

@@ -1,11 +1,11 @@
 //! The desk on arrays held to the second implementation, on random sessions
 //! without the records that it doesn't know, whole and cut into pieces; and on
-//! the blocks and the plans of X that are measured.
+//! the blocks, the plans of X, the counts and the stations that are measured.
 
 use bench::arrays::desk::Desk;
 
 /// The letters of the records that aren't measured.
-const UNKNOWN: &[u8] = b"SLCTU";
+const UNKNOWN: &[u8] = b"SLCU";
 
 #[test]
 fn random_sessions() {
@@ -55,6 +55,21 @@ fn measured_exercises() {
         let refused = lines.filter(|line| line.starts_with(b"no\t")).count();
         assert_eq!(refused, session.refused, "{}", session.name);
         assert_eq!(refused > 0, session.name.contains("99"));
+    }
+}
+
+#[test]
+fn measured_counts_and_stations() {
+    let sessions = bench::sessions::sessions();
+    for (name, last) in [("T", &b"ok\t8\n"[..]), ("Z", b"ok\n")] {
+        let mut measured = sessions.iter().filter(|session| session.name == name);
+        let input = measured.next().expect("it is measured").input.as_bytes();
+        let (mut expected, mut replies) = (Vec::new(), Vec::new());
+        reference::Desk::new().feed(input, &mut expected);
+        let mut desk = Desk::default();
+        desk.feed(input, &mut replies);
+        assert!(replies == expected, "{name}");
+        assert!(replies.ends_with(&last.repeat(1_000_000)), "{name}");
     }
 }
 

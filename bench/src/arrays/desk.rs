@@ -1,7 +1,6 @@
-//! A desk on arrays, for the records that are measured: P, M, E, F, I, K, W and X,
-//! from the bytes of a line to those of its reply. What stands in a slot is
-//! known to be a plan and isn't checked again. Changes aren't counted, and any
-//! other record is refused with 1.
+//! A desk on arrays, for the records that are measured: P, M, E, F, I, K, W, X, T and
+//! Z, from the bytes of a line to those of its reply. What stands in a slot is known
+//! to be a plan and isn't checked again. Any other record is refused with 1.
 
 use std::io::Write;
 
@@ -19,9 +18,15 @@ const OUT_OF_TURN: u8 = 2;
 const WRONG_SHAPE: u8 = 3;
 const TOO_MANY_PAIRS: u8 = 5;
 const EMPTY_SLOT: u8 = 9;
+const COUNT_AT_LIMIT: u8 = 16;
+const NO_STATION: u8 = 18;
 
 /// The most bytes of a line.
 const LINE_BYTES: usize = 1100;
+
+/// The stations, and the most changes of each.
+const STATIONS: usize = 8;
+const MOST_CHANGES: u32 = 4_000_000_000;
 
 /// The number of a refusal, with the letter of a column or 0.
 struct Refusal(u8, u8);
@@ -32,11 +37,14 @@ fn no<T>(number: u8) -> Result<T, Refusal> {
     Err(Refusal(number, 0))
 }
 
-/// Eight plans, the pairs of an open one and the beginning of a line.
+/// Eight plans, the pairs of an open one, the counts of the stations with the one that
+/// is named, and the beginning of a line.
 pub struct Desk {
     slots: [Plan; 8],
     draft: Plan,
     open: Option<usize>,
+    station: usize,
+    changes: [u32; STATIONS],
     begun: Vec<u8>,
 }
 
@@ -46,6 +54,8 @@ impl Default for Desk {
             slots: [Plan::ZERO; 8],
             draft: Plan::ZERO,
             open: None,
+            station: 0,
+            changes: [0; STATIONS],
             begun: Vec::new(),
         }
     }
@@ -98,6 +108,8 @@ impl Desk {
                 self.start(slot, n - b'0', r - b'0')
             }
             [b"E"] => self.close(out),
+            [b"T"] => self.tell(out),
+            [b"Z", &[digit @ b'0'..=b'9']] => self.name(digit - b'0', out),
             [b"F", &[a], &[b], &[c]] => self.follow([a, b, c], out),
             [b"I", &[a], &[c]] => self.invert([a, c], out),
             [b"K", &[a], k, &[c]] => self.raise([a, c], numeral(k)?, out),
@@ -107,6 +119,22 @@ impl Desk {
             }
             _ => no(NO_RECORD),
         }
+    }
+
+    fn tell(&self, out: &mut Vec<u8>) -> Done {
+        self.places([])?;
+        writeln!(out, "ok\t{}", self.changes[self.station]).expect("a vector takes all");
+        Ok(())
+    }
+
+    fn name(&mut self, station: u8, out: &mut Vec<u8>) -> Done {
+        self.places([])?;
+        if usize::from(station) >= STATIONS {
+            return no(NO_STATION);
+        }
+        self.station = station.into();
+        out.extend_from_slice(b"ok\n");
+        Ok(())
     }
 
     fn exercise(
@@ -241,6 +269,11 @@ impl Desk {
     }
 
     fn keep(&mut self, slot: usize, plan: Plan, out: &mut Vec<u8>) -> Done {
+        let count = &mut self.changes[self.station];
+        if *count >= MOST_CHANGES {
+            return no(COUNT_AT_LIMIT);
+        }
+        *count += 1;
         self.slots[slot] = plan;
         writeln!(out, "ok\t{}", plan.pairs).expect("a vector takes all");
         Ok(())
