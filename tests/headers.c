@@ -237,7 +237,7 @@ static void check_splits(void)
 }
 
 /* Whether this station is named and the stations have these counts. */
-static bool has_counts(const struct desk *d, uint8_t station, const uint32_t *counts)
+static bool has_counts(const struct desk *d, uint32_t station, const uint32_t *counts)
 {
     return d->control.station == station && !memcmp(d->control.changes, counts, sizeof d->control.changes);
 }
@@ -246,6 +246,7 @@ static bool has_counts(const struct desk *d, uint8_t station, const uint32_t *co
 static void check_stations(void)
 {
     static const uint32_t counts[DESK_STATIONS] = {1, 0, 0, 2, 0, 0, 0, 1};
+    static const uint32_t wide[] = {256, 259, 263, 264, 512, 65536, 65539, 16777216, 2147483648u, 2147483651u, UINT32_MAX};
     static const char *const session[][2] = {
         {"X\tA\t2\t1\t2\t1", "ok\t2\n"},
         {"Z\t3", "ok\n"},
@@ -259,7 +260,8 @@ static void check_stations(void)
         {"T", "ok\t1\n"},
     };
     uint8_t out[DESK_LONGEST_REPLY];
-    bool named = true, refused = true, dropped = true, limited = true, free_to_work = true, left = true, told = true;
+    bool named = true, refused = true, dropped = true, limited = true, free_to_work = true, left = true, left_wide = true,
+         told = true;
     struct desk d = desk_fresh(), open, other;
     struct desk_job naming = {'Z', 0, 0, 0, 0, 0, 0}, telling = {'T', 0, 0, 0, 0, 0, 0}, inverse = {'I', 'A', 'H', 0, 0, 0, 0};
     struct desk_written written;
@@ -281,7 +283,7 @@ static void check_stations(void)
         if (station >= DESK_STATIONS) {
             refused = refused && refuses(d, naming, REFUSED_STATION, &d);
             other = d;
-            other.control.station = (uint8_t)station;
+            other.control.station = (uint32_t)station;
             left = left && !desk_is_desk(other) && refuses(other, telling, REFUSED_VALUE, &other);
             continue;
         }
@@ -292,14 +294,20 @@ static void check_stations(void)
         named = named && done.number == 0 && done.value == counts[station];
         other.control.changes[station] = DESK_MOST_CHANGES;
         limited = limited && refuses(other, inverse, REFUSED_COUNT, &other);
-        other.control.station = (uint8_t)((station + 1) % DESK_STATIONS);
+        other.control.station = (uint32_t)((station + 1) % DESK_STATIONS);
         done = desk_do(&other, inverse);
         free_to_work = free_to_work && done.number == 0 && done.value == 2
             && other.control.changes[other.control.station] == counts[other.control.station] + 1;
         other.control.changes[station]++;
         left = left && !desk_is_desk(other) && refuses(other, telling, REFUSED_VALUE, &other);
-        other.control.station = (uint8_t)station;
+        other.control.station = (uint32_t)station;
         left = left && !desk_is_desk(other) && refuses(other, telling, REFUSED_VALUE, &other);
+    }
+    for (i = 0; i < sizeof wide / sizeof wide[0]; i++) {
+        other = d;
+        other.control.station = wide[i];
+        left_wide = left_wide && !desk_is_desk(other) && refuses(other, telling, REFUSED_VALUE, &other);
+        left_wide = left_wide && refuses(other, naming, REFUSED_VALUE, &other);
     }
     check("desk_do names stations 0 to 7 and tells their counts", named);
     check("desk_do refuses a station above 7", refused);
@@ -307,6 +315,7 @@ static void check_stations(void)
     check("a station at its limit is refused a change", limited);
     check("a station at its limit leaves the next one free", free_to_work);
     check("a station above 7 or a count above its limit, named or not, makes no desk", left);
+    check("a station of more than 8 bits makes no desk, whatever its lowest 8 are", left_wide);
     written = say(&d, "Z\t8", out, sizeof out);
     check("desk_line refuses a digit above 7", written.number == REFUSED_STATION && holds_text(out, sizeof out, ""));
     written = say(&d, "Z\t10", out, sizeof out);

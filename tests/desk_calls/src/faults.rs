@@ -234,6 +234,7 @@ pub fn misnamings() -> Vec<(Naming, [Check; 2])> {
             }
             Naming::NamedByShortBuffer => [paper::stations::naming, buffers::of_every_length],
             Naming::StationUnseen
+            | Naming::StationModulo256
             | Naming::OthersUnseen
             | Naming::LastUnseen
             | Naming::NamedByNoDesk

@@ -53,6 +53,8 @@ pub enum Naming {
     DoneWhileOpen,
     /// A station above 7 isn't looked at.
     StationUnseen,
+    /// The named station is read modulo 256.
+    StationModulo256,
     /// Counts of stations that aren't named aren't looked at.
     OthersUnseen,
     /// The count of station 7 isn't looked at.
@@ -63,7 +65,7 @@ pub enum Naming {
     CutByNoDesk,
 }
 
-pub const NAMINGS: [Naming; 24] = [
+pub const NAMINGS: [Naming; 25] = [
     Naming::LimitOfZero,
     Naming::LimitOfAny,
     Naming::LimitOfSum,
@@ -84,6 +86,7 @@ pub const NAMINGS: [Naming; 24] = [
     Naming::OpenLeft,
     Naming::DoneWhileOpen,
     Naming::StationUnseen,
+    Naming::StationModulo256,
     Naming::OthersUnseen,
     Naming::LastUnseen,
     Naming::NamedByNoDesk,
@@ -122,7 +125,7 @@ impl Misnamed {
     fn seen(&self, desk: &Desk) -> Desk {
         let mut seen = *desk;
         let Control { station, changes } = &mut seen.control;
-        let named = usize::from(*station);
+        let named = *station as usize;
         for (counted, count) in changes.iter_mut().enumerate() {
             let unseen = self.is(Naming::OthersUnseen) && counted != named
                 || self.is(Naming::LastUnseen) && counted == STATIONS - 1;
@@ -131,7 +134,10 @@ impl Misnamed {
             }
         }
         if self.is(Naming::StationUnseen) {
-            *station %= STATIONS as u8;
+            *station %= STATIONS as u32;
+        }
+        if self.is(Naming::StationModulo256) {
+            *station %= 256;
         }
         seen
     }
@@ -191,7 +197,7 @@ impl Misnamed {
         let Kind::Names(station) = kind else {
             return;
         };
-        let in_three_bits = station % STATIONS as u8;
+        let in_three_bits = u32::from(station) % STATIONS as u32;
         match (self.naming, number) {
             (Some(Naming::Counted), 0) => *desk.count() = LIMIT.min(*desk.count() + 1),
             (Some(Naming::CountsForgotten), 0) => desk.control.changes = [0; STATIONS],

@@ -122,8 +122,9 @@ fn stations(desk: &Desk) -> Option<Stations> {
     let Control { station, changes } = desk.control;
     let counts = changes.map(u64::from);
     let within = counts.iter().all(|count| *count <= COUNT_LIMIT);
-    let sound = within && usize::from(station) < STATIONS;
-    sound.then(|| Stations::new(station, counts))
+    let named = u8::try_from(station).ok()?;
+    let sound = within && usize::from(named) < STATIONS;
+    sound.then(|| Stations::new(named, counts))
 }
 
 /// The open plan of a value, or none; nothing at all if the value is no desk
@@ -143,7 +144,7 @@ fn pack(held: &reference::Desk) -> Desk {
     let mut desk = Desk::FRESH;
     let (named, counts) = (held.stations().named(), held.stations().counts());
     desk.control = Control {
-        station: named,
+        station: named.into(),
         changes: counts.map(|count| count.try_into().expect("a count has a limit")),
     };
     for slot in 0..SLOTS {

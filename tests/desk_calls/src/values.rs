@@ -31,7 +31,7 @@ pub struct Block {
 #[repr(C)]
 #[derive(Clone, Copy, Debug, Default, PartialEq, Eq)]
 pub struct Control {
-    pub station: u8,
+    pub station: u32,
     pub changes: [u32; STATIONS],
 }
 
@@ -112,7 +112,7 @@ impl Desk {
 
     /// The count of the named station, where it is one.
     pub fn count(&mut self) -> &mut u32 {
-        &mut self.control.changes[usize::from(self.control.station)]
+        &mut self.control.changes[self.control.station as usize]
     }
 
     /// Whether a block is all zeros.

@@ -6,6 +6,7 @@ use reference::COUNT_LIMIT;
 
 use super::side_by_side::SideBySide;
 use crate::calls::Calls;
+use crate::random::damage::far_stations;
 use crate::random::desks::{prepared, with_psi_open};
 use crate::random::jobs::{any_job, some_job};
 use crate::random::Rng;
@@ -30,7 +31,7 @@ fn naming(a: u8) -> Job {
 fn desks() -> impl Iterator<Item = Desk> {
     (0..STATIONS).flat_map(|station| {
         let mut desk = prepared();
-        desk.control.station = station as u8;
+        desk.control.station = station as u32;
         [desk, with_psi_open(&desk, b'G')]
     })
 }
@@ -133,7 +134,7 @@ fn at_limits() -> Vec<Desk> {
         for (apart, below) in apart.flat_map(|apart| [(apart, 1), (apart, 3_999_999_998)]) {
             for full_apart in [true, false] {
                 let mut desk = prepared();
-                desk.control.station = named as u8;
+                desk.control.station = named as u32;
                 for (station, count) in desk.control.changes.iter_mut().enumerate() {
                     let full = (apart == Some(station)) == full_apart;
                     *count = if full { LIMIT } else { LIMIT - below };
@@ -145,7 +146,7 @@ fn at_limits() -> Vec<Desk> {
     all
 }
 
-/// Every byte in the place of the named station, and every station's count at its
+/// Stations and far numbers in the place of the named one, and every station's count at its
 /// limit and above, whoever is named: a value is a desk or it gets 15 from every call
 /// and stays as it came.
 pub fn damaged(calls: &dyn Calls) {
@@ -166,7 +167,7 @@ pub fn damaged(calls: &dyn Calls) {
         }
     };
     for desk in [prepared(), with_psi_open(&prepared(), b'C'), Desk::FRESH] {
-        for station in 0..=255 {
+        for station in (0..8).chain(far_stations()) {
             let mut value = desk;
             value.control.station = station;
             ask(&value, station < 8);
@@ -174,7 +175,7 @@ pub fn damaged(calls: &dyn Calls) {
         for (named, counted) in (0..64).map(|both| (both / 8, both % 8)) {
             for count in [0, LIMIT - 1, LIMIT, LIMIT + 1, u32::MAX] {
                 let mut value = desk;
-                value.control.station = named as u8;
+                value.control.station = named as u32;
                 value.control.changes[counted] = count;
                 ask(&value, count <= LIMIT);
             }

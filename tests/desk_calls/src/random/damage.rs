@@ -170,14 +170,13 @@ pub const OF_OPEN: [Named; 11] = [
 /// What is done to the stations.
 pub const OF_STATIONS: [Named; 3] = [
     ("no station", |rng, desk| {
-        let station = desk.control.station;
-        desk.control.station = *rng.pick(&[8, 9, station + 8, b'0' + station, 128, 255]);
+        desk.control.station = some_far_station(rng, desk.control.station);
     }),
     ("count above its limit", |rng, desk| {
         *desk.count() = some_count_above(rng);
     }),
     ("another station's count above its limit", |rng, desk| {
-        let other = usize::from(desk.control.station) + rng.between(1, STATIONS - 1);
+        let other = desk.control.station as usize + rng.between(1, STATIONS - 1);
         desk.control.changes[other % STATIONS] = some_count_above(rng);
     }),
 ];
@@ -205,6 +204,32 @@ pub fn damaged(rng: &mut Rng, desk: &Desk, damage: Named) -> Desk {
 fn some_count_above(rng: &mut Rng) -> u32 {
     let limit = COUNT_LIMIT as u32;
     *rng.pick(&[limit + 1, limit + 2, u32::MAX - 1, u32::MAX])
+}
+
+/// Numbers that aren't stations: the first ones, a digit, and those that a narrower
+/// number would take for the named station.
+fn some_far_station(rng: &mut Rng, station: u32) -> u32 {
+    let far = [
+        8,
+        9,
+        station + 8,
+        station + u32::from(b'0'),
+        128,
+        255,
+        256,
+        station | 1 << 8,
+        station | 1 << 16,
+        station | 1 << 31,
+        u32::MAX,
+    ];
+    *rng.pick(&far)
+}
+
+/// Every number up to 511 that isn't a station, each station with one bit above those
+/// set, and the largest number.
+pub fn far_stations() -> impl Iterator<Item = u32> {
+    let with_a_bit = (9..32).flat_map(|bit| (0..STATIONS as u32).map(move |n| n | 1 << bit));
+    (STATIONS as u32..512).chain(with_a_bit).chain([u32::MAX])
 }
 
 fn held(rng: &mut Rng, desk: &Desk) -> usize {

@@ -57,7 +57,7 @@ pub fn some_desk(rng: &mut Rng) -> Desk {
     slots.truncate(rng.between(1, SLOTS - 1));
     let mut desk = Desk::FRESH;
     desk.control = Control {
-        station: rng.below(STATIONS) as u8,
+        station: rng.below(STATIONS) as u32,
         changes: [(); STATIONS].map(|()| some_count(rng)),
     };
     // A plan that grows, whose pairs can be split, reordered and cut short.

@@ -97,7 +97,7 @@ fn damage(both: &mut SideBySide, letter: u8, edits: &[u8]) {
 fn change(desk: &mut Desk, block: usize, what: u8, place: usize, how: u8) {
     let digit = u64::from(how & 15) << (how >> 4 << 2);
     let head = &mut desk.blocks[block];
-    match what % 10 {
+    match what % 11 {
         0 => head.arity = how,
         1 => head.roots = how,
         2 => head.pairs = usize::from(how),
@@ -106,7 +106,8 @@ fn change(desk: &mut Desk, block: usize, what: u8, place: usize, how: u8) {
         5 => desk.control.changes[place % 8] = (COUNT_LIMIT + 2 - u64::from(how)) as u32,
         6 => desk.words(block)[place] ^= digit,
         7 => desk.words(block).swap(place, usize::from(how)),
-        8 => desk.control.station = how % 16,
+        8 => desk.control.station = u32::from(how % 16),
+        9 => desk.control.station ^= 1 << (how % 32),
         _ => *desk = desk.without_open(),
     }
 }

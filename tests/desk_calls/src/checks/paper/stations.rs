@@ -3,6 +3,7 @@
 
 use super::{reply, PLAN};
 use crate::calls::Calls;
+use crate::random::damage::far_stations;
 use crate::values::{Control, Desk, Done, Job, Written};
 
 /// A line and a job that are to be answered alike.
@@ -101,7 +102,7 @@ fn named(calls: &dyn Calls, desk: &Desk, (line, job): Both) {
     reply(calls, &mut said, line, "ok\n");
     assert_eq!(calls.job(&mut done, job), Done::value(0), "to {job:?}");
     let mut after = *desk;
-    after.control.station = job.a;
+    after.control.station = job.a.into();
     assert_eq!((said, done), (after, after), "after {job:?}");
     let telling = Job {
         letter: b'T',
@@ -142,12 +143,12 @@ pub fn limits(calls: &dyn Calls) {
     }
 }
 
-/// 15 for a station above 7, and for a count above the limit, whoever is named: such a
+/// 15 for a station above 7, whatever it is modulo 256, and for a count above the limit, whoever is named: such a
 /// desk "is left as it came".
 pub fn damage(calls: &dyn Calls) {
     let desk = used(calls);
     let both = ("Z\t3", naming_job(3));
-    for station in 8..=255 {
+    for station in far_stations() {
         let mut value = desk;
         value.control.station = station;
         assert!(!calls.is_desk(&value), "station {station}");
@@ -155,7 +156,7 @@ pub fn damage(calls: &dyn Calls) {
     }
     for (named, counted) in (0..64).map(|both| (both / 8, both % 8)) {
         let mut value = desk;
-        value.control.station = named as u8;
+        value.control.station = named as u32;
         value.control.changes[counted] = 4_000_000_001;
         assert!(!calls.is_desk(&value), "{counted}, where {named} is named");
         refused(calls, &value, both, 15, &value);
