@@ -1,8 +1,8 @@
 -- From a line of bytes to a record (document 01, "Records", with "Field forms"). A line that is no record, by its letter, its number of
 -- fields or a field's form, has none: that is refusal 1. With it the text of each record, and what of its kind a record says: whether it
 -- needs an open plan, which stations it names, which slots and what for, and whether it is a change. To be believed: `Record`. The grammar
--- need not be: `GrammarExact`, `RecordForms` and `WellFormedExact` fix it; and `RepliesExact`, `SlotsUsed` and `first-condition` of Demand1
--- the kinds. Read Replies.antt next.
+-- need not be: `GrammarExact`, `RecordForms` and `WellFormedExact` fix it; and `RepliesExact`, `SlotsUsed`, `CountsOfStations` and
+-- `first-condition` of Demand1 the kinds. Read Replies.antt next.
 use Prim.Native.Nat.{ℕ, zero, suc}
 use mathlib.Core.Path.{_≡_, refl}
 use mathlib.Core.Bool.{Bool, true, false, _&&_, not}
