@@ -4,14 +4,14 @@ use Prim.Native.Nat.{ℕ, zero, suc, _+_, _*_, _≤_, _<_}
 use mathlib.Core.Path.{_≡_, refl, sym, _∙_, ap, ap₂, subst}
 use mathlib.Core.Bool.{Bool, true, false}
 use mathlib.Core.List.{List, [], _∷_, _++_, map, append-nil, append-assoc, List·Memᴰ, List·Memᴰ·head, List·Memᴰ·tail}
-use mathlib.Core.Option.{none, some}
+use mathlib.Core.Option.{Option, none, some}
 use native.Mathlib.Numerals.{add-one}
 use native.Mathlib.Omega.{arith}
-use lib.Dec.{eqb}
+use lib.Dec.{leb, eqb}
 use lib.ListN.{length, getD, take, drop, length-drop, length-map, List·getD-append}
 use lib.Seq.{take-all, take-suc, length-take-le}
 use Rattle.higman.specs.Words.{count}
-use Rattle.higman.specs.Limits.{maxPairs, slotCount}
+use Rattle.higman.specs.Limits.{Plan as PlanOf, maxPairs, slotCount}
 use Rattle.higman.specs.Text.{Bytes, decimal}
 use Rattle.higman.specs.Listing.{joinLines, slotByte}
 use Rattle.higman.proofs.Tests.{count-bounds}
@@ -19,6 +19,7 @@ use Rattle.columns.proofs.Rows.{rows-length}
 use Rattle.words.specs.Writing.{Wrote}
 use Rattle.words.proofs.Runs.{wrote-nothing, wrote-then}
 use Rattle.tables.proofs.Lookup.{mem-number}
+use Rattle.desk.specs.Desk.{rightOf, seenFrom, seen}
 use Rattle.desk.specs.Replies.{Held, heldFrom, lineFirst, comesBefore, arranged, surveyed, surveys}
 use Rattle.desk.specs.Bytes.{lineOf, okLine, heldFields, replyBytes}
 use Rattle.desk.proofs.Grammar.{text-exact}
@@ -30,13 +31,13 @@ use Rattle.replies.proofs.Sizes.{rooms, held-fits, held-size}
 use Rattle.slots.specs.declared.Size.{Size}
 use Rattle.slots.specs.declared.Head.{Head}
 use Rattle.slots.specs.Blocks.{sizeAt, fromPlace, toPlace, valueAt}
-use Rattle.slots.specs.Desks.{slotAt, deskOf, HoldsDesk}
+use Rattle.slots.specs.Desks.{slotAt, controlOf, deskOf, HoldsDesk}
 use Rattle.columns.proofs.Limits.{pair-limit}
 use Rattle.slots.proofs.Windows.{written-length}
 use Rattle.slots.proofs.Held.{slots-eight, slot-kept}
-use Rattle.asking.specs.Arranged.{slotFirst, heldAmong, heldInOrder}
+use Rattle.asking.specs.Arranged.{slotFirst, shownAmong, shownInOrder}
 use Rattle.asking.proofs.Lent.{few-pairs}
-use Rattle.asking.proofs.Arranged.{heldIf, held-in, in-order-held, in-order-few}
+use Rattle.asking.proofs.Arranged.{shownIf, held-in, in-order-held, in-order-few}
 
 -- "`slot⇥n⇥r⇥pairs`"
 abbrev pub sizeFields : ℕ → Size → List Bytes
@@ -88,29 +89,43 @@ module _ (h : Head) (columns : List ℕ) (H : HoldsDesk h columns) where
   abbrev heldAt : ℕ → Held
   heldAt i = record { slot = i; plan = planOf (valueAt h columns i) }
 
-  held-slots : (a n : ℕ) → heldFrom a (map (slotAt h columns) (count a n)) ≡ map heldAt (heldAmong h (count a n))
-  unfolding valueAt
+  -- the slots from one on, as the named station sees them
+  abbrev seenSlots : ℕ → ℕ → List (Option PlanOf)
+  seenSlots a n = seenFrom (deskOf h columns) a (map (slotAt h columns) (count a n))
+
+  held-slots : (a n : ℕ) → heldFrom a (seenSlots a n) ≡ map heldAt (shownAmong h (count a n))
+  unfolding valueAt deskOf
   held-slots a zero = refl
-  held-slots a (suc n) = by (eqb (sizeAt h a .pairs) 0) (held-slots (suc a) n)
+  held-slots a (suc n) = by (eqb (sizeAt h a .pairs) 0) (leb 1 (rightOf (controlOf (h .control) .rights) (h .control .station) a))
+      (held-slots (suc a) n)
     where
-      by : (b : Bool) → heldFrom (suc a) (map (slotAt h columns) (count (suc a) n)) ≡ map heldAt (heldAmong h (count (suc a) n))
-          → heldFrom a ((elim b [ true ↦ none | false ↦ some (planOf (valueAt h columns a)) ]) ∷ map (slotAt h columns) (count (suc a) n))
-          ≡ map heldAt (heldIf h a (count (suc a) n) b)
-      by true rest = rest
-      by false rest = ap (λ l. heldAt a ∷ l) rest
+      by : (b m : Bool) → heldFrom (suc a) (seenSlots (suc a) n) ≡ map heldAt (shownAmong h (count (suc a) n))
+          → heldFrom a ((elim m as (λ _. Option PlanOf) [
+            | true ↦ elim b [
+              | true ↦ none
+              | false ↦ some
+                  (planOf (valueAt h columns a))
+            ]
+            | false ↦ none
+          ]) ∷ seenSlots (suc a) n)
+          ≡ map heldAt (shownIf h a (count (suc a) n) (elim b [ true ↦ false | false ↦ m ]))
+      by true true rest = rest
+      by true false rest = rest
+      by false true rest = ap (λ l. heldAt a ∷ l) rest
+      by false false rest = rest
 
   -- the head's test is that of the definitions
   same-test : (i j : ℕ) → i < slotCount → j < slotCount → comesBefore (heldAt i) (heldAt j) ≡ slotFirst h i j
   same-test i j k l =
       ap₂ (λ m n. lineFirst m i n j) (pairs-held h columns H i k) (pairs-held h columns H j l)
 
-  surveyed-slots : surveyed (deskOf h columns) ≡ map heldAt (heldInOrder h)
-  unfolding surveyed deskOf heldInOrder
+  surveyed-slots : surveyed (deskOf h columns) ≡ map heldAt (shownInOrder h)
+  unfolding surveyed seen deskOf shownInOrder
   surveyed-slots =
-      let named : (i : ℕ) → List·Memᴰ i (heldAmong h (count 0 slotCount)) → i < slotCount =
+      let named : (i : ℕ) → List·Memᴰ i (shownAmong h (count 0 slotCount)) → i < slotCount =
       λ i m. let b = count-bounds 0 slotCount i (held-in h (count 0 slotCount) i m .0) .1 in omega arith in
       ap (arranged comesBefore) (held-slots 0 slotCount)
-      ∙ arranged-map heldAt (slotFirst h) comesBefore (heldAmong h (count 0 slotCount)) (λ i j m n. same-test i j (named i m) (named j n))
+      ∙ arranged-map heldAt (slotFirst h) comesBefore (shownAmong h (count 0 slotCount)) (λ i j m n. same-test i j (named i m) (named j n))
 
   lines-held : (is : List ℕ) → ((i : ℕ) → List·Memᴰ i is → i < slotCount)
       → joinLines (map (λ k. lineOf (heldFields k)) (map heldAt is)) ≡ linesAt h is
@@ -118,17 +133,18 @@ module _ (h : Head) (columns : List ℕ) (H : HoldsDesk h columns) where
   lines-held (i ∷ is) k =
       ap₂ (λ fs x. lineOf fs ++ x) (held-as-sized h columns H i (k i (List·Memᴰ·head refl))) (lines-held is (λ j m. k j (List·Memᴰ·tail m)))
 
-  survey-bytes : replyBytes (surveys (surveyed (deskOf h columns))) ≡ linesAt h (heldInOrder h) ++ okLine (decimal (length (heldInOrder h)) ∷ [])
+  survey-bytes : replyBytes (surveys (surveyed (deskOf h columns)))
+      ≡ linesAt h (shownInOrder h) ++ okLine (decimal (length (shownInOrder h)) ∷ [])
   survey-bytes =
-      let is = heldInOrder h in
+      let is = shownInOrder h in
       text-exact .replies .survey (surveyed (deskOf h columns))
       ∙ ap (λ hs. joinLines (map (λ k. lineOf (heldFields k)) hs) ++ okLine (decimal (length hs) ∷ [])) surveyed-slots
       ∙ ap₂ (λ x n. x ++ okLine (decimal n ∷ [])) (lines-held is (λ i m. in-order-held h i m .0)) (length-map is heldAt)
 
 -- What is written when the lines of so many slots were: ten bytes each at most.
 pub record Surveyed (h : Head) (out out′ : Bytes) (used i : ℕ) : Type 0 where
-  pub below : i ≤ length (heldInOrder h)
-  pub wrote : Wrote (linesAt h (take i (heldInOrder h))) out 0 out′ used
+  pub below : i ≤ length (shownInOrder h)
+  pub wrote : Wrote (linesAt h (take i (shownInOrder h))) out 0 out′ used
   pub short : used ≤ i * 10
 
 pub survey-start : (h : Head) (out : Bytes) → Surveyed h out out 0 0
@@ -142,24 +158,24 @@ module _ {h : Head} {out out′ : Bytes} {used i : ℕ} (s : Surveyed h out out�
   pub survey-long : length out′ ≡ length out
   survey-long =
       ap length (s .wrote .contents)
-      ∙ written-length out 0 (linesAt h (take i (heldInOrder h)))
+      ∙ written-length out 0 (linesAt h (take i (shownInOrder h)))
       (omega (arith, s .below, in-order-few h, s .short, s .wrote .place, enough, slots-eight))
 
   pub survey-room : used + 14 ≤ length out′
   survey-room = omega (arith, s .below, in-order-few h, s .short, survey-long, enough, slots-eight)
 
-pub all-few : (h : Head) {order₀ order : List ℕ} {held : ℕ} → Wrote (heldInOrder h) order₀ 0 order held → held ≤ 8
+pub all-few : (h : Head) {order₀ order : List ℕ} {held : ℕ} → Wrote (shownInOrder h) order₀ 0 order held → held ≤ 8
 all-few h w = omega (arith, w .place, in-order-few h, slots-eight)
 
 -- the slot whose line comes next
-module _ (h : Head) {order₀ order : List ℕ} {held i : ℕ} (w : Wrote (heldInOrder h) order₀ 0 order held) (below : i < held) where
-  next-slot : getD order i 0 ≡ getD (heldInOrder h) i 0
+module _ (h : Head) {order₀ order : List ℕ} {held i : ℕ} (w : Wrote (shownInOrder h) order₀ 0 order held) (below : i < held) where
+  next-slot : getD order i 0 ≡ getD (shownInOrder h) i 0
   next-slot =
       ap (λ l. getD l i 0) (w .contents)
-      ∙ List·getD-append (heldInOrder h) (drop (0 + length (heldInOrder h)) order₀) 0 i (omega (arith, w .place))
+      ∙ List·getD-append (shownInOrder h) (drop (0 + length (shownInOrder h)) order₀) 0 i (omega (arith, w .place))
 
-  next-held : List·Memᴰ (getD order i 0) (heldInOrder h)
-  next-held = subst (λ k. List·Memᴰ k (heldInOrder h)) (sym next-slot) (mem-number (heldInOrder h) i (omega (arith, w .place)))
+  next-held : List·Memᴰ (getD order i 0) (shownInOrder h)
+  next-held = subst (λ k. List·Memᴰ k (shownInOrder h)) (sym next-slot) (mem-number (shownInOrder h) i (omega (arith, w .place)))
 
   pub next-named : getD order i 0 < 8
   next-named = omega (arith, in-order-held h (getD order i 0) next-held .0, slots-eight)
@@ -171,7 +187,7 @@ module _ (h : Head) {order₀ order : List ℕ} {held i : ℕ} (w : Wrote (heldI
       → Wrote (lineAt h (getD order i 0)) out′ used out″ used′ → Surveyed h out out″ used′ (i + 1)
   survey-next {columns} {out} {out″ = out″} {used′ = used′} H s v =
       let slot = getD order i 0 in
-      let is = heldInOrder h in
+      let is = shownInOrder h in
       let small = line-size h columns H slot (omega (arith, next-named, slots-eight)) next-full in
       let more : take (i + 1) is ≡ take i is ++ (slot ∷ []) =
       ap (λ n. take n is) (add-one i) ∙ take-suc is i 0 (omega (arith, w .place)) ∙ ap (λ k. take i is ++ (k ∷ [])) (sym next-slot) in
@@ -185,10 +201,10 @@ module _ (h : Head) {order₀ order : List ℕ} {held i : ℕ} (w : Wrote (heldI
 
 -- all lines, and then how many they are
 pub survey-ends : {h : Head} {columns order₀ order out out′ out″ : List ℕ} {used used′ held i : ℕ} → HoldsDesk h columns
-    → Wrote (heldInOrder h) order₀ 0 order held → Surveyed h out out′ used i → held ≤ i
+    → Wrote (shownInOrder h) order₀ 0 order held → Surveyed h out out′ used i → held ≤ i
     → Wrote (okLine (decimal held ∷ [])) out′ used out″ used′ → Wrote (replyBytes (surveys (surveyed (deskOf h columns)))) out 0 out″ used′
 survey-ends {h} {columns} {out = out} {out′ = out′} {out″ = out″} {used = used} {used′ = used′} {held = held} {i = i} H w s e v =
-    let is = heldInOrder h in
+    let is = shownInOrder h in
     let all : held ≡ length is = omega (arith, w .place) in
     let whole : take i is ≡ is = take-all i is (omega (arith, all)) in
     let lines = subst (λ l. Wrote (linesAt h l) out 0 out′ used) whole (s .wrote) in

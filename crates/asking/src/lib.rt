@@ -16,6 +16,7 @@ use operations::routing;
 use slots::BLOCK;
 use slots::Head;
 use slots::Reply;
+use slots::SLOTS;
 use slots::blocks;
 use slots::numbers;
 
@@ -24,10 +25,7 @@ mod arranging;
 // The bytes in front of W's image, `ok` and a tab: `imageAt` of replies' Lines.antt.
 const IMAGE_AT: usize = 3;
 
-// A to H: `slotCount` of higman's Limits.antt.
-const SLOTS: usize = 8;
-
-// S: 2, 8, 9, 10. "`ok⇥1` if the plans act alike, else `ok⇥0`".
+// S: 2, 8, 20, 9, 10. "`ok⇥1` if the plans act alike, else `ok⇥0`".
 pub fn compare(head: Head, columns: &[u64], a: u8, b: u8) -> Reply
     requires { ⌜ HoldsDesk head (now columns) ⌝ }
     ensures { λ r. ⌜ TellsSilently (S a b) head (now (columns .entry)) r ⌝ }
@@ -80,7 +78,7 @@ fn write_block(from: &[u64], to: &[u64], code: &[u8], out: &mut [u8]) -> usize
     replies::ok_number((end - start) as u32, out, used)
 }
 
-// W: 2, 8, 9, 4. "`ok⇥` and the image": the image first, into its place, and then the line around it. Where there is none, the block.
+// W: 2, 8, 20, 9, 4. "`ok⇥` and the image": the image first, into its place, and then the line around it. Where there is none, the block.
 pub fn route(head: Head, columns: &[u64], a: u8, code: &[u8], out: &mut [u8]) -> Reply
     requires { ⌜ Asked head (now columns) (now out) ⌝ }
     ensures { λ r. ⌜ Tells (W a (now (code .entry))) head (now (columns .entry)) (now (out .entry)) r (now (out .exit)) ⌝ }
@@ -110,7 +108,7 @@ pub fn route(head: Head, columns: &[u64], a: u8, code: &[u8], out: &mut [u8]) ->
     }
 }
 
-// L: 2, 8, 9. "lists the plan as P, M and E records".
+// L: 2, 8, 20, 9. "lists the plan as P, M and E records".
 pub fn list(head: Head, columns: &[u64], a: u8, out: &mut [u8]) -> Reply
     requires { ⌜ Asked head (now columns) (now out) ⌝ }
     ensures { λ r. ⌜ Tells (L a) head (now (columns .entry)) (now (out .entry)) r (now (out .exit)) ⌝ }
@@ -144,7 +142,8 @@ pub fn count(head: Head) -> Reply
     Reply::Number(slots::count(head))
 }
 
-// U: 2. "`slot⇥n⇥r⇥pairs` for each held slot .. then `ok⇥` and how many", in the order of change request E2.
+// U: 2. "`slot⇥n⇥r⇥pairs` for each held slot .. then `ok⇥` and how many", in the order of change request E2, and of readable slots alone
+// (change request E6).
 pub fn survey(head: Head, out: &mut [u8]) -> Reply
     requires { ⌜ AskedByHead head (now out) ⌝ }
     ensures { λ r. ⌜ TellsByHeadInto U head (now (out .entry)) r (now (out .exit)) ⌝ }

@@ -103,7 +103,7 @@ pub fn close(head: Head, columns: &mut [u64]) -> Work
         Verdict::Accepted => {
             let plan = closed.plan;
             let made = answers::granted(plan);
-            keep(head, columns, head.slot, made)
+            keep(head, columns, head.slot as usize, made)
         }
     }
 }
@@ -117,7 +117,7 @@ fn operand(head: Head, columns: &[u64], a: u8) -> Plan
     blocks::value(head, columns, slots::slot_number(a))
 }
 
-// F: 2, 8, 9, 10, 11, 16.
+// F: 2, 8, 20, 9, 10, 11, 16.
 pub fn follow(head: Head, columns: &mut [u64], a: u8, b: u8, c: u8) -> Work
     requires { ⌜ HoldsDesk head (now columns) ⌝ }
     ensures { λ r. ⌜ DoneSilently (F a b c) head (now (columns .entry)) r (now (columns .exit)) ⌝ }
@@ -142,7 +142,7 @@ pub fn follow(head: Head, columns: &mut [u64], a: u8, b: u8, c: u8) -> Work
     )
 }
 
-// I: 2, 8, 9, 16.
+// I: 2, 8, 20, 9, 16.
 pub fn invert(head: Head, columns: &mut [u64], a: u8, c: u8) -> Work
     requires { ⌜ HoldsDesk head (now columns) ⌝ }
     ensures { λ r. ⌜ DoneSilently (I a c) head (now (columns .entry)) r (now (columns .exit)) ⌝ }
@@ -163,7 +163,7 @@ pub fn invert(head: Head, columns: &mut [u64], a: u8, c: u8) -> Work
     )
 }
 
-// K: 2, 8, 12, 9, 11, 16.
+// K: 2, 8, 20, 12, 9, 11, 16.
 pub fn power(head: Head, columns: &mut [u64], a: u8, k: i32, c: u8) -> Work
     requires { ⌜ HoldsDesk head (now columns) ⌝ }
     ensures { λ r. ⌜ DoneSilently (K a k c) head (now (columns .entry)) r (now (columns .exit)) ⌝ }
@@ -187,7 +187,7 @@ pub fn power(head: Head, columns: &mut [u64], a: u8, k: i32, c: u8) -> Work
     )
 }
 
-// X: 2, 8, 3, 17, 5, 4, 16.
+// X: 2, 8, 20, 3, 17, 5, 4, 16.
 pub fn exercise(
     head: Head,
     columns: &mut [u64],
@@ -215,7 +215,7 @@ pub fn exercise(
     )
 }
 
-// C: 2, 8, 9, 16.
+// C: 2, 8, 20, 9, 16.
 pub fn empty(head: Head, columns: &mut [u64], a: u8) -> Work
     requires { ⌜ HoldsDesk head (now columns) ⌝ }
     ensures { λ r. ⌜ DoneSilently (C a) head (now (columns .entry)) r (now (columns .exit)) ⌝ }

@@ -5,24 +5,23 @@ use Rattle.higman.specs.Limits.{maxPairs, maxDigits, maxCode, maxPower, shapeIn
 use Rattle.higman.specs.Text.{digitOf}
 use Rattle.higman.specs.Answers.{verdict, followed, inverted, raised, powered, same, routed}
 use Rattle.higman.specs.Fronts.{block}
-use Rattle.desk.specs.Limits.{stationCount, maxChanges, maxLine, maxNumeral}
-use Rattle.desk.specs.Desk.{freshDesk, changed, withDraft, dropped}
-use Rattle.desk.specs.Records.{grammar, parse, kind}
+use Rattle.desk.specs.Limits.{stationCount, maxRight, maxChanges, maxLine, maxNumeral}
+use Rattle.desk.specs.Desk.{freshDesk, seen, changed, withDraft, dropped, atStation, withRight}
+use Rattle.desk.specs.Records.{grammar, parse, neededRight, kind, rightNumber}
 use Rattle.desk.specs.Replies.{_>>=_, job, surveyed, operation, admission, lineOperation, respondLine, run}
 use Rattle.desk.specs.Bytes.{replyBytes}
 use Rattle.desk.specs.Session.{session}
-use Rattle.desk.specs.Cases.{starSessions, otherSessions, surveySessions, DeskCases}
+use Rattle.desk.specs.Cases.{starSessions, otherSessions, surveySessions, DeskCases, rightsSessions}
 
 pub desk-cases : DeskCases
-unfolding starSessions otherSessions surveySessions session run replyBytes _>>=_ respondLine lineOperation operation admission job
-    surveyed kind
-    parse grammar freshDesk changed withDraft dropped slotCount stationCount maxChanges maxLine maxNumeral isPlanWord digitOf maxPairs
-    maxDigits
-    maxCode maxPower shapeInRange granted isCode verdict followed inverted raised powered same routed block keep compose inverse identity
-    normalForm normal joined
+unfolding starSessions otherSessions surveySessions rightsSessions session run replyBytes _>>=_ respondLine lineOperation operation
+    admission job surveyed seen kind neededRight parse grammar freshDesk changed withDraft dropped atStation withRight rightNumber slotCount
+    stationCount maxRight maxChanges maxLine maxNumeral isPlanWord digitOf maxPairs maxDigits maxCode maxPower shapeInRange granted isCode
+    verdict followed inverted raised powered same routed block keep compose inverse identity normalForm normal joined
 desk-cases =
     record {
       star = (refl, (refl, (refl, (refl, (refl, (refl, (refl, (refl, (refl, (refl, tt))))))))));
       others = (refl, (refl, (refl, (refl, (refl, (refl, (refl, (refl, tt))))))));
       survey = (refl, (refl, (refl, tt)));
+      rights = (refl, (refl, tt));
     }

@@ -16,15 +16,16 @@ use Rattle.higman.specs.Words.{given}
 use Rattle.higman.proofs.Tests.{all-head, all-cons}
 use Rattle.desk.specs.Limits.{stationCount}
 use Rattle.desk.specs.Desk.{Desk, freshDesk, stationOf, changesOf, countOf, IsDesk, counted, changed, withDraft, dropped, atStation}
-use Rattle.desk.specs.Desk.{isStation}
-use Rattle.desk.specs.Records.{Record, P, M, E, F, I, K, S, W, L, C, T, U, X, Z, stationsNamed, isChange, kind}
+use Rattle.desk.specs.Desk.{isStation, withRight}
+use Rattle.desk.specs.Records.{Record, P, M, E, F, I, K, S, W, L, C, T, U, X, Z, stationsNamed, isChange, kind, Right, G}
 use Rattle.desk.specs.Replies.{ok, okNumber, Outcome, refuse, pass, _>>=_, Effect, bit, job, operation, recordOf, lineOperation}
 use Rattle.desk.specs.Replies.{settle, respondLine, run, deskAfter}
 use Rattle.desk.specs.Conditions.{conditions, firstOf, refusalOf}
 use Rattle.desk.specs.Stations.{isDone, madeChange, changesMade, OwnCountAgrees, CountsOfStations}
-use Rattle.desk.proofs.Outcomes.{Passes, stops, passes, any-then, passed, passes-operation, operation-pass}
+use Rattle.desk.proofs.Outcomes.{Passes, passes, any-then, passed, passes-operation, operation-pass}
 use Rattle.desk.proofs.Desks.{station-test}
-use Rattle.desk.proofs.Stays.{replicated, counted-own, counted-other, desk-stays}
+use Rattle.desk.proofs.Given.{replicated}
+use Rattle.desk.proofs.Stays.{counted-own, counted-other, desk-stays}
 use Rattle.desk.proofs.Conditions.{first-condition}
 
 -- what a line does to the count of a station
@@ -49,7 +50,7 @@ module _ (d : Desk) (D : IsDesk d) (s : ℕ) where
   none-added = omega arith
 
   job-adds : (r : Record) → Passes (Counts (isChange r)) (job d r)
-  unfolding job kind withDraft atStation
+  unfolding job kind withDraft atStation withRight
   job-adds (P a n r) = any-then _ (λ _. passes none-added)
   job-adds (M from to) = any-then _ (λ _. any-then _ (λ _. any-then _ (λ _. passes none-added)))
   job-adds E = any-then _ (λ _. any-then _ (λ _. passes (changed-adds _ _)))
@@ -64,8 +65,9 @@ module _ (d : Desk) (D : IsDesk d) (s : ℕ) where
   job-adds U = passes none-added
   job-adds (X a n r k seed) = any-then _ (λ _. any-then _ (λ _. passes (changed-adds _ _)))
   job-adds (Z k) = passes none-added
+  job-adds (G k a x) = any-then _ (λ _. passes none-added)
 
-  line-adds : (l : Bytes) → made (respondLine d l .0) ≡ bit (madeChange d l && eqb (stationOf d) s) + made d
+  pub line-adds : (l : Bytes) → made (respondLine d l .0) ≡ bit (madeChange d l && eqb (stationOf d) s) + made d
   unfolding respondLine lineOperation _>>=_ dropped
   line-adds l = by-record (recordOf l)
     where
@@ -102,41 +104,42 @@ unfolding job kind stationCount
 named-done d s o k =
     let known = all-cons isStation s [] (station-test s .1 (omega arith)) tt in
     operation-pass d (Z s) (atStation d s, ok)
-    (record { admitted = record { open-fits = ap given o; stations-known = known; slots-named = tt }; room = refl }) refl
+    (record { admitted = record { open-fits = ap given o; stations-known = known; slots-named = tt; allowed = tt }; room = refl }) refl
 
 told-done : (d : Desk) → d .draft ≡ none → operation d T ≡ pass (d, okNumber (countOf d))
 unfolding job kind
 told-done d o =
     operation-pass d T (d, okNumber (countOf d))
-    (record { admitted = record { open-fits = ap given o; stations-known = tt; slots-named = tt }; room = refl }) refl
+    (record { admitted = record { open-fits = ap given o; stations-known = tt; slots-named = tt; allowed = tt }; room = refl }) refl
 
 names-own : (s : ℕ) → stationsNamed (Z s) ≡ s ∷ []
 unfolding kind
 names-own s = refl
 
-names-none : (r : Record) → ((s : ℕ) → r ≡ Z s → ⊥) → stationsNamed r ≡ []
+names-none : (r : Record) → ((s : ℕ) → r ≡ Z s → ⊥) → ((s a : ℕ) (x : Right) → r ≡ G s a x → ⊥) → stationsNamed r ≡ []
 unfolding kind
-names-none (P a n r) h = refl
-names-none (M from to) h = refl
-names-none E h = refl
-names-none (F a b c) h = refl
-names-none (I a c) h = refl
-names-none (K a k c) h = refl
-names-none (S a b) h = refl
-names-none (W a code) h = refl
-names-none (L a) h = refl
-names-none (C a) h = refl
-names-none T h = refl
-names-none U h = refl
-names-none (X a n r s seed) h = refl
-names-none (Z s) h = absurd (h s refl)
+names-none (P a n r) h k = refl
+names-none (M from to) h k = refl
+names-none E h k = refl
+names-none (F a b c) h k = refl
+names-none (I a c) h k = refl
+names-none (K a j c) h k = refl
+names-none (S a b) h k = refl
+names-none (W a code) h k = refl
+names-none (L a) h k = refl
+names-none (C a) h k = refl
+names-none T h k = refl
+names-none U h k = refl
+names-none (X a n r s seed) h k = refl
+names-none (Z s) h k = absurd (h s refl)
+names-none (G s a x) h k = absurd (k s a x refl)
 
 name-steps : (d : Desk) (s : ℕ) → Passes (λ e. (s < stationCount) × (e ≡ (atStation d s, ok))) (operation d (Z s))
 unfolding job kind
 name-steps d s = passes-operation d (Z s) (λ t. passes (station-test s .0 (all-head isStation s [] (t .admitted .stations-known)), refl))
 
-stay-steps : (d : Desk) (r : Record) → ((s : ℕ) → r ≡ Z s → ⊥) → Passes (λ e. stationOf (e .0) ≡ stationOf d) (job d r)
-unfolding job changed withDraft
+pub stay-steps : (d : Desk) (r : Record) → ((s : ℕ) → r ≡ Z s → ⊥) → Passes (λ e. stationOf (e .0) ≡ stationOf d) (job d r)
+unfolding job changed withDraft withRight
 stay-steps d (P a n r) h = any-then _ (λ _. passes refl)
 stay-steps d (M from to) h = any-then _ (λ _. any-then _ (λ _. any-then _ (λ _. passes refl)))
 stay-steps d E h = any-then _ (λ _. any-then _ (λ _. passes refl))
@@ -151,29 +154,31 @@ stay-steps d T h = passes refl
 stay-steps d U h = passes refl
 stay-steps d (X a n r s seed) h = any-then _ (λ _. any-then _ (λ _. passes refl))
 stay-steps d (Z s) h = absurd (h s refl)
+stay-steps d (G s a x) h = any-then _ (λ _. passes refl)
 
 refused-stays : (d : Desk) (l : Bytes) (n : ℕ) (c : Option Letter) → lineOperation d l ≡ refuse n c
     → respondLine d l .0 .control ≡ d .control
 unfolding respondLine dropped
 refused-stays d l n c e = ap (λ o. settle d o .0 .control) e
 
--- the table of refusals asks of a desk what its slots hold, what is open, and the count of the named station
+-- the table of refusals asks of a desk what its slots hold, what is open, the count of the named station, and its rights
 conditions-agree : (d c : Desk) → OwnCountAgrees d c → (r : Record) → conditions d r ≡ conditions c r
 unfolding conditions
-conditions-agree d c h (P a n r) = rw (h .draft) refl
+conditions-agree d c h (P a n r) = rw (h .draft, h .station, h .rights) refl
 conditions-agree d c h (M from to) = rw (h .draft) refl
 conditions-agree d c h E = rw (h .draft, h .own) refl
-conditions-agree d c h (F a b x) = rw (h .slots, h .draft, h .own) refl
-conditions-agree d c h (I a x) = rw (h .slots, h .draft, h .own) refl
-conditions-agree d c h (K a k x) = rw (h .slots, h .draft, h .own) refl
-conditions-agree d c h (S a b) = rw (h .slots, h .draft) refl
-conditions-agree d c h (W a code) = rw (h .slots, h .draft) refl
-conditions-agree d c h (L a) = rw (h .slots, h .draft) refl
-conditions-agree d c h (C a) = rw (h .slots, h .draft, h .own) refl
+conditions-agree d c h (F a b x) = rw (h .slots, h .draft, h .own, h .station, h .rights) refl
+conditions-agree d c h (I a x) = rw (h .slots, h .draft, h .own, h .station, h .rights) refl
+conditions-agree d c h (K a k x) = rw (h .slots, h .draft, h .own, h .station, h .rights) refl
+conditions-agree d c h (S a b) = rw (h .slots, h .draft, h .station, h .rights) refl
+conditions-agree d c h (W a code) = rw (h .slots, h .draft, h .station, h .rights) refl
+conditions-agree d c h (L a) = rw (h .slots, h .draft, h .station, h .rights) refl
+conditions-agree d c h (C a) = rw (h .slots, h .draft, h .own, h .station, h .rights) refl
 conditions-agree d c h T = rw (h .draft) refl
 conditions-agree d c h U = rw (h .draft) refl
-conditions-agree d c h (X a n r s seed) = rw (h .draft, h .own) refl
+conditions-agree d c h (X a n r s seed) = rw (h .draft, h .own, h .station, h .rights) refl
 conditions-agree d c h (Z s) = rw (h .draft) refl
+conditions-agree d c h (G s a x) = rw (h .draft, h .station) refl
 
 refused-alike : (d c : Desk) → IsDesk d → IsDesk c → OwnCountAgrees d c → (r : Record)
     → refusalOf (operation d r) ≡ refusalOf (operation c r)

@@ -4,7 +4,7 @@ use Prim.Native.Nat.{ℕ, _<_}
 use mathlib.Core.Path.{_≡_, refl, sym, _∙_, ap, subst}
 use mathlib.Core.Logic.{_⊎_, inl, inr, _↔_}
 use mathlib.Core.Bool.{Bool, true, false}
-use mathlib.Core.List.{List, List·Memᴰ, List·Memᴰ·head, List·Memᴰ·tail}
+use mathlib.Core.List.{List·Memᴰ·head, List·Memᴰ·tail}
 use mathlib.Core.Option.{some, Option·some-injective}
 use native.Mathlib.Omega.{arith}
 use lib.Dec.{T}
@@ -40,6 +40,8 @@ use Rattle.desk.proofs.Stays.{below-limit, slot-of-record}
 use Rattle.desk.proofs.OpenPlans.{close-pass, close-steps, draft-verdict}
 use Rattle.desk.proofs.Replies.{replies-exact, slots-used, desk-parts}
 use Rattle.desk.proofs.Counts.{counts-of-stations}
+use Rattle.desk.proofs.Rights.{rights-exact}
+use Rattle.desk.proofs.Apart.{stations-apart}
 use Rattle.desk.proofs.Surveys.{survey-exact}
 use Rattle.desk.proofs.Exercises.{answer-granted, kept-there, exercises, exercises-fixed}
 
@@ -278,6 +280,8 @@ demand2 =
       replies = replies-exact;
       slots-used = slots-used;
       stations = counts-of-stations;
+      rights = rights-exact;
+      stations-apart = stations-apart;
       desk-parts = desk-parts;
       survey = survey-exact;
       typed-in = typed-in;

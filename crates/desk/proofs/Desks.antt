@@ -1,7 +1,8 @@
 -- The tests for an open plan, for what a desk keeps beside its plans and for a desk say what these are.
-use Prim.Native.Nat.{ℕ, zero, suc, _+_, _≤_, _<_, zero-le}
+use Prim.Native.Nat.{ℕ, zero, suc, _+_, _-_, _≤_, _<_, zero-le, suc-le-suc}
+use native.Mathlib.Nat.{not-suc-le-zero, le-of-suc-le-suc, le-refl}
 use native.Mathlib.Omega.{arith}
-use mathlib.Core.Path.{_≡_, refl, subst}
+use mathlib.Core.Path.{_≡_, refl, sym, subst}
 use mathlib.Core.Logic.{_↔_}
 use mathlib.Core.Bool.{Bool, _&&_}
 use mathlib.Core.List.{List, [], _∷_}
@@ -13,9 +14,9 @@ use Rattle.higman.specs.Answers.{isTableOf, isKept}
 use Rattle.higman.proofs.Statements.{table-of, test-table, answers-exact}
 use Rattle.higman.specs.Bases.{all}
 use Rattle.higman.proofs.Tests.{and-left, and-right, and-intro, all-head, all-tail, all-cons}
-use Rattle.desk.specs.Limits.{stationCount, maxChanges}
-use Rattle.desk.specs.Desk.{Draft, Control, Desk, changesOf, IsDraft, IsControl, IsDesk, allHeld, isDraft, isStation, isControl}
-use Rattle.desk.specs.Desk.{isDesk}
+use Rattle.desk.specs.Limits.{stationCount, maxRight, maxChanges}
+use Rattle.desk.specs.Desk.{Draft, Rights, Control, Desk, rightOf, IsDraft, IsRights, IsControl, IsDesk, allHeld, isDraft}
+use Rattle.desk.specs.Desk.{isStation, areSlotRights, areRights, isControl, isDesk}
 use Rattle.desk.specs.Theorems.{DeskTest}
 
 held-of : (l : List (Option Plan)) → T (allHeld l) → (i : ℕ) (p : Plan) → getD l i none ≡ some p → Kept p
@@ -57,6 +58,64 @@ within-counts : (l : List ℕ) → ((s : ℕ) → getD l s 0 ≤ maxChanges) →
 within-counts [] k = tt
 within-counts (n ∷ l) k = all-cons (λ n. leb n maxChanges) n l (le→leb n maxChanges (k zero)) (within-counts l (λ s. k (suc s)))
 
+-- the rights of a station on its slots, and of all stations
+abbrev rightsWithin : List ℕ → Bool
+rightsWithin l = all (λ x. leb x maxRight) l
+
+slot-rights : (l : List ℕ) → T (rightsWithin l) → (i : ℕ) → getD l i 0 ≤ maxRight
+slot-rights [] h i = zero-le
+slot-rights (x ∷ l) h zero = leb→le x maxRight (all-head (λ x. leb x maxRight) x l h)
+slot-rights (x ∷ l) h (suc i) = slot-rights l (all-tail (λ x. leb x maxRight) x l h) i
+
+rights-slot : (l : List ℕ) → ((i : ℕ) → getD l i 0 ≤ maxRight) → T (rightsWithin l)
+rights-slot [] k = tt
+rights-slot (x ∷ l) k = all-cons (λ x. leb x maxRight) x l (le→leb x maxRight (k zero)) (rights-slot l (λ i. k (suc i)))
+
+rows-eight : (l : Rights) → T (all areSlotRights l) → (s : ℕ) → s < length l → length (getD l s []) ≡ slotCount
+rows-eight [] h s k = absurd (not-suc-le-zero k)
+rows-eight (x ∷ l) h zero k = eqb→eq (length x) slotCount (and-left (eqb (length x) slotCount) (rightsWithin x)
+    (all-head areSlotRights x l h))
+rows-eight (x ∷ l) h (suc s) k = rows-eight l (all-tail areSlotRights x l h) s (le-of-suc-le-suc k)
+
+rows-within : (l : Rights) → T (all areSlotRights l) → (s i : ℕ) → getD (getD l s []) i 0 ≤ maxRight
+rows-within [] h s i = zero-le
+rows-within (x ∷ l) h zero i = slot-rights x (and-right (eqb (length x) slotCount) (rightsWithin x) (all-head areSlotRights x l h)) i
+rows-within (x ∷ l) h (suc s) i = rows-within l (all-tail areSlotRights x l h) s i
+
+test-rows : (l : Rights) → ((s : ℕ) → s < length l → length (getD l s []) ≡ slotCount) → ((s i : ℕ) → getD (getD l s []) i 0 ≤ maxRight)
+    → T (all areSlotRights l)
+test-rows [] e w = tt
+test-rows (x ∷ l) e w =
+    let eight = subst (λ n. T (eqb (length x) n)) (e zero (suc-le-suc zero-le)) (eqb-refl (length x)) in
+    all-cons areSlotRights x l (and-intro (eqb (length x) slotCount) (rightsWithin x) eight (rights-slot x (w zero)))
+    (test-rows l (λ s k. e (suc s) (suc-le-suc k)) (λ s. w (suc s)))
+
+rights-of : (rights : Rights) → T (areRights rights) → IsRights rights
+unfolding areRights
+rights-of rights h =
+    let seven = eqb→eq (length rights) (stationCount - 1) (and-left (eqb (length rights) (stationCount - 1))
+    (all areSlotRights rights) h) in
+    let rows = and-right (eqb (length rights) (stationCount - 1)) (all areSlotRights rights) h in
+    record {
+      each-station = seven;
+      each-slot = λ s k. rows-eight rights rows s (subst (λ n. s < n) (sym seven) k);
+      within = within rows;
+    }
+  where
+    within : T (all areSlotRights rights) → (s i : ℕ) → rightOf rights s i ≤ maxRight
+    within rows zero i = le-refl maxRight
+    within rows (suc s) i = rows-within rights rows s i
+
+test-rights : (rights : Rights) → IsRights rights → T (areRights rights)
+unfolding areRights
+test-rights rights h =
+    and-intro (eqb (length rights) (stationCount - 1)) (all areSlotRights rights)
+    (subst (λ n. T (eqb (length rights) n)) (h .each-station) (eqb-refl (length rights)))
+    (test-rows rights (λ s k. h .each-slot s (subst (λ n. s < n) (h .each-station) k)) (λ s. h .within (suc s)))
+
+pub rights-test : (rights : Rights) → T (areRights rights) ↔ IsRights rights
+rights-test rights = (rights-of rights, test-rights rights)
+
 module _ (c : Control) where
   abbrev known : Bool
   known = isStation (c .station)
@@ -67,23 +126,30 @@ module _ (c : Control) where
   abbrev each : Bool
   each = known && eight-counts
 
+  abbrev counts : Bool
+  counts = all (λ n. leb n maxChanges) (c .changes)
+
   control-of : T (isControl c) → IsControl c
   unfolding isControl
   control-of h =
-      let front = and-left each (all (λ n. leb n maxChanges) (c .changes)) h in
+      let back = and-left (each && counts) (areRights (c .rights)) h in
+      let front = and-left each counts back in
       record {
         named = station-test (c .station) .0 (and-left known eight-counts front);
         each = eqb→eq (length (c .changes)) stationCount (and-right known eight-counts front);
-        within = counts-within (c .changes) (and-right each (all (λ n. leb n maxChanges) (c .changes)) h);
+        within = counts-within (c .changes) (and-right each counts back);
+        rights = rights-test (c .rights) .0 (and-right (each && counts) (areRights (c .rights)) h);
       }
 
   test-control : IsControl c → T (isControl c)
   unfolding isControl
   test-control h =
-      and-intro each (all (λ n. leb n maxChanges) (c .changes))
+      and-intro (each && counts) (areRights (c .rights))
+      (and-intro each counts
       (and-intro known eight-counts (station-test (c .station) .1 (h .named))
       (subst (λ n. T (eqb (length (c .changes)) n)) (h .each) (eqb-refl (length (c .changes)))))
-      (within-counts (c .changes) (h .within))
+      (within-counts (c .changes) (h .within)))
+      (rights-test (c .rights) .1 (h .rights))
 
 pub control-test : (c : Control) → T (isControl c) ↔ IsControl c
 control-test c = (control-of c, test-control c)

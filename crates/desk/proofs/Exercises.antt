@@ -4,8 +4,8 @@ use mathlib.Core.Path.{_≡_, refl, sym, _∙_, ap, subst}
 use mathlib.Core.Bool.{false}
 use mathlib.Core.List.{List·Memᴰ·head}
 use mathlib.Core.Option.{some}
-use lib.Dec.{T}
-use borrow.Author.Tests.{lt-leb}
+use lib.Dec.{T, leb}
+use borrow.Author.Tests.{lt-leb, le-leb}
 use Rattle.higman.specs.Words.{Shape, given}
 use Rattle.higman.specs.Limits.{Plan, slotCount, shapeInRange}
 use Rattle.higman.specs.Answers.{Answer, Granted, Refused}
@@ -16,7 +16,7 @@ use Rattle.higman.proofs.KeptPlans.{in-range, arity-of-range}
 use Rattle.higman.proofs.Statements.{normal-form}
 use Rattle.higman.proofs.Exercises.{exercise-cases, exercises-exact}
 use Rattle.desk.specs.Limits.{maxChanges}
-use Rattle.desk.specs.Desk.{Desk, countOf, held, IsDesk, changed, withDraft}
+use Rattle.desk.specs.Desk.{Desk, countOf, held, IsDesk, changed, withDraft, ownRight}
 use Rattle.desk.specs.Records.{E, X, writing, kind}
 use Rattle.desk.specs.Replies.{pass, Effect, isOpen, atLimit, ofAnswer, keepIn, job, operation}
 use Rattle.desk.specs.Conditions.{conditions, firstOf, refusalOf}
@@ -97,15 +97,18 @@ same-plan d c a n r s seed e f D C o q =
     let shape : Shape = record { arity = n; roots = r } in
     exercises d a shape s seed e D o .plan .there ∙ sym (exercises c a shape s seed f C q .plan .there)
 
--- two desks that are ready have the same conditions of X: of a desk these ask only whether a plan is open and the count is at its limit
-ready-conditions : (d c : Desk) (a n r s seed : ℕ) → Ready d → Ready c → conditions d (X a n r s seed) ≡ conditions c (X a n r s seed)
+-- two desks that are ready have the same conditions of X: of a desk these ask only whether a plan is open, whether the slot may be written
+-- and whether the count is at its limit
+ready-conditions : (d c : Desk) (a n r s seed : ℕ) → Ready d a → Ready c a → conditions d (X a n r s seed) ≡ conditions c (X a n r s seed)
 unfolding conditions
 ready-conditions d c a n r s seed R Q =
     let begun : isOpen d ≡ isOpen c = ap given (R .none-open ∙ sym (Q .none-open)) in
+    let may : leb 2 (ownRight d (slotNumber a)) ≡ leb 2 (ownRight c (slotNumber a)) =
+    le-leb 2 (ownRight d (slotNumber a)) (R .right) ∙ sym (le-leb 2 (ownRight c (slotNumber a)) (Q .right)) in
     let full : atLimit d ≡ atLimit c = lt-leb maxChanges (countOf d) (R .room) ∙ sym (lt-leb maxChanges (countOf c) (Q .room)) in
     cc
 
-same-refusal : (d c : Desk) (a n r s seed : ℕ) → IsDesk d → IsDesk c → Ready d → Ready c
+same-refusal : (d c : Desk) (a n r s seed : ℕ) → IsDesk d → IsDesk c → Ready d a → Ready c a
     → refusalOf (operation d (X a n r s seed)) ≡ refusalOf (operation c (X a n r s seed))
 same-refusal d c a n r s seed D C R Q =
     first-condition d D (X a n r s seed)

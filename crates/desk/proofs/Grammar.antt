@@ -1,6 +1,6 @@
 -- What is read is what is written: the terms of specs/Grammar.antt. From a line to a record: what a rule of the grammar makes of
 -- fields is a record with just these fields. From a record to its line: by computation, with the laws of the number forms.
-use Prim.Native.Nat.{ℕ, suc}
+use Prim.Native.Nat.{ℕ, zero, suc}
 use native.Mathlib.Omega.{arith}
 use mathlib.Core.Path.{_≡_, refl, sym, _∙_, ap, ap₂, subst}
 use mathlib.Core.Logic.{_⊎_, inl, inr, _↔_}
@@ -18,11 +18,12 @@ use Rattle.higman.specs.Text.{Bytes, bytes, tab, wordBytes, decimal}
 use Rattle.higman.specs.Listing.{slotByte, joinLines}
 use Rattle.higman.proofs.Tests.{passes, and-left, and-right, and-intro, all-cons}
 use Rattle.desk.specs.Limits.{maxNumeral, maxSplitsNumeral, maxSeedNumeral}
-use Rattle.desk.specs.Records.{Record, P, M, E, F, I, K, S, W, L, C, T as Tᴿ, U, X, Z, Form, slotField, anyField, numberField}
+use Rattle.desk.specs.Records.{Record, P, M, E, F, I, K, S, W, L, C, T as Tᴿ, U, X, Z, G, Form, slotField, anyField}
+use Rattle.desk.specs.Records.{numberField, Right, noRight, mayRead, mayWrite, rightNumber, rightNumbered, rightField}
 use Rattle.desk.specs.Records.{field, noMore, Rule}
 use Rattle.desk.specs.Records.{grammar, readBy, readFields, parse, fields, parted, recordFields, recordText, noTab, hasDigits}
 use Rattle.desk.specs.Records.{numbersFit, wellFormed}
-use Rattle.desk.specs.Grammar.{GrammarExact, RecordForms, NumbersFit, WellFormedExact, LineOf, RepliesWritten, TextExact}
+use Rattle.desk.specs.Grammar.{GrammarExact, rightDigit, RecordForms, NumbersFit, WellFormedExact, LineOf, RepliesWritten, TextExact}
 use Rattle.desk.specs.Replies.{Held, okBlock, surveys}
 use Rattle.desk.specs.Bytes.{lineOf, okLine, counted, partFields, heldFields, replyBytes}
 use Rattle.desk.proofs.Fields.{no-tab-cons, word-no-tab, fields-of-parted, parted-of-fields, fields-no-tab}
@@ -38,6 +39,30 @@ slot-exact = record { reads = λ b h. refl; only = only }
     only [] b e = absurd (Option·none-ne-some b e)
     only (c ∷ []) b e = record { own-text = ap (λ x. x ∷ []) (Option·some-injective c b e); fit = tt }
     only (c ∷ d ∷ f) b e = absurd (Option·none-ne-some b e)
+
+right-exact : ExactForm rightField (λ x. decimal (rightNumber x)) (λ x. true)
+unfolding rightNumber
+right-exact = record { reads = reads; only = λ f x e. by-number f x (numberField 1 f) refl e }
+  where
+    reads : (x : Right) → T true → rightField (decimal (rightNumber x)) ≡ some x
+    reads noRight h = refl
+    reads mayRead h = refl
+    reads mayWrite h = refl
+
+    typed : (f : Bytes) (n : ℕ) (x y : Right) → numberField 1 f ≡ some n → n ≡ rightNumber y → some y ≡ some x
+        → Written (λ x. decimal (rightNumber x)) (λ x. true) f x
+    typed f n x y e k p =
+        let own = number-exact 1 .only f n e .own-text ∙ ap decimal (k ∙ ap rightNumber (Option·some-injective y x p)) in
+        record { own-text = own; fit = tt }
+
+    by-number : (f : Bytes) (x : Right) (o : Option ℕ) → numberField 1 f ≡ o
+        → _≡_ {A = Option Right} (elim o [ none ↦ none | some n ↦ rightNumbered n ]) (some x)
+        → Written (λ x. decimal (rightNumber x)) (λ x. true) f x
+    by-number f x none e p = absurd (Option·none-ne-some x p)
+    by-number f x (some zero) e p = typed f 0 x noRight e refl p
+    by-number f x (some (suc zero)) e p = typed f 1 x mayRead e refl p
+    by-number f x (some (suc (suc zero))) e p = typed f 2 x mayWrite e refl p
+    by-number f x (some (suc (suc (suc n)))) e p = absurd (Option·none-ne-some x p)
 
 any-exact : ExactForm anyField (λ f. f) (λ f. true)
 any-exact = record { reads = λ f h. refl; only = λ f g e. record { own-text = Option·some-injective f g e; fit = tt } }
@@ -122,7 +147,7 @@ data OnlyRules : List Rule → Type 0 where
   _and_ : {rule : Rule} {rules : List Rule}
       → Only (λ fs. (rule .letter ∷ []) ∷ fs) (rule .reads) → OnlyRules rules → OnlyRules (rule ∷ rules)
 
--- P, M, E, F, I, K, S, W, L, C, T, U, X and Z
+-- P, M, E, F, I, K, S, W, L, C, T, U, X, Z and G
 grammar-only : OnlyRules grammar
 unfolding grammar
 grammar-only =
@@ -142,6 +167,7 @@ grammar-only =
     only-field (number-exact maxSplitsNumeral) λ s l. only-field (number-exact maxSeedNumeral) λ seed m.
     only-noMore _ refl (test-of-fits a n r s seed (record { ways = h; belts = k; splits = l; seeds = m }))) and
     (only-digit λ s h. only-noMore _ refl h) and
+    (only-digit λ s h. only-slot λ a. only-field right-exact λ x k. only-noMore _ refl h) and
     no-rule
 
 readBy-only : {rules : List Rule} → OnlyRules rules → (b : ℕ) → Only (λ fs. (b ∷ []) ∷ fs) (readBy rules b)
@@ -199,6 +225,7 @@ readFields-recordFields (X a n r s seed) h =
       field,
     )
 readFields-recordFields (Z s) h = rw (number-exact 1 .reads s h, field)
+readFields-recordFields (G s a x) h = rw (number-exact 1 .reads s h, field, right-exact .reads x tt, field)
 
 -- fields without a tab that are read as a record are a line that is parsed as it
 parse-parted : (fs : List Bytes) (r : Record) → T (all noTab fs) → readFields fs ≡ some r → parse (parted fs) ≡ some r
@@ -322,6 +349,7 @@ numbers-fit (X a n r s seed) = (
       }),
 )
 numbers-fit (Z s) = digits-below 0 s
+numbers-fit (G s a x) = digits-below 0 s
 
 well-formed-exact : WellFormedExact
 unfolding wellFormed
@@ -330,6 +358,12 @@ well-formed-exact r =
       λ h. (and-left plain (numbersFit r) h, numbers-fit r .0 (and-right plain (numbersFit r) h)),
       λ h. and-intro plain (numbersFit r) (h .0) (numbers-fit r .1 (h .1)),
     )
+
+grant-text : (s a : ℕ) (x : Right) → recordText (G s a x) ≡ 71 ∷ 9 ∷ (decimal s ++ 9 ∷ a ∷ 9 ∷ rightDigit x ∷ [])
+unfolding recordText rightNumber
+grant-text s a noRight = refl
+grant-text s a mayRead = refl
+grant-text s a mayWrite = refl
 
 record-forms : RecordForms
 unfolding recordText
@@ -350,6 +384,7 @@ record-forms =
       U-text = refl;
       X-text = λ a n r s seed. refl;
       Z-text = λ s. refl;
+      G-text = λ s a x. grant-text s a x;
     }
 
 pub text-exact : TextExact

@@ -1,10 +1,11 @@
 -- The arguments, each file after those it leans on. The terms of the statements of specs/Theorems.antt are in Outcomes (RefusalDrops),
 -- Stays (DeskStays), TypedLines (AcceptedFromLines), Desks (DeskTest), Surveys (SurveyExact), Calls (LentCallsExact), Session (FedInPieces,
--- SessionFed), ReadBack (TypedIn, ListingReadBack) and Sheets (NoShorterSheet); that of specs/Grammar.antt is in Grammar; that of
--- specs/Stations.antt in Counts; those of specs/Demands.antt in Replies (RepliesExact, DeskParts), Exercises (ExercisesFixed),
+-- SessionFed), ReadBack (TypedIn, ListingReadBack) and Sheets (NoShorterSheet); that of specs/Grammar.antt is in Grammar; those of
+-- specs/Stations.antt, specs/Rights.antt and specs/Sights.antt in Counts, Rights and Apart; those of specs/Demands.antt in Replies (RepliesExact, DeskParts), Exercises (ExercisesFixed),
 -- ColumnRefusals, Demand1, Demand2 and Demands; that of specs/Cases.antt in Cases.
 pub mod Outcomes
 pub mod Desks
+pub mod Given
 pub mod Stays
 pub mod OpenPlans
 pub mod Fields
@@ -15,12 +16,19 @@ pub mod TypedLines
 pub mod Calls
 pub mod Session
 pub mod ReadBack
+pub mod Says
 pub mod Conditions
 pub mod Replies
 pub mod Counts
 pub mod Sheets
+pub mod Seen
 pub mod Arranged
 pub mod Surveys
+pub mod Rights
+pub mod Alike
+pub mod Turns
+pub mod Rebuilt
+pub mod Apart
 pub mod ColumnRefusals
 pub mod Demand1
 pub mod Exercises

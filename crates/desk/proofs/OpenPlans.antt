@@ -1,11 +1,11 @@
 -- P, M and E: what each of them does where its tests fail, and what the tests have found where it was done.
-use Prim.Native.Nat.{ℕ, _<_}
+use Prim.Native.Nat.{ℕ, _<_, _≤_}
 use mathlib.Core.Path.{_≡_, refl, ap}
 use mathlib.Core.Logic.{_↔_}
 use mathlib.Core.Bool.{Bool, true, false, _&&_, not}
 use mathlib.Core.List.{[]}
 use mathlib.Core.Option.{none, some}
-use lib.Dec.{T, leb}
+use lib.Dec.{T, leb, leb→le, le→leb}
 use lib.ListN.{length}
 use borrow.Author.Tests.{lt-leb}
 use Rattle.higman.specs.Words.{Shape, given}
@@ -14,13 +14,13 @@ use Rattle.higman.specs.Tables.{Pair}
 use Rattle.higman.specs.Limits.{Bases, shapeInRange, isPlanWord, maxPairs}
 use Rattle.higman.specs.Refusals.{shapeOutside, badWord, pairsFull}
 use Rattle.higman.specs.Answers.{Accepted, verdict}
-use Rattle.higman.specs.Listing.{isSlot}
+use Rattle.higman.specs.Listing.{isSlot, slotNumber}
 use Rattle.higman.proofs.Tests.{all-cons, all-head}
 use Rattle.higman.proofs.KeptPlans.{arity-of-range}
 use Rattle.higman.proofs.Statements.{answers-exact}
-use Rattle.desk.specs.Desk.{Draft, Desk, IsDraft, withDraft, withPair}
-use Rattle.desk.specs.Records.{P, M, E, writing, kind}
-use Rattle.desk.specs.Replies.{pass, _>>=_, Effect, silent, atLimit, keepIn, newDraft, closed, job, operation, _when_}
+use Rattle.desk.specs.Desk.{Draft, Desk, IsDraft, withDraft, withPair, ownRight}
+use Rattle.desk.specs.Records.{P, M, E, writing, kind, neededRight}
+use Rattle.desk.specs.Replies.{pass, _>>=_, Effect, silent, atLimit, keepIn, newDraft, closed, job, operation, _when_, mayUse}
 use Rattle.desk.proofs.Outcomes.{Passes, passes, passes-then, test-failed, test-held, plan-open, passes-operation, operation-pass}
 use Rattle.desk.proofs.Stays.{verdict-accepted}
 
@@ -35,27 +35,38 @@ abbrev pub areWords : Shape → Bytes → Bytes → Bool
 areWords s from to = isPlanWord s (wordOf from) && isPlanWord s (wordOf to)
 
 -- P
-pub open-pass : (d : Desk) → d .draft ≡ none → (b : ℕ) (s : Shape) → T (isSlot b) → T (shapeInRange s)
+pub open-pass : (d : Desk) → d .draft ≡ none → (b : ℕ) (s : Shape) → T (isSlot b) → 2 ≤ ownRight d (slotNumber b) → T (shapeInRange s)
     → operation d (P b (s .arity) (s .roots)) ≡ pass (withDraft d (newDraft b s), silent)
-unfolding job kind _>>=_
-open-pass d e b s h k =
+unfolding job kind neededRight _>>=_
+open-pass d e b s h m k =
     operation-pass d (P b (s .arity) (s .roots)) (withDraft d (newDraft b s), silent)
     (record {
-      admitted = record { open-fits = ap given e; stations-known = tt; slots-named = all-cons (λ u. isSlot (u .slot)) (writing b) [] h tt };
+      admitted = record {
+        open-fits = ap given e;
+        stations-known = tt;
+        slots-named = all-cons (λ u. isSlot (u .slot)) (writing b) [] h tt;
+        allowed = all-cons (mayUse d) (writing b) [] (le→leb 2 (ownRight d (slotNumber b)) m) tt;
+      };
       room = refl;
     })
     (rw (when-held shapeOutside (shapeInRange s) k))
 
 pub record Opened (d : Desk) (b : ℕ) (s : Shape) (e : Effect) : Type 0 where
   pub named : T (isSlot b)
+  pub right : 2 ≤ ownRight d (slotNumber b)
   pub in-range : T (shapeInRange s)
   pub effect : e ≡ (withDraft d (newDraft b s), silent)
 
 pub open-steps : (d : Desk) (b : ℕ) (s : Shape) → Passes (Opened d b s) (operation d (P b (s .arity) (s .roots)))
-unfolding job kind
+unfolding job kind neededRight
 open-steps d b s =
     passes-operation d (P b (s .arity) (s .roots)) (λ t. passes-then (test-held shapeOutside (shapeInRange s))
-    (λ _ k. passes (record { named = all-head (λ u. isSlot (u .slot)) (writing b) [] (t .admitted .slots-named); in-range = k; effect = refl })))
+    (λ _ k. passes (record {
+      named = all-head (λ u. isSlot (u .slot)) (writing b) [] (t .admitted .slots-named);
+      right = leb→le 2 (ownRight d (slotNumber b)) (all-head (mayUse d) (writing b) [] (t .admitted .allowed));
+      in-range = k;
+      effect = refl;
+    })))
 
 -- M, on a desk with an open plan
 pub pair-pass : (d : Desk) (o : Draft) (from to : Bytes) → T (areWords (o .shape) from to) → length (o .rows) < maxPairs
@@ -63,7 +74,7 @@ pub pair-pass : (d : Desk) (o : Draft) (from to : Bytes) → T (areWords (o .sha
 unfolding job kind withDraft _>>=_
 pair-pass d o from to h k =
     operation-pass (withDraft d o) (M from to) (withDraft d (withPair o (typedPair from to)), silent)
-    (record { admitted = record { open-fits = refl; stations-known = tt; slots-named = tt }; room = refl })
+    (record { admitted = record { open-fits = refl; stations-known = tt; slots-named = tt; allowed = tt }; room = refl })
     (rw (when-held badWord (areWords (o .shape) from to) h, lt-leb maxPairs (length (o .rows)) k))
 
 pub record Added (d : Desk) (o : Draft) (from to : Bytes) (e : Effect) : Type 0 where
@@ -84,7 +95,7 @@ pub close-pass : (d : Desk) (o : Draft) → d .draft ≡ some o → verdict (o .
 unfolding job kind _>>=_
 close-pass d o x v l =
     operation-pass d E (keepIn d (o .slot) (closed o))
-    (record { admitted = record { open-fits = ap (λ y. not (given y)) x; stations-known = tt; slots-named = tt }; room = l })
+    (record { admitted = record { open-fits = ap (λ y. not (given y)) x; stations-known = tt; slots-named = tt; allowed = tt }; room = l })
     (rw (x, v))
 
 pub record Closed (d : Desk) (e : Effect) : Type 0 where

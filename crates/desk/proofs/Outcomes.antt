@@ -10,13 +10,14 @@ use Rattle.higman.specs.Limits.{Plan}
 use Rattle.higman.specs.Bases.{all}
 use Rattle.higman.specs.Answers.{Route, Image, TooShort, NotRouted, routed}
 use Rattle.higman.specs.Fronts.{block}
-use Rattle.higman.specs.Refusals.{wrongState, slotOutside, slotEmpty, countFull, stationOutside, Letter}
+use Rattle.higman.specs.Refusals.{wrongState, slotOutside, slotEmpty, countFull, stationOutside, rightMissing, Letter}
 use Rattle.higman.specs.Text.{Bytes, wordOf}
 use Rattle.desk.specs.Desk.{Draft, Desk, held, dropped, isStation}
-use Rattle.desk.specs.Records.{Record, P, M, E, F, I, K, S, W, L, C, T as Tᴿ, U, X, Z, stationsNamed, slotsNamed, isChange}
+use Rattle.desk.specs.Records.{Record, P, M, E, F, I, K, S, W, L, C, T as Tᴿ, U, X, Z, G, stationsNamed, slotsNamed}
+use Rattle.desk.specs.Records.{isChange}
 use Rattle.higman.specs.Listing.{slotNumber, isSlot}
 use Rattle.desk.specs.Replies.{Reply, silent, ok, okNumber, okWord, okBlock, lists, surveys, refuses, Outcome, refuse, pass, _>>=_}
-use Rattle.desk.specs.Replies.{openAmiss, openPlan, planIn, atLimit, ofRoute, job}
+use Rattle.desk.specs.Replies.{openAmiss, openPlan, planIn, mayUse, atLimit, ofRoute, job}
 use Rattle.desk.specs.Replies.{Effect, settle, operation, admission, lineOperation, respondLine}
 use Rattle.desk.specs.Replies.{_when_}
 use Rattle.desk.specs.Theorems.{RefusalDrops}
@@ -81,6 +82,7 @@ pub record Admitted (d : Desk) (r : Record) : Type 0 where
   pub open-fits : openAmiss d r ≡ false
   pub stations-known : T (all isStation (stationsNamed r))
   pub slots-named : T (all (λ u. isSlot (u .slot)) (slotsNamed r))
+  pub allowed : T (all (mayUse d) (slotsNamed r))
 
 pub record Tested (d : Desk) (r : Record) : Type 0 where
   pub admitted : Admitted d r
@@ -91,11 +93,12 @@ unfolding admission
 admitted d r =
     passes-then (test-failed wrongState (openAmiss d r)) (λ _ o.
     passes-then (test-held stationOutside (all isStation (stationsNamed r))) (λ _ s.
-    named (all (λ u. isSlot (u .slot)) (slotsNamed r)) (λ k. record { open-fits = o; stations-known = s; slots-named = k })))
+    passes-then (test-held slotOutside (all (λ u. isSlot (u .slot)) (slotsNamed r))) (λ _ k.
+    last (all (mayUse d) (slotsNamed r)) (λ m. record { open-fits = o; stations-known = s; slots-named = k; allowed = m }))))
   where
-    named : {A : Type 0} (b : Bool) → (T b → A) → Passes (λ _. A) (slotOutside when not b)
-    named true f = passes (f tt)
-    named false f = stops
+    last : {A : Type 0} (b : Bool) → (T b → A) → Passes (λ _. A) (rightMissing when not b)
+    last true f = passes (f tt)
+    last false f = stops
 
 pub passes-operation : (d : Desk) (r : Record) {Q : Effect → Type 0} → (Tested d r → Passes Q (job d r)) → Passes Q (operation d r)
 unfolding operation
@@ -116,6 +119,7 @@ operation-pass d r e t j =
       t .admitted .open-fits,
       test-passed (all isStation (stationsNamed r)) (t .admitted .stations-known),
       test-passed (all (λ u. isSlot (u .slot)) (slotsNamed r)) (t .admitted .slots-named),
+      test-passed (all (mayUse d) (slotsNamed r)) (t .admitted .allowed),
       j,
       t .room,
     )
@@ -162,6 +166,7 @@ job-answers d Tᴿ = passes tt
 job-answers d U = passes tt
 job-answers d (X a n r s seed) = any-then _ (λ _. any-then _ (λ _. passes tt))
 job-answers d (Z s) = passes tt
+job-answers d (G s a x) = any-then _ (λ _. passes tt)
 
 -- only a refusal replies as one
 pub operation-answers : (d : Desk) (r : Record) → Passes Answered (operation d r)

@@ -217,20 +217,20 @@ slot-plain b c h k = ne-eqb b c (λ e. let low : 65 ≤ b = leb→le 65 b (and-l
 
 pub typed-in : TypedIn
 unfolding replyBytes granted
-typed-in d e b h s t k rest =
+typed-in d e b h m s t k rest =
     let table = table-of s t k in
     let range = in-range s (table .in-range) in
     let few = and-left (leb (length t) maxPairs) (all pairFits t) (table .within) in
     let short = and-right (leb (length t) maxPairs) (all pairFits t) (table .within) in
     feed-record d (openLine b s) (P b (s .arity) (s .roots)) (withDraft d (newDraft b s), silent) (joinLines (pairRecords t) ++ rest)
     (open-line-inside b s (slot-plain b lineEnd h (lit< tt))) (open-line-fits b s)
-    (parse-open b s (slot-plain b tab h (lit< tt)) (range .arity-high) (range .roots-high)) (open-pass d e b s h (table .in-range))
+    (parse-open b s (slot-plain b tab h (lit< tt)) (range .arity-high) (range .roots-high)) (open-pass d e b s h m (table .in-range))
     ∙ feed-pairs d (slotNumber b) s t [] rest (table .in-range) (spelt s t (table .from-words) (table .to-words) short)
     (leb→le (length t) maxPairs few)
 
 pub listing-read-back : ListingReadBack
 unfolding replyBytes
-listing-read-back d e room b h p k =
+listing-read-back d e room b h m p k =
     let s : Shape = p .shape in
     let t : Table = p .rows in
     let n = arity-of-range s (k .in-range) in
@@ -239,7 +239,7 @@ listing-read-back d e room b h p k =
     let accepted = answers-exact .accepted s n t from-words to-words .1 (k .bases) in
     let own = normal-form .own s n t (k .bases) .0 (k .reduced, k .in-order) in
     let i : ℕ = slotNumber b in
-    typed-in d e b h s t
+    typed-in d e b h m s t
     (test-table s t (record { in-range = k .in-range; within = k .within; from-words = from-words; to-words = to-words })) closeRecord
     ∙ feed-record (withDraft d (draftOf i s t)) (69 ∷ []) E (changed d i (some p), okNumber (length t)) [] (refl, tt) close-line-fits
     parse-close (operation-close d (draftOf i s t) accepted own room)

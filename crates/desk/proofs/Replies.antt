@@ -12,13 +12,16 @@ use Rattle.higman.proofs.Tests.{clash, all-head}
 use Rattle.higman.specs.Text.{Bytes, wordOf}
 use Rattle.desk.specs.Limits.{stationCount}
 use Rattle.desk.specs.Desk.{Draft, Desk, freshDesk, countOf, held, IsDesk, changed, withDraft, withPair, dropped, atStation}
-use Rattle.desk.specs.Records.{Record, P, M, E, F, I, K, S, W, L, C, T, U, X, Z, Use, reads, target, SlotUse, reading, writing, kind}
-use Rattle.desk.specs.Records.{needsOpen, slotsNamed, isChange}
+use Rattle.desk.specs.Desk.{withRight}
+use Rattle.desk.specs.Records.{Record, P, M, E, F, I, K, S, W, L, C, T, U, X, Z, Use, reads, target, SlotUse, reading, writing}
+use Rattle.desk.specs.Records.{mentions, kind}
+use Rattle.desk.specs.Records.{needsOpen, slotsNamed, isChange, G, mentioning}
 use Rattle.higman.specs.Listing.{slotNumber, isSlot}
 use Rattle.desk.specs.Replies.{Effect, silent, ok, okNumber, lists, surveys, isOpen, surveyed, newDraft, job, operation}
-use Rattle.desk.specs.Demands.{RepliesExact, SlotsUsed, DeskParts}
+use Rattle.desk.specs.Demands.{RepliesExact, Written, SlotsUsed, DeskParts}
 use Rattle.desk.proofs.Outcomes.{Passes, passes, passes-then, any-then, passed, plan-held, plan-open, passes-operation}
-use Rattle.desk.proofs.Stays.{set-here, set-elsewhere, replicated, counted-own, counted-other}
+use Rattle.desk.proofs.Given.{set-here, set-elsewhere, replicated}
+use Rattle.desk.proofs.Stays.{counted-own, counted-other}
 
 -- no plan is open where the test says so
 not-open : (d : Desk) → isOpen d ≡ false → d .draft ≡ none
@@ -88,7 +91,7 @@ unfolding changed
 raised d i x D = counted-own (d .control) (D .control)
 
 count-of : (d : Desk) (r : Record) → Passes (Counts (isChange r) d) (job d r)
-unfolding job kind withDraft atStation
+unfolding job kind withDraft atStation withRight
 count-of d (P a n r) = any-then _ (λ _. passes (refl, refl))
 count-of d (M from to) = any-then _ (λ _. any-then _ (λ _. any-then _ (λ _. passes (refl, refl))))
 count-of d E = any-then _ (λ _. any-then _ (λ _. passes (raised d _ _)))
@@ -103,6 +106,7 @@ count-of d T = passes (refl, refl)
 count-of d U = passes (refl, refl)
 count-of d (X a n r s seed) = any-then _ (λ _. any-then _ (λ _. passes (raised d _ _)))
 count-of d (Z s) = passes (refl, refl)
+count-of d (G s a x) = any-then _ (λ _. passes (refl, refl))
 
 operation-counts : (d : Desk) (r : Record) → Passes (Counts (isChange r) d) (operation d r)
 operation-counts d r = passes-operation d r (λ _. count-of d r)
@@ -132,10 +136,11 @@ desk-parts =
       changed-station = λ d i x. refl;
       changed-count = λ d i x D. counted-own (d .control) (D .control);
       other-counts = λ d i s x n. counted-other (d .control) s n;
+      changed-rights = λ d i x. refl;
       changed-open = λ d i x. refl;
       drafted = λ d o. (refl, refl, refl);
       dropped-parts = λ d. (refl, refl, refl);
-      station-parts = λ d s. (refl, refl, refl, refl);
+      station-parts = λ d s. (refl, refl, refl, refl, refl);
     }
 
 -- a slot that is read holds a plan, at the first place of some uses and at the others
@@ -153,16 +158,20 @@ reading-held d a us p x rest u m e = by-place (List·Memᴰ·cases-cons m)
     by-place (inl h) = (p, subst (λ v. held d (slotNumber (v .slot)) ≡ some p) (sym h) x)
     by-place (inr k) = rest u k e
 
-abbrev IsTarget : Use → Type 0
-IsTarget reads = ⊥
-IsTarget target = Unit {0}
+abbrev ReadsNot : Use → Type 0
+ReadsNot reads = ⊥
+ReadsNot target = Unit {0}
+ReadsNot mentions = Unit {0}
+
+unread-held : (d : Desk) (v : SlotUse) → ReadsNot (v .does) → (us : List SlotUse) → ReadsHeld d us → ReadsHeld d (v ∷ us)
+unread-held d v n us rest u m e = by-place (List·Memᴰ·cases-cons m)
+  where
+    by-place : (u ≡ v) ⊎ List·Memᴰ u us → (q : Plan) × (held d (slotNumber (u .slot)) ≡ some q)
+    by-place (inl h) = absurd (subst ReadsNot (sym (ap (λ v. v .does) h) ∙ e) n)
+    by-place (inr k) = rest u k e
 
 writing-held : (d : Desk) (a : ℕ) (us : List SlotUse) → ReadsHeld d us → ReadsHeld d (writing a ∷ us)
-writing-held d a us rest u m e = by-place (List·Memᴰ·cases-cons m)
-  where
-    by-place : (u ≡ writing a) ⊎ List·Memᴰ u us → (q : Plan) × (held d (slotNumber (u .slot)) ≡ some q)
-    by-place (inl h) = absurd (subst IsTarget (sym (ap (λ v. v .does) h) ∙ e) tt)
-    by-place (inr k) = rest u k e
+writing-held d a us rest = unread-held d (writing a) tt us rest
 
 job-reads : (d : Desk) (r : Record) → Passes (λ _. ReadsHeld d (slotsNamed r)) (job d r)
 unfolding job kind
@@ -187,6 +196,7 @@ job-reads d T = passes (no-uses d)
 job-reads d U = passes (no-uses d)
 job-reads d (X a n r s seed) = any-then _ (λ _. any-then _ (λ _. passes (writing-held d a [] (no-uses d))))
 job-reads d (Z s) = passes (no-uses d)
+job-reads d (G s a x) = any-then _ (λ _. passes (unread-held d (mentioning a) tt [] (no-uses d)))
 
 -- slots other than the targets are as they were
 abbrev Spares : Desk → Record → Effect → Type 0
@@ -195,7 +205,7 @@ Spares d r e =
     → held (e .0) j ≡ held d j
 
 job-spares : (d : Desk) (r : Record) → Passes (Spares d r) (job d r)
-unfolding job kind withDraft atStation
+unfolding job kind withDraft atStation withRight
 job-spares d (P a n r) = any-then _ (λ _. passes (λ o j h. refl))
 job-spares d (M from to) = any-then _ (λ _. any-then _ (λ _. any-then _ (λ _. passes (λ o. absurd (clash refl o)))))
 job-spares d E = any-then _ (λ _. any-then _ (λ _. passes (λ o. absurd (clash refl o))))
@@ -219,10 +229,64 @@ job-spares d (X a n r s seed) =
     any-then _ (λ _. any-then _ (λ p. passes (λ o j h. desk-parts .changed-elsewhere d (slotNumber a) j (some p)
     (h (writing a) (List·Memᴰ·head refl) refl))))
 job-spares d (Z s) = passes (λ o j h. refl)
+job-spares d (G s a x) = any-then _ (λ _. passes (λ o j h. refl))
+
+-- a target is written
+abbrev Writes : Desk → List SlotUse → Desk → Type 0
+Writes d us c = (u : SlotUse) → List·Memᴰ u us → u .does ≡ target → Written d (slotNumber (u .slot)) c
+
+no-targets : (d : Desk) (e : Desk) → Writes d [] e
+no-targets d e u m q = absurd (List·Memᴰ·not-nil m)
+
+target-written : (d : Desk) (a : ℕ) (us : List SlotUse) (e : Desk) → Written d (slotNumber a) e → Writes d us e
+    → Writes d (writing a ∷ us) e
+target-written d a us e x rest u m q = by-place (List·Memᴰ·cases-cons m)
+  where
+    by-place : (u ≡ writing a) ⊎ List·Memᴰ u us → Written d (slotNumber (u .slot)) e
+    by-place (inl h) = subst (λ v. Written d (slotNumber (v .slot)) e) (sym h) x
+    by-place (inr k) = rest u k q
+
+abbrev WritesNot : Use → Type 0
+WritesNot reads = Unit {0}
+WritesNot target = ⊥
+WritesNot mentions = Unit {0}
+
+no-target : (d : Desk) (v : SlotUse) → WritesNot (v .does) → (us : List SlotUse) (e : Desk) → Writes d us e → Writes d (v ∷ us) e
+no-target d v n us e rest u m q = by-place (List·Memᴰ·cases-cons m)
+  where
+    by-place : (u ≡ v) ⊎ List·Memᴰ u us → Written d (slotNumber (u .slot)) e
+    by-place (inl h) = absurd (subst WritesNot (sym (ap (λ v. v .does) h) ∙ q) n)
+    by-place (inr k) = rest u k q
+
+job-writes : (d : Desk) (r : Record) → Passes (λ e. Writes d (slotsNamed r) (e .0)) (job d r)
+unfolding job kind
+job-writes d (P a n r) = any-then _ (λ _. passes (target-written d a [] _ (inr (_, refl, refl)) (no-targets d _)))
+job-writes d (M from to) = any-then _ (λ _. any-then _ (λ _. any-then _ (λ _. passes (no-targets d _))))
+job-writes d E = any-then _ (λ _. any-then _ (λ _. passes (no-targets d _)))
+job-writes d (F a b c) =
+    any-then _ (λ _. any-then _ (λ _. any-then _ (λ r. passes (no-target d (reading a) tt _ _ (no-target d (reading b) tt _ _
+    (target-written d c [] _ (inl (some r, refl)) (no-targets d _)))))))
+job-writes d (I a c) = any-then _ (λ _. any-then _ (λ r. passes
+    (no-target d (reading a) tt _ _ (target-written d c [] _ (inl (some r, refl)) (no-targets d _)))))
+job-writes d (K a k c) =
+    any-then _ (λ _. any-then _ (λ _. any-then _ (λ r. passes
+    (no-target d (reading a) tt _ _ (target-written d c [] _ (inl (some r, refl)) (no-targets d _))))))
+job-writes d (S a b) =
+    any-then _ (λ _. any-then _ (λ _. any-then _ (λ _. passes
+    (no-target d (reading a) tt _ _ (no-target d (reading b) tt _ _ (no-targets d _))))))
+job-writes d (W a code) = any-then _ (λ _. any-then _ (λ _. passes (no-target d (reading a) tt _ _ (no-targets d _))))
+job-writes d (L a) = any-then _ (λ _. passes (no-target d (reading a) tt _ _ (no-targets d _)))
+job-writes d (C a) = any-then _ (λ _. passes (target-written d a [] _ (inl (none, refl)) (no-targets d _)))
+job-writes d T = passes (no-targets d _)
+job-writes d U = passes (no-targets d _)
+job-writes d (X a n r s seed) = any-then _ (λ _. any-then _ (λ p. passes (target-written d a [] _ (inl (some p, refl)) (no-targets d _))))
+job-writes d (Z s) = passes (no-targets d _)
+job-writes d (G s a x) = any-then _ (λ _. passes (no-target d (mentioning a) tt _ _ (no-targets d _)))
 
 pub slots-used : SlotsUsed
 slots-used =
     record {
       reads-held = λ d r e h. passed (passes-operation d r (λ _. job-reads d r)) e h;
       only-targets = λ d r e h. passed (passes-operation d r (λ _. job-spares d r)) e h;
+      targets = λ d r e h. passed (passes-operation d r (λ _. job-writes d r)) e h;
     }

@@ -1,15 +1,15 @@
 -- A desk stays one, whatever line it is given. What is kept is a kept plan by higman's theorems; the rest is that one slot is
 -- written and the others are not.
-use Prim.Native.Nat.{ℕ, zero, suc, _+_, _≤_, _<_}
+use Prim.Native.Nat.{ℕ, zero, suc, _+_, _-_, _≤_, _<_}
 use native.Mathlib.Omega.{arith}
-use mathlib.Core.Path.{_≡_, refl, sym, _∙_, ap, subst}
+use mathlib.Core.Path.{_≡_, refl, sym, _∙_, subst}
 use mathlib.Core.Logic.{_⊎_, inl, inr}
 use mathlib.Core.Bool.{Bool, true, false, _&&_}
 use mathlib.Core.List.{List, [], _∷_, _++_, map-append, List·Memᴰ, List·Memᴰ·head}
 use mathlib.Core.Option.{Option, none, some, Option·some-injective, Option·none-ne-some}
 use borrow.Author.Tests.{leb-false, eqb-true, eqb-false}
-use lib.Dec.{T, leb, eqb, le→leb, nleb→lt, not-T}
-use lib.ListN.{length, getD, set, replicate, length-set, length-append, length-replicate}
+use lib.Dec.{T, leb, eqb, le→leb, nleb→lt, not-T, lit≤}
+use lib.ListN.{length, getD, set, length-set, length-append, length-replicate}
 use Rattle.higman.specs.Words.{Shape, isWord}
 use Rattle.higman.specs.Bases.{all}
 use Rattle.higman.specs.Tables.{Pair, Table, froms, tos}
@@ -25,17 +25,19 @@ use Rattle.higman.proofs.KeptPlans.{arity-of-range}
 use Rattle.higman.specs.Text.{Bytes, wordOf}
 use Rattle.higman.proofs.PlanWords.{word-of-plan-word, plan-word-fits}
 use Rattle.higman.specs.Refusals.{wrongState, shapeOutside, badWord, pairsFull, slotEmpty}
-use Rattle.desk.specs.Limits.{stationCount, maxChanges}
+use Rattle.desk.specs.Limits.{stationCount, maxRight, maxChanges}
 use Rattle.desk.specs.Desk.{Draft, Control, Desk, freshControl, freshDesk, changesOf, countIn, countOf, held, IsDraft, IsControl}
-use Rattle.desk.specs.Desk.{IsDesk, counted}
+use Rattle.desk.specs.Desk.{IsDesk, counted, giving, withRight}
 use Rattle.desk.specs.Desk.{changed, withDraft, dropped, naming, atStation, withPair, isStation}
-use Rattle.desk.specs.Records.{Record, P, M, E, F, I, K, S, W, L, C, T as Tᴿ, U, X, Z, SlotUse, writing, slotsNamed, kind}
+use Rattle.desk.specs.Records.{Record, P, M, E, F, I, K, S, W, L, C, T as Tᴿ, U, X, Z, G, SlotUse, writing, slotsNamed}
+use Rattle.desk.specs.Records.{Right, noRight, mayRead, mayWrite, rightNumber, kind}
 use Rattle.higman.specs.Listing.{slotNumber, isSlot}
 use Rattle.desk.specs.Replies.{Outcome, refuse, pass, openPlan, planIn, atLimit, ofVerdict, ofAnswer, Effect, newDraft, closed, job}
 use Rattle.desk.specs.Replies.{operation, recordOf, lineOperation, settle, respondLine}
 use Rattle.desk.specs.Theorems.{DeskStays}
 use Rattle.desk.proofs.Desks.{station-test}
 use Rattle.desk.proofs.Outcomes.{Passes, stops, passes, passes-then, any-then, test-failed, test-held, Tested, passes-operation}
+use Rattle.desk.proofs.Given.{set-here, set-elsewhere, replicated, given-rights, fresh-rights}
 
 -- what a slot holds after one was written: what was written, or what it held
 held-set : (l : List (Option Plan)) (i j : ℕ) (x : Option Plan) (p : Plan) → getD (set l i x) j none ≡ some p
@@ -48,24 +50,6 @@ held-set (y ∷ l) (suc i) (suc j) x p e = held-set l i j x p e
 
 pub below-limit : (d : Desk) → atLimit d ≡ false → countOf d < maxChanges
 below-limit d e = leb-false maxChanges (countOf d) e
-
--- a list with one place written, and one that has the same at all places
-pub set-here : {A : Type 0} (l : List A) (i : ℕ) (x z : A) → i < length l → getD (set l i x) i z ≡ x
-set-here [] i x z h = absurd (omega arith)
-set-here (y ∷ l) zero x z h = refl
-set-here (y ∷ l) (suc i) x z h = set-here l i x z (omega arith)
-
-pub set-elsewhere : {A : Type 0} (l : List A) (i j : ℕ) (x z : A) → (i ≡ j → ⊥) → getD (set l i x) j z ≡ getD l j z
-set-elsewhere [] i j x z h = refl
-set-elsewhere (y ∷ l) zero zero x z h = absurd (h refl)
-set-elsewhere (y ∷ l) zero (suc j) x z h = refl
-set-elsewhere (y ∷ l) (suc i) zero x z h = refl
-set-elsewhere (y ∷ l) (suc i) (suc j) x z h = set-elsewhere l i j x z (λ e. h (ap suc e))
-
-pub replicated : {A : Type 0} (n i : ℕ) (x : A) → getD (replicate n x) i x ≡ x
-replicated zero i x = refl
-replicated (suc n) zero x = refl
-replicated (suc n) (suc i) x = replicated n i x
 
 -- a change more, of the station that is named: its own count is one higher, and the others are what they were
 module _ (c : Control) where
@@ -81,6 +65,7 @@ module _ (c : Control) where
         named = h .named;
         each = length-set (c .changes) (c .station) (countIn c + 1) ∙ h .each;
         within = λ s. by s (eqb (c .station) s) refl;
+        rights = h .rights;
       }
     where
       by : (s : ℕ) (t : Bool) → eqb (c .station) s ≡ t → changesOf (counted c) s ≤ maxChanges
@@ -88,7 +73,11 @@ module _ (c : Control) where
       by s false e = omega (arith, counted-other s (eqb-false (c .station) s e), h .within s)
 
   pub naming-control : IsControl c → (s : ℕ) → s < stationCount → IsControl (naming c s)
-  naming-control h s k = record { named = k; each = h .each; within = h .within }
+  naming-control h s k = record { named = k; each = h .each; within = h .within; rights = h .rights }
+
+  pub giving-control : IsControl c → (s i x : ℕ) → x ≤ maxRight → IsControl (giving c s i x)
+  giving-control h s i x k =
+      record { named = h .named; each = h .each; within = h .within; rights = given-rights (c .rights) (h .rights) s i x k }
 
 some-station : 0 < stationCount
 unfolding stationCount
@@ -100,6 +89,7 @@ fresh-control =
       named = some-station;
       each = length-replicate stationCount 0;
       within = λ s. omega (arith, replicated {A = ℕ} stationCount s 0);
+      rights = fresh-rights;
     }
 
 no-draft : {A : Type 0} {o : Draft} → none ≡ some o → A
@@ -132,6 +122,22 @@ station-desk : (d : Desk) → IsDesk d → (s : ℕ) → s < stationCount → Is
 unfolding atStation
 station-desk d h s k =
     record { eight = h .eight; kept = h .kept; drafted = h .drafted; control = naming-control (d .control) (h .control) s k }
+
+right-desk : (d : Desk) → IsDesk d → (s i : ℕ) (x : Right) → IsDesk (withRight d s i (rightNumber x))
+unfolding withRight rightNumber maxRight
+right-desk d h s i x =
+    record {
+      eight = h .eight;
+      kept = h .kept;
+      drafted = h .drafted;
+      control =
+          giving-control (d .control) (h .control) s i (rightNumber x) (within x);
+    }
+  where
+    within : (x : Right) → rightNumber x ≤ maxRight
+    within noRight = lit≤ tt
+    within mayRead = lit≤ tt
+    within mayWrite = lit≤ tt
 
 fresh-desk : IsDesk freshDesk
 unfolding freshDesk
@@ -250,6 +256,7 @@ job-stays d h Tᴿ t = passes h
 job-stays d h U t = passes h
 job-stays d h (Z s) t =
     passes (station-desk d h s (station-test s .0 (all-head isStation s [] (t .admitted .stations-known))))
+job-stays d h (G s a x) t = any-then _ (λ _. passes (right-desk d h s (slotNumber a) x))
 job-stays d h (X a n r s seed) t =
     let shape : Shape = record { arity = n; roots = r } in
     passes-then (test-held shapeOutside (shapeInRange shape)) (λ _ y. passes-then

@@ -1,4 +1,4 @@
--- What U lists: the slots are gone through by ascending number, so each held slot is met once, and arranging them neither drops nor repeats
+-- What U lists: the slots that are seen are gone through by ascending number, so each held one is met once, and arranging them neither drops nor repeats
 -- one. Two lists of the same slots in that order are equal: of the first lines of both, each would come before the other.
 use Prim.Native.Nat.{ℕ, zero, suc, _+_, _-_, _≤_, _<_}
 use native.Mathlib.Nat.{le-refl}
@@ -11,10 +11,11 @@ use mathlib.Core.Option.{Option, none, some, Option·none-ne-some, Option·some-
 use lib.ListN.{length, getD}
 use Rattle.higman.specs.Limits.{Plan}
 use Rattle.higman.proofs.Expansions.{mem-of-perm}
-use Rattle.desk.specs.Desk.{Desk, held}
+use Rattle.desk.specs.Desk.{Desk, ownRight, held, seen}
 use Rattle.desk.specs.Replies.{Held, heldFrom, pairsIn, comesBefore, surveyed}
 use Rattle.desk.specs.Theorems.{Before, InOrder, NoneTwice, SurveyOf, SurveyExact}
 use Rattle.desk.proofs.Replies.{replies-exact}
+use Rattle.desk.proofs.Seen.{held-of-seen, seen-of-held}
 use Rattle.desk.proofs.Arranged.{arranged-perm, arranged-sorted, Sorted, Comparable, before-of-test, first-transitive, first-other}
 
 abbrev at : ℕ → Plan → Held
@@ -130,14 +131,14 @@ once-each d (h ∷ hs) x a =
 pub survey-of : (d : Desk) → SurveyOf d (surveyed d)
 unfolding surveyed
 survey-of d =
-    let hs = heldFrom 0 (d .slots) in
+    let hs = heldFrom 0 (seen d) in
     let perm = arranged-perm comesBefore hs in
-    let holds : (i : ℕ) (p : Plan) → List·Memᴰ (at i p) (surveyed d) → held d i ≡ some p =
-    λ i p m. held-of-listed (d .slots) i p (mem-of-perm perm m) in
-    let ordered = in-order (surveyed d) (arranged-sorted comesBefore before-transitive hs (comparable hs (met-once (d .slots) 0))) in
+    let shows : (i : ℕ) (p : Plan) → List·Memᴰ (at i p) (surveyed d) → (held d i ≡ some p) × (1 ≤ ownRight d i) =
+    λ i p m. held-of-seen d i p (held-of-listed (seen d) i p (mem-of-perm perm m)) in
+    let ordered = in-order (surveyed d) (arranged-sorted comesBefore before-transitive hs (comparable hs (met-once (seen d) 0))) in
     record {
-      each = λ i p. (λ e. mem-of-perm (Permᴰ·symm perm) (listed-of-held (d .slots) i p e), holds i p);
-      once = once-each d (surveyed d) (λ h. holds (h .slot) (h .plan)) ordered;
+      each = λ i p. (λ (e, r). mem-of-perm (Permᴰ·symm perm) (listed-of-held (seen d) i p (seen-of-held d i p e r)), shows i p);
+      once = once-each d (surveyed d) (λ h m. shows (h .slot) (h .plan) m .0) ordered;
       in-order = ordered;
     }
 

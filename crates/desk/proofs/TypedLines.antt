@@ -18,11 +18,11 @@ use Rattle.higman.specs.Normal.{keep}
 use Rattle.higman.specs.Limits.{Bases, shapeInRange, granted, pairFits, isPlanWord, maxPairs, maxDigits}
 use Rattle.higman.specs.Answers.{Accepted, verdict}
 use Rattle.higman.specs.Refusals.{Letter}
-use Rattle.higman.specs.Listing.{isSlot}
+use Rattle.higman.specs.Listing.{isSlot, slotNumber}
 use Rattle.higman.proofs.Tests.{passes, clash, and-left, and-right, all-cons, all-head, all-tail}
 use Rattle.higman.proofs.PlanWords.{plan-word-length}
 use Rattle.desk.specs.Limits.{maxChanges, maxLine}
-use Rattle.desk.specs.Desk.{Draft, Desk, countOf, IsDraft, changed, withDraft, withPair, dropped}
+use Rattle.desk.specs.Desk.{Draft, Desk, countOf, IsDraft, changed, withDraft, withPair, dropped, ownRight}
 use Rattle.desk.specs.Records.{Record, P, M, E, recordFields, recordText, noTab, hasDigits, wellFormed, needsOpen, kind}
 use Rattle.desk.specs.Conditions.{refusalOf}
 use Rattle.desk.specs.Replies.{Outcome, refuse, pass, Effect, silent, isOpen, openAmiss, keepIn, newDraft, closed, settle, job}
@@ -248,14 +248,15 @@ module _ (d : Desk) (none-open : d .draft ≡ none) where
     behind : T (all wellFormed (pairsAndEnd ps))
     behind = all-tail wellFormed opening (pairsAndEnd ps) w
 
-    opened-left : T (isSlot b) → T (shapeInRange s) → left d (typedRecords b s ps) ≡ left (withDraft d (newDraft b s)) (pairsAndEnd ps)
-    opened-left h k =
+    opened-left : T (isSlot b) → 2 ≤ ownRight d (slotNumber b) → T (shapeInRange s)
+        → left d (typedRecords b s ps) ≡ left (withDraft d (newDraft b s)) (pairsAndEnd ps)
+    opened-left h m k =
         done-left d opening (pairsAndEnd ps) (withDraft d (newDraft b s), silent) (all-head wellFormed opening (pairsAndEnd ps) w)
-        (open-line-fits b s (all-head wellFormed opening (pairsAndEnd ps) w)) (open-pass d none-open b s h k)
+        (open-line-fits b s (all-head wellFormed opening (pairsAndEnd ps) w)) (open-pass d none-open b s h m k)
 
     kept : Acceptable d b s (typedTable ps) → left d (typedRecords b s ps) ≡ completed d (newDraft b s) (typedTable ps)
     kept a =
-        opened-left (a .slot-named) (a .in-range)
+        opened-left (a .slot-named) (a .right) (a .in-range)
         ∙ pairs-kept ps (newDraft b s) (new-draft b s (slot-below b (a .slot-named)) (a .in-range)) behind
         (record { words = a .words; few = a .few; bases = a .bases; room = a .room })
 
@@ -268,9 +269,17 @@ module _ (d : Desk) (none-open : d .draft ≡ none) where
             ∙ closed-left d none-open (pairsAndEnd ps) (all-need-open ps) behind
         by-outcome (pass e) h =
             let o = passed (open-steps d b s) e h in
-            opened-left (o .named) (o .in-range)
+            opened-left (o .named) (o .right) (o .in-range)
             ∙ pairs-not-kept ps (newDraft b s) (new-draft b s (slot-below b (o .named)) (o .in-range)) behind
-            (λ c. never (record { slot-named = o .named; in-range = o .in-range; words = c .words; few = c .few; bases = c .bases; room = c .room }))
+            (λ c. never (record {
+              slot-named = o .named;
+              right = o .right;
+              in-range = o .in-range;
+              words = c .words;
+              few = c .few;
+              bases = c .bases;
+              room = c .room;
+            }))
 
 pub accepted-from-lines : AcceptedFromLines
 accepted-from-lines = record { kept = λ d h b s ps w a. kept d h b s ps w a; not-kept = λ d h b s ps w a. not-kept d h b s ps w a }

@@ -10,9 +10,9 @@ use Rattle.higman.specs.Text.{Bytes, bytes}
 use Rattle.higman.specs.Refusals.{bufferTooShort, invalidValue}
 use Rattle.higman.specs.Buffers.{ifRoom, lentInto}
 use Rattle.higman.specs.Limits.{slotCount}
-use Rattle.desk.specs.Limits.{stationCount, maxChanges}
-use Rattle.desk.specs.Desk.{Desk, freshDesk, dropped, atCount, isControl, isDesk}
-use Rattle.desk.specs.Records.{T, kind}
+use Rattle.desk.specs.Limits.{stationCount, maxRight, maxChanges}
+use Rattle.desk.specs.Desk.{Desk, freshDesk, dropped, atCount, areRights, isControl, isDesk}
+use Rattle.desk.specs.Records.{T, neededRight, kind}
 use Rattle.desk.specs.Replies.{Reply, okNumber, Outcome, refuse, pass, _>>=_, Effect, settle, job, operation, admission}
 use Rattle.desk.specs.Bytes.{replyBytes}
 
@@ -65,16 +65,19 @@ abbrev counting : Work
 counting d = operation d T
 
 lentCall-example : lentCall freshDesk counting (bytes ".......") ≡ (freshDesk, record { buffer = bytes "ok\t0\n.."; answer = pass 5 })
-unfolding _>>=_ lentCall lent isDesk isControl operation admission job kind replyBytes freshDesk slotCount stationCount maxChanges
+unfolding _>>=_ lentCall lent isDesk isControl areRights operation admission job kind neededRight replyBytes freshDesk slotCount
+    stationCount maxRight maxChanges
 lentCall-example = refl
 
 too-short-example : lentCall freshDesk counting (bytes "....") ≡ (freshDesk, record { buffer = bytes "...."; answer = refuse 14 none })
-unfolding _>>=_ lentCall lent isDesk isControl operation admission job kind replyBytes freshDesk dropped slotCount stationCount maxChanges
+unfolding _>>=_ lentCall lent isDesk isControl areRights operation admission job kind neededRight replyBytes freshDesk dropped slotCount
+    stationCount maxRight maxChanges
 too-short-example = refl
 
 -- the same call lent nothing: the desk stays, and the reply is the count
 plainCall-example : plainCall freshDesk counting ≡ (freshDesk, pass (okNumber 0))
-unfolding _>>=_ plainCall isDesk isControl operation admission job kind freshDesk slotCount stationCount maxChanges
+unfolding _>>=_ plainCall isDesk isControl areRights operation admission job kind neededRight freshDesk slotCount stationCount maxRight
+    maxChanges
 plainCall-example = refl
 
 -- no desk: its count is above the limit
@@ -82,5 +85,5 @@ abbrev noDesk : Desk
 noDesk = atCount freshDesk (maxChanges + 1)
 
 no-desk-example : lentCall noDesk counting (bytes ".") ≡ (noDesk, record { buffer = bytes "."; answer = refuse 15 none })
-unfolding lentCall lent isDesk isControl freshDesk slotCount stationCount maxChanges
+unfolding lentCall lent isDesk isControl areRights freshDesk slotCount stationCount maxChanges
 no-desk-example = refl

@@ -76,8 +76,23 @@ surveySessions =
     gives ("ok\t3" ∷ "ok\t3" ∷ "ok\t1" ∷ "A\t2\t1\t3" ∷ "C\t2\t1\t3" ∷ "B\t2\t1\t1" ∷ "ok\t3" ∷ "ok" ∷ "C\t2\t1\t3" ∷ "B\t2\t1\t1" ∷ "ok\t2" ∷ [])) ∷
     []
 
+-- Rights (change request E6): station 0 keeps a plan in A and lets station 1 read it, and not see B. Then 8 before 20, 20 before 9, a slot
+-- that is read and written, U, the counts, and G from station 1, for station 0, for a station and on a slot that there aren't, of 3.
+unfoldable pub rightsSessions : List Case
+rightsSessions =
+    (typeψ ++ typeφInB ++ ("G\t1\tA\t1" ∷ "G\t1\tB\t0" ∷ "Z\t1" ∷ "S\tA\tA" ∷ "S\tA\tB" ∷ "S\tB\tI" ∷ "I\tA\tA" ∷ "I\tA\tC" ∷ "C\tA"
+    ∷ "L\tB" ∷ "L\tD" ∷ "U" ∷ "T" ∷ "G\t1\tA\t2" ∷ "Z\t0" ∷ "U" ∷ "T" ∷ [])
+    gives ("ok\t3" ∷ "ok\t3" ∷ "ok" ∷ "ok" ∷ "ok" ∷ "ok\t1" ∷ "no\t20" ∷ "no\t8" ∷ "no\t20" ∷ "ok\t3" ∷ "no\t20" ∷ "no\t20" ∷ "no\t9"
+    ∷ "A\t2\t1\t3" ∷ "C\t2\t1\t3" ∷ "ok\t2" ∷ "ok\t1" ∷ "no\t19" ∷ "ok" ∷ "A\t2\t1\t3" ∷ "B\t2\t1\t3" ∷ "C\t2\t1\t3" ∷ "ok\t3"
+    ∷ "ok\t2" ∷ [])) ∷
+    (("G\t0\tA\t1" ∷ "G\t8\tI\t1" ∷ "G\t1\tI\t1" ∷ "G\t1\tA\t3" ∷ "G\t1\tA\t1" ∷ "Z\t1" ∷ "P\tA\t1\t1" ∷ "P\tB\t1\t1" ∷ "P\tB\t2\t1"
+    ∷ "G\t1\tA\t3" ∷ "E" ∷ [])
+    gives ("no\t19" ∷ "no\t18" ∷ "no\t8" ∷ "no\t1" ∷ "ok" ∷ "ok" ∷ "no\t20" ∷ "no\t3" ∷ "no\t1" ∷ "no\t2" ∷ [])) ∷
+    []
+
 -- "The ★ cases stand in one table, proved through one statement about the definitions."
 pub record DeskCases : Type 0 where
   pub star : AllHold starSessions
   pub others : AllHold otherSessions
   pub survey : AllHold surveySessions
+  pub rights : AllHold rightsSessions

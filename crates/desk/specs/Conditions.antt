@@ -9,7 +9,7 @@ use mathlib.Core.Path.{_≡_, refl}
 use mathlib.Core.Bool.{Bool, true, false, _&&_, _||_, not}
 use mathlib.Core.List.{List, [], _∷_, map}
 use mathlib.Core.Option.{Option, none, some}
-use lib.Dec.{leb}
+use lib.Dec.{leb, eqb}
 use lib.IntN.{pos, natAbs}
 use lib.ListN.{length}
 use Rattle.higman.specs.Words.{count, given}
@@ -21,10 +21,13 @@ use Rattle.higman.specs.Limits.{seedInRange, pairFits}
 use Rattle.higman.specs.Answers.{sameShape}
 use Rattle.higman.specs.Exercises.{exercised}
 use Rattle.higman.specs.Refusals.{wrongState, shapeOutside, badWord, pairsFull, wordsOverlap, rootUncovered, slotOutside, slotEmpty}
-use Rattle.higman.specs.Refusals.{shapesDiffer, limitBroken, powerOutside, countFull, seedOutside, stationOutside, Letter}
+use Rattle.higman.specs.Refusals.{shapesDiffer, limitBroken, powerOutside, countFull, seedOutside, stationOutside, stationRefused}
+use Rattle.higman.specs.Refusals.{rightMissing}
+use Rattle.higman.specs.Refusals.{Letter}
 use Rattle.higman.specs.Text.{byte, wordOf}
-use Rattle.desk.specs.Desk.{Draft, Desk, freshDesk, held, isStation}
-use Rattle.desk.specs.Records.{Record, P, M, E, F, I, K, S, W, L, C, T, U, X, Z}
+use Rattle.desk.specs.Limits.{maxRight}
+use Rattle.desk.specs.Desk.{Draft, Desk, freshDesk, stationOf, ownRight, held, isStation}
+use Rattle.desk.specs.Records.{Record, P, M, E, F, I, K, S, W, L, C, T, U, X, Z, G}
 use Rattle.higman.specs.Listing.{slotNumber, isSlot}
 use Rattle.desk.specs.Replies.{Outcome, refuse, pass, isOpen, atLimit}
 
@@ -46,6 +49,10 @@ inColumn n c b = record { number = n; column = some c; holds = b }
 abbrev pub outsideOf : List ℕ → Bool
 outsideOf bs = not (all isSlot bs)
 
+-- the named station's right on one of these slots is less than this
+abbrev pub lacks : Desk → ℕ → List ℕ → Bool
+lacks d right bs = not (all (λ b. leb right (ownRight d (slotNumber b))) bs)
+
 -- no plan in the slot
 abbrev pub isEmpty : Desk → ℕ → Bool
 isEmpty d a = not (given (held d (slotNumber a)))
@@ -60,11 +67,14 @@ ofOpen d test = elim (d .draft) [ none ↦ false | some o ↦ test o ]
 abbrev pub ofBoth : Desk → ℕ → ℕ → (Plan → Plan → Bool) → Bool
 ofBoth d a b test = ofPlan d a (λ p. ofPlan d b (λ q. test p q))
 
+-- In every line that names slots: "20, a missing right, right after 8 wherever slots are named", where "Reading needs 1, P, X, C or a target
+-- needs 2" (change request E6).
 unfoldable pub conditions : Desk → Record → List Condition
 -- "P: then 8, a slot byte outside A to H; 3, n or r outside its range."
 conditions d (P a n r) =
     (wrongState if isOpen d) ∷
     (slotOutside if outsideOf (a ∷ [])) ∷
+    (rightMissing if lacks d 2 (a ∷ [])) ∷
     (shapeOutside if not (shapeInRange (record { arity = n; roots = r }))) ∷
     []
 -- "M: then 4, a word that is empty, too long or has a wrong digit; 5, a 129th pair."
@@ -86,6 +96,7 @@ conditions d E =
 conditions d (F a b c) =
     (wrongState if isOpen d) ∷
     (slotOutside if outsideOf (a ∷ b ∷ c ∷ [])) ∷
+    (rightMissing if lacks d 1 (a ∷ b ∷ []) || lacks d 2 (c ∷ [])) ∷
     (slotEmpty if isEmpty d a || isEmpty d b) ∷
     (shapesDiffer if ofBoth d a b (λ p q. not (sameShape (p .shape) (q .shape)))) ∷
     (limitBroken if ofBoth d a b (λ p q. not (granted (compose (p .shape) (p .rows) (q .rows))))) ∷
@@ -95,6 +106,7 @@ conditions d (F a b c) =
 conditions d (I a c) =
     (wrongState if isOpen d) ∷
     (slotOutside if outsideOf (a ∷ c ∷ [])) ∷
+    (rightMissing if lacks d 1 (a ∷ []) || lacks d 2 (c ∷ [])) ∷
     (slotEmpty if isEmpty d a) ∷
     (countFull if atLimit d) ∷
     []
@@ -102,6 +114,7 @@ conditions d (I a c) =
 conditions d (K a k c) =
     (wrongState if isOpen d) ∷
     (slotOutside if outsideOf (a ∷ c ∷ [])) ∷
+    (rightMissing if lacks d 1 (a ∷ []) || lacks d 2 (c ∷ [])) ∷
     (powerOutside if not (powerInRange k)) ∷
     (slotEmpty if isEmpty d a) ∷
     (limitBroken if ofPlan d a (λ p. anyOf (λ j. not (granted (power (p .shape) (p .rows) (pos j)))) (count 1 (natAbs k)))) ∷
@@ -111,6 +124,7 @@ conditions d (K a k c) =
 conditions d (S a b) =
     (wrongState if isOpen d) ∷
     (slotOutside if outsideOf (a ∷ b ∷ [])) ∷
+    (rightMissing if lacks d 1 (a ∷ b ∷ [])) ∷
     (slotEmpty if isEmpty d a || isEmpty d b) ∷
     (shapesDiffer if ofBoth d a b (λ p q. not (sameShape (p .shape) (q .shape)))) ∷
     []
@@ -118,6 +132,7 @@ conditions d (S a b) =
 conditions d (W a code) =
     (wrongState if isOpen d) ∷
     (slotOutside if outsideOf (a ∷ [])) ∷
+    (rightMissing if lacks d 1 (a ∷ [])) ∷
     (slotEmpty if isEmpty d a) ∷
     (badWord if ofPlan d a (λ p. not (isCode (p .shape) (wordOf code)))) ∷
     []
@@ -125,12 +140,14 @@ conditions d (W a code) =
 conditions d (L a) =
     (wrongState if isOpen d) ∷
     (slotOutside if outsideOf (a ∷ [])) ∷
+    (rightMissing if lacks d 1 (a ∷ [])) ∷
     (slotEmpty if isEmpty d a) ∷
     []
 -- "C: the same" as I
 conditions d (C a) =
     (wrongState if isOpen d) ∷
     (slotOutside if outsideOf (a ∷ [])) ∷
+    (rightMissing if lacks d 2 (a ∷ [])) ∷
     (slotEmpty if isEmpty d a) ∷
     (countFull if atLimit d) ∷
     []
@@ -141,6 +158,7 @@ conditions d U = (wrongState if isOpen d) ∷ []
 conditions d (X a n r s seed) =
     (wrongState if isOpen d) ∷
     (slotOutside if outsideOf (a ∷ [])) ∷
+    (rightMissing if lacks d 2 (a ∷ [])) ∷
     (shapeOutside if not (shapeInRange (record { arity = n; roots = r }))) ∷
     (seedOutside if not (seedInRange seed)) ∷
     (pairsFull if not (leb (length (exercised (record { arity = n; roots = r }) s seed)) maxPairs)) ∷
@@ -151,6 +169,13 @@ conditions d (X a n r s seed) =
 conditions d (Z s) =
     (wrongState if isOpen d) ∷
     (stationOutside if not (isStation s)) ∷
+    []
+-- "19, G from another station or for station 0, after 18 and 8" (change request E6); "G itself needs no right"
+conditions d (G s a x) =
+    (wrongState if isOpen d) ∷
+    (stationOutside if not (isStation s)) ∷
+    (slotOutside if outsideOf (a ∷ [])) ∷
+    (stationRefused if not (eqb (stationOf d) 0) || eqb s 0) ∷
     []
 
 -- the first condition that holds: its number and column
@@ -166,5 +191,5 @@ refusalOf (pass a) = none
 -- on a fresh desk: a slot outside comes before a power outside, and that before an empty slot
 conditions-example : map (λ r. firstOf (conditions freshDesk r)) (K (byte "I") (pos 1001) (byte "A") ∷ K (byte "A") (pos 1001) (byte "A") ∷ K (byte "A") (pos 1000) (byte "A") ∷ T ∷ [])
     ≡ some (8, none) ∷ some (12, none) ∷ some (9, none) ∷ none ∷ []
-unfolding conditions freshDesk slotCount maxPower
+unfolding conditions freshDesk slotCount maxRight maxPower
 conditions-example = refl

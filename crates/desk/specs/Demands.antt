@@ -22,12 +22,13 @@ use Rattle.higman.specs.Fronts.{block}
 use Rattle.higman.specs.Exercises.{exercised, exercisePlan, ExercisesExact}
 use Rattle.higman.specs.Automorphisms.{PlansAreAutomorphisms}
 use Rattle.higman.specs.Refusals.{noRecord, wrongState, shapeOutside, badWord, pairsFull, wordsOverlap, rootUncovered, slotOutside}
-use Rattle.higman.specs.Refusals.{slotEmpty, shapesDiffer, limitBroken, powerOutside, countFull, seedOutside, stationOutside, Letter}
-use Rattle.desk.specs.Limits.{stationCount, maxChanges, maxLine}
+use Rattle.higman.specs.Refusals.{slotEmpty, shapesDiffer, limitBroken, powerOutside, countFull, seedOutside, stationOutside}
+use Rattle.higman.specs.Refusals.{stationRefused, rightMissing, Letter}
+use Rattle.desk.specs.Limits.{stationCount, maxRight, maxChanges, maxLine}
 use Rattle.desk.specs.Desk.{Draft, Desk, freshDesk, stationOf, changesOf, countOf, held, IsDesk, changed, withDraft, withPair}
-use Rattle.desk.specs.Desk.{dropped, atStation, isStation}
-use Rattle.desk.specs.Records.{Record, P, M, E, F, I, K, S, W, L, C, T as Tᴿ, U, X, Z, SlotUse, reads, target, needsOpen}
-use Rattle.desk.specs.Records.{slotsNamed, isChange, recordText, wellFormed}
+use Rattle.desk.specs.Desk.{dropped, atStation, isStation, ownRight}
+use Rattle.desk.specs.Records.{Record, P, M, E, F, I, K, S, W, L, C, T as Tᴿ, U, X, Z, G, SlotUse, reads, target}
+use Rattle.desk.specs.Records.{needsOpen, slotsNamed, isChange, recordText, wellFormed}
 use Rattle.higman.specs.Listing.{slotNumber}
 use Rattle.desk.specs.Replies.{refuse, pass, Effect, silent, ok, okNumber, okWord, okBlock, lists, surveys, refuses, surveyed}
 use Rattle.desk.specs.Replies.{atLimit, operation, lineOperation, respondLine, newDraft, closed}
@@ -38,6 +39,8 @@ use Rattle.desk.specs.Theorems.{TypedIn, AcceptedFromLines, BlockReplied
 use Rattle.desk.specs.Theorems.{ListingReadBack, LentCallsExact}
 use Rattle.desk.specs.Grammar.{NoRecord, TextExact}
 use Rattle.desk.specs.Stations.{CountsOfStations}
+use Rattle.desk.specs.Rights.{RightsExact}
+use Rattle.desk.specs.Sights.{StationsApart}
 
 -- the numbers that the operation of a record may be refused with; 13, 14 and 15 are of library calls
 unfoldable pub operationNumbers : List ℕ
@@ -56,6 +59,8 @@ operationNumbers =
     countFull ∷
     seedOutside ∷
     stationOutside ∷
+    stationRefused ∷
+    rightMissing ∷
     []
 
 -- and those of a line, which may be no record
@@ -93,6 +98,7 @@ OfOpenPlan Tᴿ = ⊥
 OfOpenPlan U = ⊥
 OfOpenPlan (X a n r s seed) = ⊥
 OfOpenPlan (Z s) = ⊥
+OfOpenPlan (G s a x) = ⊥
 
 -- "2, an M or E with no plan open, or any other record while one is open", before every other number of a record
 pub record WrongState : Type 0 where
@@ -115,7 +121,7 @@ pub record Demand1 : Type 0 where
   pub desk-stays : DeskStays
   -- the paper's numbers, name by name, and those of a line
   pub numbers-named : NumbersNamed
-  pub numbers : refusalNumbers ≡ 1 ∷ 2 ∷ 3 ∷ 4 ∷ 5 ∷ 6 ∷ 7 ∷ 8 ∷ 9 ∷ 10 ∷ 11 ∷ 12 ∷ 16 ∷ 17 ∷ 18 ∷ []
+  pub numbers : refusalNumbers ≡ 1 ∷ 2 ∷ 3 ∷ 4 ∷ 5 ∷ 6 ∷ 7 ∷ 8 ∷ 9 ∷ 10 ∷ 11 ∷ 12 ∷ 16 ∷ 17 ∷ 18 ∷ 19 ∷ 20 ∷ []
   -- 1 exactly where a line is no record, a record's line does what the record does, and every other number is given under its
   -- condition and no other: the first that holds
   pub no-record : (d : Desk) (line : Bytes) → ((c : Option Letter) × (lineOperation d line ≡ refuse noRecord c)) ↔ NoRecord line
@@ -135,7 +141,7 @@ pub record DeskParts : Type 0 where
   pub fresh-slots : (i : ℕ) → held freshDesk i ≡ none
   pub fresh-open : freshDesk .draft ≡ none
   pub fresh-counts : (s : ℕ) → changesOf (freshDesk .control) s ≡ 0
-  -- a change: one slot holds something else, the others hold what they held, and the count of the named station is one higher
+  -- a change: one slot holds something else, the others hold what they held, the count of the named station is one higher, and rights stay
   pub changed-here : (d : Desk) (i : ℕ) (content : Option Plan) → length (d .slots) ≡ slotCount → i < slotCount
       → held (changed d i content) i ≡ content
   pub changed-elsewhere : (d : Desk) (i j : ℕ) (content : Option Plan) → (i ≡ j → ⊥) → held (changed d i content) j ≡ held d j
@@ -143,6 +149,7 @@ pub record DeskParts : Type 0 where
   pub changed-count : (d : Desk) (i : ℕ) (content : Option Plan) → IsDesk d → countOf (changed d i content) ≡ countOf d + 1
   pub other-counts : (d : Desk) (i s : ℕ) (content : Option Plan) → (stationOf d ≡ s → ⊥)
       → changesOf (changed d i content .control) s ≡ changesOf (d .control) s
+  pub changed-rights : (d : Desk) (i : ℕ) (content : Option Plan) → changed d i content .control .rights ≡ d .control .rights
   pub changed-open : (d : Desk) (i : ℕ) (content : Option Plan) → changed d i content .draft ≡ none
   -- an open plan: nothing else changes
   pub drafted : (d : Desk) (o : Draft)
@@ -152,7 +159,7 @@ pub record DeskParts : Type 0 where
   -- another station is named: nothing else changes
   pub station-parts : (d : Desk) (s : ℕ)
       → (atStation d s .slots ≡ d .slots) × (atStation d s .draft ≡ d .draft) × (stationOf (atStation d s) ≡ s)
-      × (atStation d s .control .changes ≡ d .control .changes)
+      × (atStation d s .control .changes ≡ d .control .changes) × (atStation d s .control .rights ≡ d .control .rights)
 
 -- What P, M, C, L, T and U do when they are not refused, and which records change slots and counts at all.
 pub record RepliesExact : Type 0 where
@@ -171,6 +178,10 @@ pub record RepliesExact : Type 0 where
   pub raises : (d : Desk) (r : Record) (e : Effect) → IsDesk d → isChange r ≡ true → operation d r ≡ pass e
       → countOf (e .0) ≡ countOf d + 1
 
+-- a slot is filled or emptied, or a plan is opened for it
+abbrev pub Written : Desk → ℕ → Desk → Type 0
+Written d i c = ((content : Option Plan) × (c ≡ changed d i content)) ⊎ ((o : Draft) × (o .slot ≡ i) × (c ≡ withDraft d o))
+
 -- What a record does to the slots that it names: what it reads is held, and of all slots only its targets change. (E writes to the slot
 -- of the open plan, which it does not name.)
 pub record SlotsUsed : Type 0 where
@@ -179,6 +190,8 @@ pub record SlotsUsed : Type 0 where
   pub only-targets : (d : Desk) (r : Record) (e : Effect) → operation d r ≡ pass e → needsOpen r ≡ false
       → (j : ℕ) → ((u : SlotUse) → List·Memᴰ u (slotsNamed r) → u .does ≡ target → slotNumber (u .slot) ≡ j → ⊥)
       → held (e .0) j ≡ held d j
+  pub targets : (d : Desk) (r : Record) (e : Effect) → operation d r ≡ pass e
+      → (u : SlotUse) → List·Memᴰ u (slotsNamed r) → u .does ≡ target → Written d (slotNumber (u .slot)) (e .0)
 
 -- E: what is kept is what was typed, reduced
 pub record KeptAsTyped (d : Desk) (o : Draft) (e : Effect) : Type 0 where
@@ -210,9 +223,10 @@ pub record ExerciseKept (d : Desk) (a : ℕ) (s : Shape) (k seed : ℕ) (e : Eff
       → image (exercisePlan s k seed .rows) w ≡ some v
   pub as-typed : operation (withExercise d a s k seed) E ≡ pass e
 
--- no plan is open, and the count is below its limit
-pub record Ready (d : Desk) : Type 0 where
+-- no plan is open, a slot may be written, and the count is below its limit
+pub record Ready (d : Desk) (a : ℕ) : Type 0 where
   pub none-open : d .draft ≡ none
+  pub right : 2 ≤ ownRight d (slotNumber a)
   pub room : countOf d < maxChanges
 
 -- "The plan is fixed by the five fields alone": where X is done on two desks, its reply is the same and it keeps the same in its slot;
@@ -223,7 +237,7 @@ pub record ExercisesFixed : Type 0 where
   pub same-plan : (d c : Desk) (a n r s seed : ℕ) (e f : Effect) → IsDesk d → IsDesk c
       → operation d (X a n r s seed) ≡ pass e → operation c (X a n r s seed) ≡ pass f
       → held (e .0) (slotNumber a) ≡ held (f .0) (slotNumber a)
-  pub same-refusal : (d c : Desk) (a n r s seed : ℕ) → IsDesk d → IsDesk c → Ready d → Ready c
+  pub same-refusal : (d c : Desk) (a n r s seed : ℕ) → IsDesk d → IsDesk c → Ready d a → Ready c a
       → refusalOf (operation d (X a n r s seed)) ≡ refusalOf (operation c (X a n r s seed))
 
 -- Demand 2: plans accepted exactly when both columns are bases, operations those of G(n,r), a listing read back is the same plan.
@@ -253,6 +267,8 @@ pub record Demand2 : Type 0 where
   pub replies : RepliesExact
   pub slots-used : SlotsUsed
   pub stations : CountsOfStations
+  pub rights : RightsExact
+  pub stations-apart : StationsApart
   pub desk-parts : DeskParts
   pub survey : SurveyExact
   -- what E judges is what was typed, in the order in which it was typed, and all of this from the typed lines on
@@ -276,6 +292,8 @@ pub record LimitsExact : Type 0 where
   -- "Eight stations"; "18, a digit above 7"
   pub stations : stationCount ≡ 8
   pub station-numbers : (s : ℕ) → T (isStation s) ↔ (s ≤ 7)
+  -- "2 read and write", the highest
+  pub rights : maxRight ≡ 2
   -- "a count of changes from 0 to 4,000,000,000"; "16, the count is at its limit"
   pub changes : maxChanges ≡ 4_000_000_000
   pub full-count : (d : Desk) → T (atLimit d) ↔ (4_000_000_000 ≤ countOf d)

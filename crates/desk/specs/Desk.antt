@@ -1,8 +1,8 @@
--- The desk (document 01, "Records"): eight slots, at most one open plan, the station that is named, and each station's count of changes.
--- What it is to be a desk, and the ways in which a record changes one: a slot is filled or emptied, a plan is opened, gets a pair or is
--- dropped, a station is named. To be believed: `Desk`, `IsControl` and `IsDesk`. `DeskTest` fixes the test, and `DeskParts`
--- and `CountsOfStations` the changes. Read Records.antt next.
-use Prim.Native.Nat.{ℕ, _+_, _≤_, _<_}
+-- The desk (document 01, "Records"): eight slots, at most one open plan, the station that is named, and each station's count of changes and
+-- rights. What it is to be a desk, and the ways in which a record changes one: a slot is filled or emptied, a plan is opened, gets a pair or
+-- is dropped, a station is named or given a right. To be believed: `Desk`, `IsRights`, `IsControl` and `IsDesk`. `DeskTest` fixes the test,
+-- and `DeskParts`, `CountsOfStations` and `RightsExact` the changes. Read Records.antt next.
+use Prim.Native.Nat.{ℕ, zero, suc, _+_, _-_, _≤_, _<_}
 use mathlib.Core.Path.{_≡_, refl}
 use mathlib.Core.Bool.{Bool, true, false, _&&_}
 use mathlib.Core.List.{List, [], _∷_, _++_, map}
@@ -15,7 +15,7 @@ use Rattle.higman.specs.Tables.{Pair, Table, froms, tos, row, ψ}
 use Rattle.higman.specs.Normal.{joined, normal, normalForm, keep}
 use Rattle.higman.specs.Limits.{Plan, Kept, shapeInRange, granted, maxPairs, maxDigits, slotCount}
 use Rattle.higman.specs.Answers.{verdict, isTableOf, isKept}
-use Rattle.desk.specs.Limits.{stationCount, maxChanges}
+use Rattle.desk.specs.Limits.{stationCount, maxRight, maxChanges}
 
 -- An open plan: the slot it is meant for, from 0 for A, its shape, and its pairs in the order in which M added them.
 pub record Draft : Type 0 where
@@ -23,10 +23,17 @@ pub record Draft : Type 0 where
   pub shape : Shape
   pub rows : Table
 
--- What a desk keeps beside its plans: the station that is named, from 0, and "a count of changes" for each station (change request E5)
+-- The rights of stations 1 to 7, for each the rights on slots A to H, "0 nothing, 1 read, 2 read and write" (change request E6). Nothing is
+-- kept for station 0.
+abbrev pub Rights : Type 0
+Rights = List (List ℕ)
+
+-- What a desk keeps beside its plans: the station that is named, from 0, "a count of changes" for each station (change request E5), and the
+-- rights of stations
 pub record Control : Type 0 where
   pub station : ℕ
   pub changes : List ℕ
+  pub rights : Rights
 
 -- "The desk has slots A to H, at most one open plan", and a control block
 pub record Desk : Type 0 where
@@ -34,9 +41,13 @@ pub record Desk : Type 0 where
   pub draft : Option Draft
   pub control : Control
 
+-- "Everyone starts with 2"
+abbrev pub freshRights : Rights
+freshRights = replicate (stationCount - 1) (replicate slotCount maxRight)
+
 -- "A record Z⇥digit names the station for the records after it; before the first, it is station 0"; no station has made a change
 abbrev pub freshControl : Control
-freshControl = record { station = 0; changes = replicate stationCount 0 }
+freshControl = record { station = 0; changes = replicate stationCount 0; rights = freshRights }
 
 -- the changes of a station, and those of the named one
 abbrev pub changesOf : Control → ℕ → ℕ
@@ -57,9 +68,30 @@ stationOf d = d .control .station
 abbrev pub countOf : Desk → ℕ
 countOf d = countIn (d .control)
 
+-- the right of a station on a slot: "station 0 always has 2"
+abbrev pub rightOf : Rights → ℕ → ℕ → ℕ
+rightOf rights zero i = maxRight
+rightOf rights (suc s) i = getD (getD rights s []) i 0
+
+-- that of the named station
+abbrev pub ownRight : Desk → ℕ → ℕ
+ownRight d i = rightOf (d .control .rights) (stationOf d) i
+
 -- the plan in a slot, if it holds one
 abbrev pub held : Desk → ℕ → Option Plan
 held d i = getD (d .slots) i none
+
+-- "Reading needs 1"
+abbrev pub readable : Desk → ℕ → Bool
+readable d i = leb 1 (ownRight d i)
+
+-- what the named station sees of the slots, where one that it can't read looks like an empty one
+abbrev pub seenFrom : Desk → ℕ → List (Option Plan) → List (Option Plan)
+seenFrom d i [] = []
+seenFrom d i (x ∷ l) = elim (readable d i) [ true ↦ x | false ↦ none ] ∷ seenFrom d (suc i) l
+
+unfoldable pub seen : Desk → List (Option Plan)
+seen d = seenFrom d 0 (d .slots)
 
 -- An open plan as P and M make one: nothing is known of its columns but that they hold words.
 pub record IsDraft (o : Draft) : Type 0 where
@@ -69,12 +101,19 @@ pub record IsDraft (o : Draft) : Type 0 where
   pub from-words : T (all (isWord (o .shape)) (froms (o .rows)))
   pub to-words : T (all (isWord (o .shape)) (tos (o .rows)))
 
+-- Rights: stations 1 to 7 have one on each of the slots A to H, and none is above 2.
+pub record IsRights (rights : Rights) : Type 0 where
+  pub each-station : length rights ≡ stationCount - 1
+  pub each-slot : (s : ℕ) → s < stationCount - 1 → length (getD rights s []) ≡ slotCount
+  pub within : (s i : ℕ) → rightOf rights s i ≤ maxRight
+
 -- What a desk keeps beside its plans: one of eight stations is named, and each has "a count of changes from 0 to 4,000,000,000", whether
--- or not it is the one that is named.
+-- or not it is the one that is named, and its rights.
 pub record IsControl (c : Control) : Type 0 where
   pub named : c .station < stationCount
   pub each : length (c .changes) ≡ stationCount
   pub within : (s : ℕ) → changesOf c s ≤ maxChanges
+  pub rights : IsRights (c .rights)
 
 -- "The desk has slots A to H, at most one open plan, and a count of changes". What a slot holds is a kept plan. A library call that is
 -- handed anything else says 15.
@@ -86,7 +125,7 @@ pub record IsDesk (d : Desk) : Type 0 where
 
 -- one change more of the station that is named
 abbrev pub counted : Control → Control
-counted c = record { station = c .station; changes = set (c .changes) (c .station) (countIn c + 1) }
+counted c = record { station = c .station; changes = set (c .changes) (c .station) (countIn c + 1); rights = c .rights }
 
 -- A change: what one slot holds from now on. No plan is open afterwards, and "E, F, I, K and C raise the count by one", as X does.
 unfoldable pub changed : Desk → ℕ → Option Plan → Desk
@@ -101,16 +140,28 @@ dropped d = record { slots = d .slots; draft = none; control = d .control }
 
 -- Z: this station is named, and nothing else changes
 abbrev pub naming : Control → ℕ → Control
-naming c s = record { station = s; changes = c .changes }
+naming c s = record { station = s; changes = c .changes; rights = c .rights }
 
 unfoldable pub atStation : Desk → ℕ → Desk
 atStation d s = record { slots = d .slots; draft = d .draft; control = naming (d .control) s }
+
+-- G: a station has another right on a slot, and nothing else changes
+abbrev pub rightGiven : Rights → ℕ → ℕ → ℕ → Rights
+rightGiven rights zero i x = rights
+rightGiven rights (suc s) i x = set rights s (set (getD rights s []) i x)
+
+abbrev pub giving : Control → ℕ → ℕ → ℕ → Control
+giving c s i x = record { station = c .station; changes = c .changes; rights = rightGiven (c .rights) s i x }
+
+unfoldable pub withRight : Desk → ℕ → ℕ → ℕ → Desk
+withRight d s i x = record { slots = d .slots; draft = d .draft; control = giving (d .control) s i x }
 
 -- a desk with another count of the station that is named, for examples
 abbrev pub atCount : Desk → ℕ → Desk
 atCount d n =
     let c = d .control in
-    record { slots = d .slots; draft = d .draft; control = record { station = c .station; changes = set (c .changes) (c .station) n } }
+    let changes = set (c .changes) (c .station) n in
+    record { slots = d .slots; draft = d .draft; control = record { station = c .station; changes = changes; rights = c .rights } }
 
 -- "M⇥from⇥to adds a pair", behind those that are there
 abbrev pub withPair : Draft → Pair → Draft
@@ -131,9 +182,17 @@ isDraft (some o) = leb (o .slot + 1) slotCount && isTableOf (o .shape) (o .rows)
 abbrev pub isStation : ℕ → Bool
 isStation s = leb (s + 1) stationCount
 
+-- the same as `IsRights`
+abbrev pub areSlotRights : List ℕ → Bool
+areSlotRights l = eqb (length l) slotCount && all (λ x. leb x maxRight) l
+
+unfoldable pub areRights : Rights → Bool
+areRights rights = eqb (length rights) (stationCount - 1) && all areSlotRights rights
+
 -- the same as `IsControl`
 unfoldable pub isControl : Control → Bool
-isControl c = isStation (c .station) && eqb (length (c .changes)) stationCount && all (λ n. leb n maxChanges) (c .changes)
+isControl c =
+    isStation (c .station) && eqb (length (c .changes)) stationCount && all (λ n. leb n maxChanges) (c .changes) && areRights (c .rights)
 
 -- the same as `IsDesk`
 unfoldable pub isDesk : Desk → Bool
@@ -141,22 +200,33 @@ isDesk d = eqb (length (d .slots)) slotCount && allHeld (d .slots) && isDraft (d
 
 -- a fresh desk; one that holds ψ in slot B; one that holds a plan that is not reduced
 isDesk-example : isDesk freshDesk ≡ true
-unfolding isDesk isControl freshDesk slotCount stationCount maxChanges
+unfolding isDesk isControl areRights freshDesk slotCount stationCount maxRight maxChanges
 isDesk-example = refl
 
 abbrev withPlan : Table → Desk
 withPlan t = changed freshDesk 1 (some (record { shape = record { arity = 2; roots = 1 }; rows = t }))
 
 isDesk-held-example : map isDesk (withPlan ψ ∷ withPlan (row 11 11 ∷ row 12 12 ∷ []) ∷ []) ≡ true ∷ false ∷ []
-unfolding isDesk isControl freshDesk changed slotCount stationCount maxChanges isKept shapeInRange granted maxPairs maxDigits verdict keep
-    normalForm normal joined
+unfolding isDesk isControl areRights freshDesk changed slotCount stationCount maxRight maxChanges isKept shapeInRange granted maxPairs
+    maxDigits verdict keep normalForm normal joined
 isDesk-held-example = refl
 
 abbrev atFive : ℕ → Control
-atFive n = record { station = 0; changes = set (freshControl .changes) 5 n }
+atFive n = record { station = 0; changes = set (freshControl .changes) 5 n; rights = freshRights }
 
 -- station 7 is named; there is no station 8; a count at the limit, and one above it, of a station that isn't named
 isControl-example : map isControl (naming freshControl 7 ∷ naming freshControl 8 ∷ atFive 4_000_000_000 ∷ atFive 4_000_000_001 ∷ [])
     ≡ true ∷ false ∷ true ∷ false ∷ []
-unfolding isControl stationCount maxChanges
+unfolding isControl areRights slotCount stationCount maxRight maxChanges
 isControl-example = refl
+
+-- a right of station 7 on slot H: 0 and 2, and 3, which is none
+areRights-example : map (λ x. areRights (rightGiven freshRights 7 7 x)) (0 ∷ 2 ∷ 3 ∷ []) ≡ true ∷ true ∷ false ∷ []
+unfolding areRights slotCount stationCount maxRight
+areRights-example = refl
+
+-- what is given to one station on one slot changes no other right, and nothing is given to station 0
+rightOf-example : map (λ s. map (rightOf (rightGiven (rightGiven freshRights 2 1 0) 0 1 0) s) (0 ∷ 1 ∷ [])) (0 ∷ 1 ∷ 2 ∷ 3 ∷ [])
+    ≡ (2 ∷ 2 ∷ []) ∷ (2 ∷ 2 ∷ []) ∷ (2 ∷ 0 ∷ []) ∷ (2 ∷ 2 ∷ []) ∷ []
+unfolding slotCount stationCount maxRight
+rightOf-example = refl

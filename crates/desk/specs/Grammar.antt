@@ -18,14 +18,20 @@ use Rattle.higman.specs.Refusals.{Letter}
 use Rattle.higman.specs.Listing.{slotByte, joinLines, listing}
 use Rattle.higman.specs.Theorems.{SlotsExact, DecimalsExact}
 use Rattle.desk.specs.Limits.{maxLine}
-use Rattle.desk.specs.Records.{Record, P, M, E, F, I, K, S, W, L, C, T, U, X, Z, fields, parse, recordFields, recordText, noTab}
-use Rattle.desk.specs.Records.{wellFormed}
+use Rattle.desk.specs.Records.{Record, P, M, E, F, I, K, S, W, L, C, T, U, X, Z, G, fields, parse, recordFields, recordText}
+use Rattle.desk.specs.Records.{noTab, wellFormed, Right, noRight, mayRead, mayWrite}
 use Rattle.desk.specs.Replies.{Held, pairsIn, silent, ok, okNumber, okWord, okBlock, lists, surveys, refuses}
 use Rattle.desk.specs.Bytes.{lineOf, okLine, partFields, heldFields, replyBytes}
 
 -- "1, unknown letter, wrong number of fields, a field form": every other line is the text of the record that it is read as.
 abbrev pub GrammarExact : Type 0
 GrammarExact = (line : Bytes) (r : Record) → (parse line ≡ some r) ↔ (So (wellFormed r) × (line ≡ recordText r))
+
+-- a right as it is typed: "0 nothing, 1 read, 2 read and write"
+abbrev pub rightDigit : Right → ℕ
+rightDigit noRight = 48
+rightDigit mayRead = 49
+rightDigit mayWrite = 50
 
 -- The records as they are typed: the letter and the fields of the paper's form, in bytes, with the tab, byte 9, between them. What is a
 -- number is there in decimal; `DecimalsExact` says what that is. With `GrammarExact` the grammar follows.
@@ -51,6 +57,8 @@ pub record RecordForms : Type 0 where
       → recordText (X a n r s seed) ≡ 88 ∷ 9 ∷ a ∷ 9 ∷ (decimal n ++ 9 ∷ (decimal r ++ 9 ∷ (decimal s ++ 9 ∷ decimal seed)))
   -- "Z⇥digit" (change request E5)
   pub Z-text : (s : ℕ) → recordText (Z s) ≡ 90 ∷ 9 ∷ decimal s
+  -- "G⇥station⇥slot⇥right" (change request E6)
+  pub G-text : (s a : ℕ) (x : Right) → recordText (G s a x) ≡ 71 ∷ 9 ∷ (decimal s ++ 9 ∷ a ∷ 9 ∷ rightDigit x ∷ [])
 
 -- what it is for the numbers of a record to fit their fields: "n and r one digit 0 to 9", "k .. one to four digits", "s one or two
 -- digits and seed one to ten", and one digit for a station
@@ -69,6 +77,7 @@ NumbersFit T = Unit {0}
 NumbersFit U = Unit {0}
 NumbersFit (X a n r s seed) = (n < 10) × (r < 10) × (s < 100) × (seed < 10_000_000_000)
 NumbersFit (Z s) = s < 10
+NumbersFit (G s a x) = s < 10
 
 -- a record is well formed exactly when no field has a tab in it and its numbers fit
 abbrev pub WellFormedExact : Type 0

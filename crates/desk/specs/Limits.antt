@@ -6,6 +6,10 @@ use Prim.Native.Nat.{ℕ}
 unfoldable pub stationCount : ℕ
 stationCount = 8
 
+-- "right being 0 nothing, 1 read, 2 read and write" (change request E6)
+unfoldable pub maxRight : ℕ
+maxRight = 2
+
 -- "a count of changes from 0 to 4,000,000,000", and "each station has the limit of 4,000,000,000"
 unfoldable pub maxChanges : ℕ
 maxChanges = 4_000_000_000

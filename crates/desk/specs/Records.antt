@@ -1,8 +1,8 @@
 -- From a line of bytes to a record (document 01, "Records", with "Field forms"). A line that is no record, by its letter, its number of
 -- fields or a field's form, has none: that is refusal 1. With it the text of each record, and what of its kind a record says: whether it
 -- needs an open plan, which stations it names, which slots and what for, and whether it is a change. To be believed: `Record`. The grammar
--- need not be: `GrammarExact`, `RecordForms` and `WellFormedExact` fix it; and `RepliesExact`, `SlotsUsed`, `CountsOfStations` and
--- `first-condition` of Demand1 the kinds. Read Replies.antt next.
+-- need not be: `GrammarExact`, `RecordForms` and `WellFormedExact` fix it; and `RepliesExact`, `SlotsUsed`, `CountsOfStations`, `RightsExact`
+-- and `first-condition` of Demand1 the kinds. Read Replies.antt next.
 use Prim.Native.Nat.{ℕ, zero, suc}
 use mathlib.Core.Path.{_≡_, refl}
 use mathlib.Core.Bool.{Bool, true, false, _&&_, not}
@@ -14,6 +14,17 @@ use lib.ListN.{length}
 use Rattle.higman.specs.Bases.{all}
 use Rattle.higman.specs.Text.{tab, Bytes, byte, bytes, isNumeral, spelledOut, noLeadingZero, decimal}
 use Rattle.desk.specs.Limits.{maxNumeral, maxSplitsNumeral, maxSeedNumeral}
+
+-- "right being 0 nothing, 1 read, 2 read and write" (change request E6)
+pub data Right : Type 0 where
+  noRight : Right
+  mayRead : Right
+  mayWrite : Right
+
+unfoldable pub rightNumber : Right → ℕ
+rightNumber noRight = 0
+rightNumber mayRead = 1
+rightNumber mayWrite = 2
 
 -- A record, by its letter. A slot is the byte that names it, a word or code the bytes that spell it.
 pub data Record : Type 0 where
@@ -45,6 +56,8 @@ pub data Record : Type 0 where
   X : ℕ → ℕ → ℕ → ℕ → ℕ → Record
   -- Z⇥station names the station for the records after it (change request E5)
   Z : ℕ → Record
+  -- G⇥station⇥slot⇥right gives a station a right on a slot (change request E6)
+  G : ℕ → ℕ → Right → Record
 
 -- a byte in front of the first field
 abbrev pub inFront : ℕ → List Bytes → List Bytes
@@ -97,6 +110,16 @@ signedField digits [] = none
 signedField digits (b ∷ f) =
     elim (eqb b (byte "-")) [ true ↦ negative (numberField digits f) | false ↦ positive (numberField digits (b ∷ f)) ]
 
+-- a right by its number: "a right above 2 is 1"
+abbrev pub rightNumbered : ℕ → Option Right
+rightNumbered zero = some noRight
+rightNumbered (suc zero) = some mayRead
+rightNumbered (suc (suc zero)) = some mayWrite
+rightNumbered (suc (suc (suc n))) = none
+
+abbrev pub rightField : Form Right
+rightField f = elim (numberField 1 f) [ none ↦ none | some n ↦ rightNumbered n ]
+
 -- What is made of the fields behind a letter: a field in its form and then the others, until none is left.
 abbrev pub field : {A : Type 0} → Form A → (A → List Bytes → Option Record) → List Bytes → Option Record
 field form next [] = none
@@ -131,6 +154,7 @@ grammar =
     record { letter = byte "U"; reads = noMore U } ∷
     record { letter = byte "X"; reads = field slotField (λ a. field (numberField 1) (λ n. field (numberField 1) (exerciseFields a n))) } ∷
     record { letter = byte "Z"; reads = field (numberField 1) (λ s. noMore (Z s)) } ∷
+    record { letter = byte "G"; reads = field (numberField 1) (λ s. field slotField (λ a. field rightField (λ x. noMore (G s a x)))) } ∷
     []
 
 -- the record of a letter and fields by the first rule for the letter; an unknown letter has none
@@ -174,6 +198,8 @@ recordFields U = bytes "U" ∷ []
 recordFields (X a n r s seed) = bytes "X" ∷ (a ∷ []) ∷ decimal n ∷ decimal r ∷ decimal s ∷ decimal seed ∷ []
 -- "Z⇥digit"
 recordFields (Z s) = bytes "Z" ∷ decimal s ∷ []
+-- "G⇥station⇥slot⇥right"
+recordFields (G s a x) = bytes "G" ∷ decimal s ∷ (a ∷ []) ∷ decimal (rightNumber x) ∷ []
 
 unfoldable pub recordText : Record → Bytes
 recordText r = parted (recordFields r)
@@ -201,15 +227,18 @@ numbersFit T = true
 numbersFit U = true
 numbersFit (X a n r s seed) = hasDigits 1 n && hasDigits 1 r && hasDigits maxSplitsNumeral s && hasDigits maxSeedNumeral seed
 numbersFit (Z s) = hasDigits 1 s
+numbersFit (G s a x) = hasDigits 1 s
 
 -- a record that some line is the text of
 unfoldable pub wellFormed : Record → Bool
 wellFormed r = all noTab (recordFields r) && numbersFit r
 
--- What a record does to a slot that it names: it reads what the slot holds, or the slot is a target, which it fills or empties.
+-- What a record does to a slot that it names: it reads what the slot holds, or the slot is a target, which it fills or empties, or it
+-- only mentions the slot.
 pub data Use : Type 0 where
   reads : Use
   target : Use
+  mentions : Use
 
 pub record SlotUse : Type 0 where
   pub slot : ℕ
@@ -220,6 +249,15 @@ reading a = record { slot = a; does = reads }
 
 abbrev pub writing : ℕ → SlotUse
 writing a = record { slot = a; does = target }
+
+abbrev pub mentioning : ℕ → SlotUse
+mentioning a = record { slot = a; does = mentions }
+
+-- "Reading needs 1, P, X, C or a target needs 2, and G itself needs no right" (change request E6)
+unfoldable pub neededRight : Use → ℕ
+neededRight reads = 1
+neededRight target = 2
+neededRight mentions = 0
 
 -- What a record says by its kind: whether it needs an open plan, the stations and the slots that it names in the order of its fields, and
 -- whether it is a change.
@@ -257,6 +295,7 @@ kind T = asking []
 kind U = asking []
 kind (X a n r s seed) = changing (writing a ∷ [])
 kind (Z s) = record { open-plan = false; stations = s ∷ []; slots = []; change = false }
+kind (G s a x) = record { open-plan = false; stations = s ∷ []; slots = mentioning a ∷ []; change = false }
 
 -- "2, an M or E with no plan open, or any other record while one is open"
 abbrev pub needsOpen : Record → Bool
@@ -268,7 +307,7 @@ stationsNamed r = kind r .stations
 abbrev pub slotsNamed : Record → List SlotUse
 slotsNamed r = kind r .slots
 
--- "E, F, I, K and C raise the count by one.", X does so "as E does" (change request E3), and "Z counts no change" (E5)
+-- "E, F, I, K and C raise the count by one.", X does so "as E does" (change request E3), and Z and G count no change (E5, E6)
 abbrev pub isChange : Record → Bool
 isChange r = kind r .change
 
@@ -303,6 +342,13 @@ parse-station-example : map (λ l. parse (bytes "Z" ++ bytes l)) ("\t0" ∷ "\t9
     ≡ some (Z 0) ∷ some (Z 9) ∷ none ∷ none ∷ none ∷ none ∷ none ∷ []
 unfolding parse grammar
 parse-station-example = refl
+
+-- a station of one digit, a slot and a right up to 2
+parse-grant-example : map (λ l. parse (bytes "G\t" ++ bytes l))
+    ("1\tA\t0" ∷ "9\tz\t2" ∷ "1\tA\t3" ∷ "1\tA\t02" ∷ "10\tA\t1" ∷ "1\tA" ∷ "1\tA\t1\t" ∷ [])
+    ≡ some (G 1 (byte "A") noRight) ∷ some (G 9 (byte "z") mayWrite) ∷ none ∷ none ∷ none ∷ none ∷ none ∷ []
+unfolding parse grammar
+parse-grant-example = refl
 
 recordText-example : map recordText (K (byte "A") (negsuc 1) (byte "z") ∷ M (bytes "11") [] ∷ E ∷ [])
     ≡ bytes "K\tA\t-2\tz" ∷ bytes "M\t11\t" ∷ bytes "E" ∷ []

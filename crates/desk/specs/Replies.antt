@@ -1,14 +1,15 @@
 -- The reply to each record, and the desk after it (document 01, "Records" and "When each operation says no"). Each operation is a list of
 -- steps: `n when t` refuses with n where t holds, and the first step that refuses ends it. What all records have in common stands around
 -- the job of each. The answers about plans are those of higman, with their numbers. To be believed: `Reply`. What is replied is fixed:
--- refusals by `first-condition` of Demand1, the rest by Demand2, the survey's arranging by `SurveyExact`. Read Bytes.antt next.
+-- refusals by `first-condition` of Demand1, the rest by Demand2, the survey's arranging by `SurveyExact`, and a G by its numbers by
+-- `RightsExact`. Read Bytes.antt next.
 use Prim.Native.Nat.{ℕ, suc, _+_}
 use mathlib.Core.Path.{_≡_, refl}
 use mathlib.Core.Bool.{Bool, true, false, _&&_, _||_, not}
 use mathlib.Core.List.{List, [], _∷_, _++_, map}
 use mathlib.Core.Option.{Option, none, some}
 use lib.Dec.{eqb, leb, ltb}
-use lib.IntN.{pos, natAbs}
+use lib.IntN.{pos}
 use lib.ListN.{length, replicate}
 use Rattle.higman.specs.Words.{Shape, Word, given, spell}
 use Rattle.higman.specs.Bases.{all}
@@ -22,14 +23,15 @@ use Rattle.higman.specs.Answers.{routed}
 use Rattle.higman.specs.Fronts.{block}
 use Rattle.higman.specs.Exercises.{nextDraw, drawn, grown, shuffled, exercised, exercise}
 use Rattle.higman.specs.Refusals.{noRecord, wrongState, shapeOutside, badWord, pairsFull, slotOutside, slotEmpty, powerOutside, countFull}
-use Rattle.higman.specs.Refusals.{stationOutside, Letter}
+use Rattle.higman.specs.Refusals.{stationOutside, stationRefused, rightMissing, Letter}
 use Rattle.higman.specs.Text.{Bytes, byte, bytes, digitOf, wordOf}
 use Rattle.higman.specs.Listing.{slotNumber, isSlot}
-use Rattle.desk.specs.Limits.{stationCount, maxChanges, maxLine}
+use Rattle.desk.specs.Limits.{stationCount, maxRight, maxChanges, maxLine}
 use Rattle.desk.specs.Desk.{Draft, Desk, freshDesk, countOf, held, changed, withDraft, dropped, atStation, atCount, withPair}
-use Rattle.desk.specs.Desk.{isStation}
+use Rattle.desk.specs.Desk.{isStation, stationOf, ownRight, seen, withRight}
 use Rattle.desk.specs.Records.{Record, P, M, E, F, I, K, S, W, L}
-use Rattle.desk.specs.Records.{C, T, U, X, Z, grammar, parse, needsOpen, SlotUse, stationsNamed, slotsNamed, isChange, kind}
+use Rattle.desk.specs.Records.{C, T, U, X, Z, G, grammar, parse, needsOpen, SlotUse, neededRight, stationsNamed, slotsNamed, isChange}
+use Rattle.desk.specs.Records.{kind, noRight, mayRead, mayWrite, rightNumber, rightNumbered}
 
 -- a slot that holds a plan
 pub record Held : Type 0 where
@@ -85,6 +87,13 @@ noStation ss = not (all isStation ss)
 -- 8, "a slot byte outside A to H"
 abbrev pub outside : List SlotUse → Bool
 outside us = not (all (λ u. isSlot (u .slot)) us)
+
+-- 20, "a missing right": the named station has on every slot the right that is needed for what is done with it, or not (change request E6)
+abbrev pub mayUse : Desk → SlotUse → Bool
+mayUse d u = leb (neededRight (u .does)) (ownRight d (slotNumber (u .slot)))
+
+abbrev pub denied : Desk → List SlotUse → Bool
+denied d us = not (all (mayUse d) us)
 
 -- the plan in a slot; 9, "a or b empty"
 abbrev pub planIn : Desk → ℕ → Outcome Plan
@@ -147,9 +156,9 @@ pairsIn h = length (h .plan .rows)
 abbrev pub comesBefore : Held → Held → Bool
 comesBefore h k = lineFirst (pairsIn h) (h .slot) (pairsIn k) (k .slot)
 
--- the held slots, as U lists them
+-- the held slots that the named station can read, as U lists them: "U shows only readable slots" (change request E6)
 unfoldable pub surveyed : Desk → List Held
-surveyed d = arranged comesBefore (heldFrom 0 (d .slots))
+surveyed d = arranged comesBefore (heldFrom 0 (seen d))
 
 -- the desk after an operation, and its reply
 abbrev pub Effect : Type 0
@@ -232,13 +241,18 @@ job d (X a n r s seed) = do
   p ← ofAnswer (exercise (record { arity = n; roots = r }) s seed)
   pass (keepIn d (slotNumber a) p)
 job d (Z s) = pass (atStation d s, ok)
+job d (G s a x) = do
+  -- 19
+  _ ← stationRefused when (not (eqb (stationOf d) 0) || eqb s 0)
+  pass (withRight d s (slotNumber a) (rightNumber x), ok)
 
--- the tests that all records have in common, by what a record says of its kind: 2, then 18, then 8
+-- the tests that all records have in common, by what a record says of its kind: 2, then 18, then 8, and 20 "right after 8"
 unfoldable pub admission : Desk → Record → Outcome (Unit {0})
 admission d r = do
   _ ← wrongState when openAmiss d r
   _ ← stationOutside when noStation (stationsNamed r)
-  slotOutside when outside (slotsNamed r)
+  _ ← slotOutside when outside (slotsNamed r)
+  rightMissing when denied d (slotsNamed r)
 
 -- "When each operation says no": what all records have in common, then the record's own numbers, and 16 last where the record is a change
 unfoldable pub operation : Desk → Record → Outcome Effect
@@ -251,6 +265,10 @@ operation d r = do
 -- "Every record: 1, unknown letter, wrong number of fields, a field form, or a line too long."
 abbrev pub recordOf : Bytes → Outcome Record
 recordOf line = elim (leb (length line) maxLine) [ false ↦ refuse noRecord none | true ↦ elim (parse line) [ none ↦ refuse noRecord none | some r ↦ pass r ] ]
+
+-- G by its numbers, as code hands them on: "a right above 2 is 1"
+abbrev pub grantBy : ℕ → ℕ → ℕ → Outcome Record
+grantBy s a x = elim (rightNumbered x) [ none ↦ refuse noRecord none | some y ↦ pass (G s a y) ]
 
 -- what a line does
 unfoldable pub lineOperation : Desk → Bytes → Outcome Effect
@@ -281,7 +299,7 @@ deskAfter d (e ∷ es) = deskAfter (e .0) es
 operation-example : map (λ r. settle freshDesk (operation freshDesk r) .1)
     (T ∷ U ∷ M [] [] ∷ P (byte "I") 2 1 ∷ P (byte "H") 1 1 ∷ L (byte "A") ∷ F (byte "A") (byte "A") (byte "a") ∷ K (byte "A") (pos 1001) (byte "A") ∷ [])
     ≡ okNumber 0 ∷ surveys [] ∷ refuses 2 none ∷ refuses 8 none ∷ refuses 3 none ∷ refuses 9 none ∷ refuses 8 none ∷ refuses 12 none ∷ []
-unfolding _>>=_ operation admission job surveyed kind freshDesk slotCount stationCount shapeInRange maxPower
+unfolding _>>=_ operation admission job surveyed seen kind neededRight freshDesk slotCount stationCount maxRight shapeInRange maxPower
 operation-example = refl
 
 -- "Lines hold at most 1,100 bytes": W with a code so long that the line has 1,100, and one byte more
@@ -290,6 +308,9 @@ recordOf-example : map (λ k. recordOf (bytes "W\tA\t" ++ replicate k (byte "1")
 unfolding parse grammar maxLine
 recordOf-example = refl
 
+grantBy-example : map (grantBy 1 (byte "A")) (2 ∷ 3 ∷ []) ≡ pass (G 1 (byte "A") mayWrite) ∷ refuse 1 none ∷ []
+grantBy-example = refl
+
 -- a desk with a plan open: any record but M and E is refused with 2
 abbrev openDesk : Desk
 openDesk = withDraft freshDesk (newDraft (byte "A") (record { arity = 2; roots = 1 }))
@@ -297,7 +318,8 @@ openDesk = withDraft freshDesk (newDraft (byte "A") (record { arity = 2; roots =
 open-example : map (λ r. settle openDesk (operation openDesk r) .1)
     (T ∷ U ∷ P (byte "A") 2 1 ∷ L (byte "A") ∷ X (byte "I") 2 1 2 1 ∷ M (bytes "1") (bytes "1") ∷ E ∷ [])
     ≡ refuses 2 none ∷ refuses 2 none ∷ refuses 2 none ∷ refuses 2 none ∷ refuses 2 none ∷ silent ∷ refuses 7 (some Letter.F) ∷ []
-unfolding _>>=_ operation admission job kind freshDesk withDraft slotCount stationCount isPlanWord maxPairs maxDigits verdict digitOf
+unfolding _>>=_ operation admission job kind neededRight freshDesk withDraft slotCount stationCount maxRight isPlanWord maxPairs maxDigits
+    verdict digitOf
 open-example = refl
 
 -- X on a fresh desk: two pairs kept; a slot outside, a shape outside, a seed outside and 199 pairs, some of whose words have 17 digits,
@@ -305,20 +327,21 @@ open-example = refl
 exercise-example : map (λ r. settle freshDesk (operation freshDesk r) .1)
     (X (byte "A") 2 1 2 1 ∷ X (byte "I") 1 1 99 0 ∷ X (byte "A") 1 1 99 0 ∷ X (byte "A") 3 1 99 0 ∷ X (byte "A") 3 1 99 22 ∷ [])
     ≡ okNumber 2 ∷ refuses 8 none ∷ refuses 3 none ∷ refuses 17 none ∷ refuses 5 none ∷ []
-unfolding _>>=_ operation admission job kind freshDesk changed slotCount stationCount shapeInRange seedInRange maxPairs maxDigits maxChanges
-    exercise exercised grown shuffled drawn nextDraw keep normalForm normal joined
+unfolding _>>=_ operation admission job kind neededRight freshDesk changed slotCount stationCount maxRight shapeInRange seedInRange maxPairs
+    maxDigits maxChanges exercise exercised grown shuffled drawn nextDraw keep normalForm normal joined
 exercise-example = refl
 
 -- a line that is no record, and a record
 respondLine-example : map (λ l. respondLine freshDesk (bytes l) .1) ("" ∷ "T " ∷ "T" ∷ [])
     ≡ refuses 1 none ∷ refuses 1 none ∷ okNumber 0 ∷ []
-unfolding _>>=_ respondLine lineOperation operation admission job kind parse grammar freshDesk slotCount stationCount maxLine
+unfolding _>>=_ respondLine lineOperation operation admission job kind neededRight parse grammar freshDesk slotCount stationCount maxRight
+    maxLine
 respondLine-example = refl
 
 -- 100 pairs, and two from-words of 17 digits among them
 exercise-word-example : operation freshDesk (X (byte "A") 2 1 99 5) ≡ refuse 4 none
-unfolding _>>=_ operation admission job kind freshDesk slotCount stationCount shapeInRange seedInRange maxPairs maxDigits exercise exercised
-    grown shuffled drawn nextDraw
+unfolding _>>=_ operation admission job kind neededRight freshDesk slotCount stationCount maxRight shapeInRange seedInRange maxPairs
+    maxDigits exercise exercised grown shuffled drawn nextDraw
 exercise-word-example = refl
 
 -- plans of shape (2,1), for examples
@@ -332,8 +355,9 @@ fullCount = atCount (changed freshDesk 0 (some (plan21 ψ))) maxChanges
 full-count-example : map (λ r. settle fullCount (operation fullCount r) .1)
     (T ∷ C (byte "A") ∷ C (byte "B") ∷ I (byte "A") (byte "B") ∷ K (byte "A") (pos 1001) (byte "B") ∷ X (byte "B") 2 1 2 1 ∷ X (byte "B") 2 1 2 0 ∷ W (byte "A") (bytes "12") ∷ [])
     ≡ okNumber 4_000_000_000 ∷ refuses 16 none ∷ refuses 9 none ∷ refuses 16 none ∷ refuses 12 none ∷ refuses 16 none ∷ refuses 17 none ∷ okWord (spell 122) ∷ []
-unfolding _>>=_ operation admission job kind freshDesk changed slotCount stationCount maxChanges maxPower inverted inverse keep normalForm
-    normal joined routed isCode maxCode digitOf shapeInRange seedInRange maxPairs maxDigits exercise exercised grown shuffled drawn nextDraw
+unfolding _>>=_ operation admission job kind neededRight freshDesk changed slotCount stationCount maxRight maxChanges maxPower inverted
+    inverse keep normalForm normal joined routed isCode maxCode digitOf shapeInRange seedInRange maxPairs maxDigits exercise exercised grown
+    shuffled drawn nextDraw
 full-count-example = refl
 
 -- ψ in slot A and φ in slot B
@@ -343,30 +367,56 @@ twoPlans = changed (changed freshDesk 0 (some (plan21 ψ))) 1 (some (plan21 φ))
 done-example : map (λ r. settle twoPlans (operation twoPlans r) .1)
     (S (byte "A") (byte "A") ∷ S (byte "A") (byte "B") ∷ L (byte "B") ∷ C (byte "B") ∷ U ∷ [])
     ≡ okNumber 1 ∷ okNumber 0 ∷ lists (byte "B") (plan21 φ) ∷ ok ∷ surveys (record { slot = 0; plan = plan21 ψ } ∷ record { slot = 1; plan = plan21 φ } ∷ []) ∷ []
-unfolding _>>=_ operation admission job surveyed kind freshDesk changed slotCount stationCount same maxChanges
+unfolding _>>=_ operation admission job surveyed seen kind neededRight freshDesk changed slotCount stationCount maxRight same maxChanges
 done-example = refl
 
 -- one pair in A, three in B and in H: the most pairs first, and of equal ones the lower letter
 surveyed-example : map (λ h. h .slot) (surveyed (changed (changed twoPlans 7 (some (plan21 ψ))) 0 (some (plan21 (row 1 1 ∷ []))))) ≡ 1 ∷ 7 ∷ 0 ∷ []
-unfolding surveyed freshDesk changed slotCount stationCount
+unfolding surveyed seen freshDesk changed slotCount stationCount maxRight
 surveyed-example = refl
 
 -- W by ψ: an image, the blocks of 11 and of the belt, and a wrong digit
 front-example : map (λ code. settle twoPlans (operation twoPlans (W (byte "A") (bytes code))) .1)
     ("1122" ∷ "11" ∷ "1" ∷ "13" ∷ [])
     ≡ okWord (spell 1212) ∷ okBlock (row 111 11 ∷ row 112 121 ∷ []) ∷ okBlock ψ ∷ refuses 4 none ∷ []
-unfolding _>>=_ operation admission job kind freshDesk changed slotCount stationCount routed block isCode maxCode digitOf
+unfolding _>>=_ operation admission job kind neededRight freshDesk changed slotCount stationCount maxRight routed block isCode maxCode
+    digitOf
 front-example = refl
 
 emptied-example : settle twoPlans (operation twoPlans (C (byte "B"))) .0 ≡ atCount (changed freshDesk 0 (some (plan21 ψ))) 3
-unfolding _>>=_ operation admission job kind freshDesk changed slotCount stationCount maxChanges
+unfolding _>>=_ operation admission job kind neededRight freshDesk changed slotCount stationCount maxRight maxChanges
 emptied-example = refl
 
 -- "Operands are read before c is written, so letters may repeat."
 repeated-letters-example : map (λ r. held (settle twoPlans (operation twoPlans r) .0) 0)
     (F (byte "A") (byte "A") (byte "A") ∷ F (byte "B") (byte "A") (byte "A") ∷ F (byte "A") (byte "B") (byte "A") ∷ I (byte "A") (byte "A") ∷ [])
     ≡ some (plan21 (row 1111 11 ∷ row 1112 121 ∷ row 112 1221 ∷ row 12 1222 ∷ [])) ∷ some (plan21 (row 111 1222 ∷ row 112 1221 ∷ row 121 11 ∷ row 122 121 ∷ [])) ∷ some (plan21 (row 1111 122 ∷ row 1112 121 ∷ row 112 111 ∷ row 12 112 ∷ [])) ∷ some (plan21 (row 11 111 ∷ row 121 112 ∷ row 122 12 ∷ [])) ∷ []
-unfolding _>>=_ operation admission job kind freshDesk changed slotCount stationCount maxChanges followed inverted granted maxPairs
-    maxDigits
-    compose inverse keep normalForm normal joined
+unfolding _>>=_ operation admission job kind neededRight freshDesk changed slotCount stationCount maxRight maxChanges followed inverted
+    granted maxPairs maxDigits compose inverse keep normalForm normal joined
 repeated-letters-example = refl
+
+-- Station 1 may read A, where ψ is held, and not B, where φ is; C is empty, and it may write there. 8 comes before 20, and 20 before 9, 12
+-- and 3; a slot that is both read and written needs 2.
+abbrev haulier : Desk
+haulier = atStation (withRight (withRight twoPlans 1 0 1) 1 1 0) 1
+
+rights-example : map (λ r. settle haulier (operation haulier r) .1)
+    (S (byte "A") (byte "A") ∷ S (byte "A") (byte "B") ∷ S (byte "B") (byte "I") ∷ L (byte "A") ∷ L (byte "B")
+    ∷ W (byte "A") (bytes "12") ∷ C (byte "A") ∷ C (byte "C") ∷ I (byte "A") (byte "A")
+    ∷ I (byte "A") (byte "C") ∷ K (byte "B") (pos 1001) (byte "C") ∷ P (byte "A") 1 1 ∷ P (byte "C") 1 1 ∷ X (byte "B") 1 1 2 1 ∷ U ∷ [])
+    ≡ okNumber 1 ∷ refuses 20 none ∷ refuses 8 none ∷ lists (byte "A") (plan21 ψ) ∷ refuses 20 none ∷ okWord (spell 122)
+    ∷ refuses 20 none ∷ refuses 9 none ∷ refuses 20 none
+    ∷ okNumber 3 ∷ refuses 20 none ∷ refuses 20 none ∷ refuses 3 none ∷ refuses 20 none
+    ∷ surveys (record { slot = 0; plan = plan21 ψ } ∷ []) ∷ []
+unfolding _>>=_ operation admission job surveyed seen kind neededRight freshDesk changed withRight atStation slotCount stationCount maxRight
+    maxChanges same inverted inverse keep normalForm normal joined shapeInRange routed isCode maxCode digitOf
+rights-example = refl
+
+-- G from station 0: a right for station 7, for itself, for a station that there isn't, and on a slot that there isn't; and from station 1
+grant-example : (map (λ r. settle twoPlans (operation twoPlans r) .1)
+    (G 7 (byte "H") noRight ∷ G 0 (byte "A") mayRead ∷ G 8 (byte "I") mayRead ∷ G 1 (byte "I") mayRead ∷ [])
+    ≡ ok ∷ refuses 19 none ∷ refuses 18 none ∷ refuses 8 none ∷ [])
+    × (map (λ r. settle haulier (operation haulier r) .1) (G 1 (byte "A") mayWrite ∷ G 0 (byte "A") mayWrite ∷ G 1 (byte "I") mayWrite ∷ [])
+    ≡ refuses 19 none ∷ refuses 19 none ∷ refuses 8 none ∷ [])
+unfolding _>>=_ operation admission job kind neededRight freshDesk changed withRight atStation slotCount stationCount maxRight
+grant-example = (refl, refl)

@@ -17,9 +17,9 @@ use Rattle.higman.specs.Fronts.{block}
 use Rattle.higman.specs.Text.{digitOf, lineEnd, Bytes, byte, bytes, lines}
 use Rattle.higman.specs.Refusals.{noRecord}
 use Rattle.higman.specs.Listing.{joinLines}
-use Rattle.desk.specs.Limits.{stationCount, maxChanges, maxLine, maxNumeral}
+use Rattle.desk.specs.Limits.{stationCount, maxRight, maxChanges, maxLine, maxNumeral}
 use Rattle.desk.specs.Desk.{Desk, freshDesk, changed, withDraft, dropped}
-use Rattle.desk.specs.Records.{grammar, parse, kind}
+use Rattle.desk.specs.Records.{grammar, parse, neededRight, kind}
 use Rattle.desk.specs.Replies.{_>>=_, Effect, refuse, settle, job, operation, admission, lineOperation, respondLine, run}
 use Rattle.desk.specs.Bytes.{replyBytes}
 
@@ -126,9 +126,8 @@ linesFrom-example = refl
 
 -- a last line without byte 10, and none behind the last byte 10
 last-line-example : map session (bytes "T" ∷ bytes "T\n" ∷ bytes "\nT\r" ∷ []) ≡ bytes "ok\t0\n" ∷ bytes "ok\t0\n" ∷ bytes "no\t1\nno\t1\n" ∷ []
-unfolding session run replyBytes _>>=_ respondLine lineOperation operation admission job kind parse grammar freshDesk dropped slotCount
-    stationCount
-    maxLine
+unfolding session run replyBytes _>>=_ respondLine lineOperation operation admission job kind neededRight parse grammar freshDesk dropped
+    slotCount stationCount maxRight maxLine
 last-line-example = refl
 
 -- behind 1,100 bytes of a line one more makes it too long: what it held is let go, and at its end it is refused
@@ -136,14 +135,12 @@ abbrev fullLine : State
 fullLine = record { desk = freshDesk; line = replicate maxLine (byte "T"); overlong = false }
 
 overlong-example : feed fullLine (bytes "TT\nT\n") ≡ (idle freshDesk, bytes "no\t1\nok\t0\n")
-unfolding feed feedByte replyBytes _>>=_ respondLine lineOperation operation admission job kind parse grammar freshDesk dropped slotCount
-    stationCount
-    maxLine
+unfolding feed feedByte replyBytes _>>=_ respondLine lineOperation operation admission job kind neededRight parse grammar freshDesk dropped
+    slotCount stationCount maxRight maxLine
 overlong-example = refl
 
 session-in-full : session inputInFull ≡ outputInFull
-unfolding session run replyBytes _>>=_ respondLine lineOperation operation admission job kind parse grammar freshDesk changed withDraft
-    dropped slotCount stationCount maxChanges maxLine maxNumeral isPlanWord digitOf maxPairs maxDigits maxCode maxPower shapeInRange granted
-    isCode
-    verdict followed inverted raised powered routed block keep compose inverse identity normalForm normal joined
+unfolding session run replyBytes _>>=_ respondLine lineOperation operation admission job kind neededRight parse grammar freshDesk changed
+    withDraft dropped slotCount stationCount maxRight maxChanges maxLine maxNumeral isPlanWord digitOf maxPairs maxDigits maxCode maxPower
+    shapeInRange granted isCode verdict followed inverted raised powered routed block keep compose inverse identity normalForm normal joined
 session-in-full = refl

@@ -1,7 +1,7 @@
 -- Stations (change request E5): how many changes each has made, counted by what the lines did, and the statement that the desk's counts are
 -- these, that Z alone names a station, and that no count stands in another station's way. To be believed: `changesMade`, `OwnCountAgrees`
--- and the statement. Read Demands.antt next.
-use Prim.Native.Nat.{ℕ, _+_, _≤_, _<_}
+-- and the statement. Read Rights.antt next.
+use Prim.Native.Nat.{ℕ, _+_, _≤_}
 use mathlib.Core.Path.{_≡_, refl}
 use mathlib.Core.Bool.{Bool, true, false, _&&_}
 use mathlib.Core.List.{List, [], _∷_, map}
@@ -12,9 +12,9 @@ use Rattle.higman.specs.Limits.{slotCount, shapeInRange, isPlanWord, maxPairs, 
 use Rattle.higman.specs.Answers.{verdict, inverted}
 use Rattle.higman.specs.Normal.{joined, normal, normalForm, keep, inverse}
 use Rattle.higman.specs.Refusals.{Letter}
-use Rattle.desk.specs.Limits.{stationCount, maxChanges, maxLine}
+use Rattle.desk.specs.Limits.{stationCount, maxRight, maxChanges, maxLine}
 use Rattle.desk.specs.Desk.{Desk, freshDesk, stationOf, changesOf, countOf, IsDesk, changed, withDraft, dropped, atStation}
-use Rattle.desk.specs.Records.{Record, T, Z, stationsNamed, isChange, kind, parse, grammar}
+use Rattle.desk.specs.Records.{Right, Record, T, Z, G, neededRight, stationsNamed, isChange, kind, parse, grammar}
 use Rattle.desk.specs.Replies.{ok, okNumber, Outcome, refuse, pass, _>>=_, Effect, bit, admission, job, operation, recordOf}
 use Rattle.desk.specs.Replies.{lineOperation, respondLine, run, deskAfter}
 use Rattle.desk.specs.Bytes.{replyBytes}
@@ -38,6 +38,7 @@ pub record OwnCountAgrees (d c : Desk) : Type 0 where
   pub slots : d .slots ≡ c .slots
   pub draft : d .draft ≡ c .draft
   pub station : stationOf d ≡ stationOf c
+  pub rights : d .control .rights ≡ c .control .rights
   pub own : countOf d ≡ countOf c
 
 pub record CountsOfStations : Type 0 where
@@ -50,9 +51,9 @@ pub record CountsOfStations : Type 0 where
   -- "Z⇥digit names the station for the records after it", "counts no change and replies `ok`", whatever the counts are; that is all it does
   pub names : (d : Desk) (s : ℕ) → d .draft ≡ none → s ≤ 7 → operation d (Z s) ≡ pass (atStation d s, ok)
   pub named : (d : Desk) (s : ℕ) (e : Effect) → operation d (Z s) ≡ pass e → (s ≤ 7) × (e ≡ (atStation d s, ok))
-  -- no other record names one, by its kind or by what it does, and a line that is refused leaves station and counts
+  -- no other record but G names one by its kind, none does by what it does, and a line that is refused leaves station, counts and rights
   pub names-own : (s : ℕ) → stationsNamed (Z s) ≡ s ∷ []
-  pub names-none : (r : Record) → ((s : ℕ) → r ≡ Z s → ⊥) → stationsNamed r ≡ []
+  pub names-none : (r : Record) → ((s : ℕ) → r ≡ Z s → ⊥) → ((s a : ℕ) (x : Right) → r ≡ G s a x → ⊥) → stationsNamed r ≡ []
   pub stays : (d : Desk) (r : Record) (e : Effect) → ((s : ℕ) → r ≡ Z s → ⊥) → operation d r ≡ pass e
       → stationOf (e .0) ≡ stationOf d
   pub refused : (d : Desk) (l : Bytes) (n : ℕ) (c : Option Letter) → lineOperation d l ≡ refuse n c
@@ -74,7 +75,7 @@ stations-example : (map (λ e. replyBytes (e .1)) (run freshDesk twoStations)
     ≡ map bytes ("" ∷ "" ∷ "ok\t1\n" ∷ "ok\n" ∷ "ok\t1\n" ∷ "ok\n" ∷ "no\t18\n" ∷ "ok\t2\n"
     ∷ "" ∷ "no\t2\n" ∷ "no\t2\n" ∷ "ok\t2\n" ∷ "ok\n" ∷ "ok\t1\n" ∷ "ok\n" ∷ "ok\t0\n" ∷ []))
     × (map (λ s. changesMade s freshDesk twoStations) (0 ∷ 1 ∷ 7 ∷ []) ≡ 1 ∷ 0 ∷ 2 ∷ [])
-unfolding changesMade run replyBytes _>>=_ respondLine lineOperation operation admission job kind parse grammar freshDesk changed withDraft
-    dropped atStation slotCount stationCount maxChanges maxLine shapeInRange isPlanWord maxPairs maxDigits verdict digitOf inverted inverse
-    keep normalForm normal joined
+unfolding changesMade run replyBytes _>>=_ respondLine lineOperation operation admission job kind neededRight parse grammar freshDesk
+    changed withDraft dropped atStation slotCount stationCount maxRight maxChanges maxLine shapeInRange isPlanWord maxPairs maxDigits
+    verdict digitOf inverted inverse keep normalForm normal joined
 stations-example = (refl, refl)

@@ -22,7 +22,7 @@ use Rattle.higman.specs.Shortest.{ActsAs, NotShorter}
 use Rattle.higman.specs.Listing.{slotNumber, slotByte, isSlot, openRecord, pairRecords, joinLines}
 use Rattle.higman.specs.Buffers.{written, OnlyOutputChanges}
 use Rattle.desk.specs.Limits.{maxChanges}
-use Rattle.desk.specs.Desk.{Desk, countOf, held, IsDesk, isDesk, freshDesk, changed, withDraft, dropped}
+use Rattle.desk.specs.Desk.{Desk, countOf, ownRight, held, IsDesk, isDesk, freshDesk, changed, withDraft, dropped}
 use Rattle.desk.specs.Records.{Record, P, M, E, W, L, U, recordText, wellFormed}
 use Rattle.desk.specs.Replies.{refuse, pass, Effect, lists, surveys, Held, pairsIn, okNumber, okBlock, refuses, operation}
 use Rattle.desk.specs.Replies.{respondLine, run, deskAfter}
@@ -57,9 +57,10 @@ abbrev pub NoneTwice : List Held → Type 0
 NoneTwice [] = Unit {0}
 NoneTwice (h ∷ hs) = ((k : Held) → List·Memᴰ k hs → h .slot ≡ k .slot → ⊥) × NoneTwice hs
 
--- what U lists of a desk: "each held slot has its line exactly once", in that order
+-- what U lists of a desk: "each held slot has its line exactly once", in that order, and "U shows only readable slots" (change request
+-- E6), which takes the right 1
 pub record SurveyOf (d : Desk) (hs : List Held) : Type 0 where
-  pub each : (i : ℕ) (p : Plan) → (held d i ≡ some p) ↔ List·Memᴰ (record { slot = i; plan = p }) hs
+  pub each : (i : ℕ) (p : Plan) → ((held d i ≡ some p) × (1 ≤ ownRight d i)) ↔ List·Memᴰ (record { slot = i; plan = p }) hs
   pub once : NoneTwice hs
   pub in-order : InOrder hs
 
@@ -114,10 +115,11 @@ pub record LinesFed : Type 0 where
   pub none-left : (d : Desk) → finish (idle d) ≡ (dropped d, [])
 
 -- What is typed is what the lines say: P and M records of words within the limits, typed into a desk with no open plan, get no reply
--- and open just the plan that they spell, in their order. Whatever follows, E first of all, meets that plan.
+-- and open just the plan that they spell, in their order. Whatever follows, E first of all, meets that plan. The slot takes the right 2.
 abbrev pub TypedIn : Type 0
 TypedIn =
-    (d : Desk) → d .draft ≡ none → (b : ℕ) → T (isSlot b) → (s : Shape) (t : Table) → T (isTableOf s t) → (rest : Bytes)
+    (d : Desk) → d .draft ≡ none → (b : ℕ) → T (isSlot b) → 2 ≤ ownRight d (slotNumber b)
+    → (s : Shape) (t : Table) → T (isTableOf s t) → (rest : Bytes)
     → feed (idle d) (openRecord b s ++ (joinLines (pairRecords t) ++ rest))
     ≡ feed (idle (withDraft d (record { slot = slotNumber b; shape = s; rows = t }))) rest
 
@@ -133,9 +135,11 @@ typedTable ps = map (λ p. record { from = wordOf (p .from); to = wordOf (p .to)
 abbrev pub typedRecords : ℕ → Shape → List TypedPair → List Record
 typedRecords b s ps = P b (s .arity) (s .roots) ∷ (map (λ p. M (p .from) (p .to)) ps ++ E ∷ [])
 
--- what the paper asks of a typed plan: a slot, a shape, words of the shape within the limits, bases for columns, and room in the count
+-- what the paper asks of a typed plan: a slot that may be written, a shape, words of the shape within the limits, bases for columns, and
+-- room in the count
 pub record Acceptable (d : Desk) (b : ℕ) (s : Shape) (t : Table) : Type 0 where
   pub slot-named : T (isSlot b)
+  pub right : 2 ≤ ownRight d (slotNumber b)
   pub in-range : T (shapeInRange s)
   pub words : T (all (λ p. isPlanWord s (p .from) && isPlanWord s (p .to)) t)
   pub few : length t ≤ maxPairs
@@ -153,10 +157,12 @@ pub record AcceptedFromLines : Type 0 where
       → (Acceptable d b s (typedTable ps) → ⊥)
       → deskAfter d (run d (map recordText (typedRecords b s ps))) ≡ d
 
--- What L replies, read back on a desk with no open plan and room for a change, keeps the plan in the slot that the listing names.
+-- What L replies, read back on a desk with no open plan and room for a change, where the slot that the listing names may be written, keeps
+-- the plan in that slot.
 abbrev pub ListingReadBack : Type 0
 ListingReadBack =
-    (d : Desk) → d .draft ≡ none → countOf d < maxChanges → (b : ℕ) → T (isSlot b) → (p : Plan) → Kept p
+    (d : Desk) → d .draft ≡ none → countOf d < maxChanges → (b : ℕ) → T (isSlot b) → 2 ≤ ownRight d (slotNumber b)
+    → (p : Plan) → Kept p
     → feed (idle d) (replyBytes (lists b p))
     ≡ (idle (changed d (slotNumber b) (some p)), replyBytes (okNumber (length (p .rows))))
 

@@ -38,7 +38,7 @@ use Rattle.desk_c.specs.Calls.{worked}
 use Rattle.desk_c.specs.CallsExact.{TakenForDesk, planDropped, UnservedLine, ServedLine, LinesNumbered, IsJobOf, JobRefused}
 use Rattle.desk_c.specs.CallsExact.{writtenReply, okLineOf, DoneAsLine, JobsExact, DeskCallsExact}
 use Rattle.desk_c.proofs.JobLines.{job-record, Read, record-of-job, text-short, done-well-formed, Plain, replies-plainly}
-use Rattle.desk_c.proofs.JobLines.{letter-known, splits-few, refusal-positive}
+use Rattle.desk_c.proofs.JobLines.{letter-known, splits-few, refusal-positive, none-above}
 
 -- no desk
 no-desk-line : (line : Bytes) (v : Desk) (out : Bytes) → isDeskValue v ≡ false → UnservedLine line v out v 15 0
@@ -258,6 +258,7 @@ jobs-exact =
       no-record = λ j v t h. no-record v t j h;
       unknown-letter = λ j v t h. no-record v t j (λ r k. h (letter-known r j k));
       many-splits = λ j v t e h. no-record v t j (λ r k. omega (arith, splits-few r j k e));
+      right-above = λ j v t e h. no-record v t j (none-above j e h);
       as-line = as-line;
       refused = λ r j v n c h t e. refused-as-record v t r j h n c e;
       done-has-line = done-has-line;

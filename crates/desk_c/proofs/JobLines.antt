@@ -5,7 +5,7 @@ use mathlib.Core.Path.{_≡_, refl, sym, _∙_, ap, subst}
 use mathlib.Core.Logic.{_⊎_, inl, inr}
 use mathlib.Core.Bool.{Bool, true, false, _&&_}
 use mathlib.Core.List.{List, [], _∷_, _++_, List·Memᴰ, List·Memᴰ·head, List·Memᴰ·tail}
-use mathlib.Core.Option.{Option, none, some, Option·none-ne-some}
+use mathlib.Core.Option.{Option, none, some, Option·none-ne-some, Option·some-ne-none}
 use native.Mathlib.Omega.{arith}
 use borrow.Author.Tests.{leb-true, leb-false, eqb-true}
 use lib.Dec.{T, leb, eqb, leb→le}
@@ -23,9 +23,10 @@ use Rattle.higman.proofs.Exercises.{exercises-exact}
 use Rattle.desk.specs.Limits.{maxLine, maxNumeral, maxSplitsNumeral, maxSeedNumeral}
 use Rattle.desk.specs.Desk.{Desk as DeskOf, IsDesk, isStation}
 use Rattle.desk.specs.Records.{Record, P, M, E, F, I, K, S, W, L, C, T as Tᴿ, U, X, Z, recordFields, recordText, noTab, hasDigits}
-use Rattle.desk.specs.Records.{signedDecimal, numbersFit, wellFormed, SlotUse, slotsNamed, kind}
+use Rattle.desk.specs.Records.{signedDecimal, numbersFit, wellFormed, SlotUse, slotsNamed, kind, G, Right, noRight, mayRead, mayWrite}
+use Rattle.desk.specs.Records.{rightNumber}
 use Rattle.desk.specs.Replies.{Reply, silent, ok, okNumber, okWord, okBlock, lists, surveys, refuses, Outcome, refuse, pass, Effect}
-use Rattle.desk.specs.Replies.{ofAnswer, job, operation}
+use Rattle.desk.specs.Replies.{ofAnswer, job, operation, grantBy}
 use Rattle.desk.specs.Conditions.{Condition, conditions, firstOf, refusalOf}
 use Rattle.desk.specs.Grammar.{NumbersFit}
 use Rattle.desk.proofs.Fields.{no-tab-cons, word-no-tab}
@@ -34,6 +35,7 @@ use Rattle.desk.proofs.Outcomes.{Passes, stops, passes, passes-then, any-then, 
 use Rattle.desk.proofs.Conditions.{first-condition}
 use Rattle.desk.proofs.ReadBack.{slot-plain}
 use Rattle.desk.proofs.Demands.{demands}
+use Rattle.stations.proofs.Granting.{Numbered, numbered}
 use Rattle.desk_c.specs.declared.Job.{Job}
 use Rattle.desk_c.specs.Calls.{exerciseRecord, jobRecord}
 use Rattle.desk_c.specs.CallsExact.{IsJobOf}
@@ -42,6 +44,10 @@ use Rattle.desk_c.proofs.Jobs.{few-splits, many-splits}
 -- X by whether its splits have two digits
 abbrev exerciseBy : Record → Bool → Outcome Record
 exerciseBy r b = elim b [ true ↦ pass r | false ↦ refuse noRecord none ]
+
+-- G by its numbers, as a right with that number or none
+abbrev grantAs : ℕ → ℕ → Option Right → Outcome Record
+grantAs s a o = elim o [ none ↦ refuse noRecord none | some y ↦ pass (G s a y) ]
 
 -- a job that is laid out as a record's is that record
 pub job-record : (r : Record) (j : Job) → IsJobOf r j → jobRecord j ≡ pass r
@@ -68,9 +74,12 @@ job-record (X a n r s seed) j (l, x, y, z, u, w, few) =
     ∙ ap (exerciseBy (X a n r s seed)) (few-splits s few)
 job-record (Z s) j (l, x) =
     λ i. jobRecord (record { letter = l i; a = x i; b = j .b; c = j .c; k = j .k; seed = j .seed; splits = j .splits })
+job-record (G s a x) j (l, u, y, z) =
+    (λ i. jobRecord (record { letter = l i; a = u i; b = y i; c = z i; k = j .k; seed = j .seed; splits = j .splits }))
+    ∙ demands .demand2 .rights .by-number s a x
 
--- its letter is one of ten, and the splits of X have two digits at most
-pub letter-known : (r : Record) (j : Job) → IsJobOf r j → List·Memᴰ (j .letter) (bytes "PEFIKSCTXZ")
+-- its letter is one of eleven, and the splits of X have two digits at most
+pub letter-known : (r : Record) (j : Job) → IsJobOf r j → List·Memᴰ (j .letter) (bytes "PEFIKSCTXZG")
 letter-known (P a n r) j h = List·Memᴰ·head (h .0)
 letter-known (M from to) j h = absurd h
 letter-known E j h = List·Memᴰ·tail (List·Memᴰ·head h)
@@ -85,6 +94,9 @@ letter-known Tᴿ j h = List·Memᴰ·tail (List·Memᴰ·tail (List·Memᴰ·ta
 letter-known U j h = absurd h
 letter-known (X a n r s seed) j h = List·Memᴰ·tail (List·Memᴰ·tail (List·Memᴰ·tail (List·Memᴰ·tail (List·Memᴰ·tail (List·Memᴰ·tail (List·Memᴰ·tail (List·Memᴰ·tail (List·Memᴰ·head (h .0)))))))))
 letter-known (Z s) j h = List·Memᴰ·tail (List·Memᴰ·tail (List·Memᴰ·tail (List·Memᴰ·tail (List·Memᴰ·tail (List·Memᴰ·tail (List·Memᴰ·tail (List·Memᴰ·tail (List·Memᴰ·tail (List·Memᴰ·head (h .0))))))))))
+letter-known (G s a x) j h = List·Memᴰ·tail (List·Memᴰ·tail (List·Memᴰ·tail
+    (List·Memᴰ·tail (List·Memᴰ·tail (List·Memᴰ·tail (List·Memᴰ·tail
+    (List·Memᴰ·tail (List·Memᴰ·tail (List·Memᴰ·tail (List·Memᴰ·head (h .0)))))))))))
 
 pub splits-few : (r : Record) (j : Job) → IsJobOf r j → j .letter ≡ byte "X" → j .splits ≤ 99
 splits-few (P a n r) j h e = absurd (omega arith)
@@ -101,6 +113,15 @@ splits-few Tᴿ j h e = absurd (omega arith)
 splits-few U j h e = absurd h
 splits-few (X a n r s seed) j h e = omega arith
 splits-few (Z s) j h e = absurd (omega arith)
+splits-few (G s a x) j h e = absurd (omega arith)
+
+-- nor is G with a right above 2 a record's job
+pub none-above : (j : Job) → j .letter ≡ byte "G" → 2 < j .c → (r : Record) → IsJobOf r j → ⊥
+none-above j l h r k =
+    let none-read : jobRecord j ≡ refuse noRecord none =
+    (λ i. jobRecord (record { letter = l i; a = j .a; b = j .b; c = j .c; k = j .k; seed = j .seed; splits = j .splits }))
+    ∙ demands .demand2 .rights .above (j .a) (j .b) (j .c) h in
+    absurd (Option·some-ne-none _ (ap refusalOf (sym none-read ∙ job-record r j k)))
 
 -- and no other job is a record
 module _ (j : Job) where
@@ -126,6 +147,15 @@ module _ (j : Job) where
       by false e =
           inr (ap (exerciseBy (X (j .a) (j .b) (j .c) (j .splits) (j .seed))) (many-splits (j .splits) (leb-false (j .splits) 99 e)))
 
+  grant-read : j .letter ≡ byte "G" → Read (grantBy (j .a) (j .b) (j .c))
+  grant-read l = by (leb (j .c) 2) refl
+    where
+      by : (t : Bool) → leb (j .c) 2 ≡ t → Read (grantBy (j .a) (j .b) (j .c))
+      by true e =
+          let n = numbered (j .c) (leb-true (j .c) 2 e) in
+          inl (G (j .a) (j .b) (n .right), ap (grantAs (j .a) (j .b)) (n .by-number), (l, refl, refl, sym (n .number)))
+      by false e = inr (demands .demand2 .rights .above (j .a) (j .b) (j .c) (leb-false (j .c) 2 e))
+
   pub record-of-job : Read (jobRecord j)
   record-of-job =
       by-letter (byte "P") _ _ (λ l. inl (P (j .a) (j .b) (j .c), refl, (l, refl, refl, refl)))
@@ -137,7 +167,8 @@ module _ (j : Job) where
       (by-letter (byte "C") _ _ (λ l. inl (C (j .a), refl, (l, refl)))
       (by-letter (byte "T") _ _ (λ l. inl (Tᴿ, refl, l))
       (by-letter (byte "X") _ _ exercise-read
-      (by-letter (byte "Z") _ _ (λ l. inl (Z (j .a), refl, (l, refl))) (inr refl))))))))))
+      (by-letter (byte "Z") _ _ (λ l. inl (Z (j .a), refl, (l, refl)))
+      (by-letter (byte "G") _ _ grant-read (inr refl)))))))))))
 
 -- the digits of a number that fits its field
 digits : (m k : ℕ) → T (hasDigits m k) → length (decimal k) ≤ m
@@ -146,6 +177,12 @@ digits m k h = leb→le (length (decimal k)) m h
 fit : (r : Record) → T (wellFormed r) → T (numbersFit r)
 unfolding wellFormed
 fit r h = and-right (all noTab (recordFields r)) (numbersFit r) h
+
+right-digit : (x : Right) → length (decimal (rightNumber x)) ≡ 1
+unfolding rightNumber
+right-digit noRight = refl
+right-digit mayRead = refl
+right-digit mayWrite = refl
 
 pub text-short : (r : Record) (j : Job) → IsJobOf r j → T (wellFormed r) → length (recordText r) ≤ maxLine
 unfolding recordText maxLine maxNumeral maxSplitsNumeral maxSeedNumeral
@@ -185,6 +222,10 @@ text-short (X a n r s seed) j h wf =
       length-append (decimal s) (tab ∷ decimal seed),
     )
 text-short (Z s) j h wf = let s-digits = digits 1 s (fit (Z s) wf) in omega arith
+text-short (G s a x) j h wf =
+    let s-digits = digits 1 s (fit (G s a x) wf) in
+    let right = decimal (rightNumber x) in
+    omega (arith, right-digit x, length-append (decimal s) (tab ∷ a ∷ tab ∷ right))
 
 -- fields of slots and of numbers have no tab
 slot-field : (a : ℕ) → T (isSlot a) → T (noTab (a ∷ []))
@@ -304,6 +345,12 @@ module _ (d : DeskOf) where
       passes-operation d (Z s) (λ t.
       let known = demands .limits .station-numbers s .0 (all-head isStation s [] (t .admitted .stations-known)) in
       always (job d (Z s)) (formed (Z s) (tt, (number-field s, tt)) (omega arith)))
+  done-well-formed (G s a x) j h =
+      passes-operation d (G s a x) (λ t.
+      let known = demands .limits .station-numbers s .0 (all-head isStation s [] (t .admitted .stations-known)) in
+      let u = slots-of d (G s a x) t in
+      always (job d (G s a x)) (formed (G s a x) (tt, (number-field s, (slot-field a (u .0), (number-field (rightNumber x), tt))))
+      (omega arith)))
 
   -- what is done replies with nothing, `ok` or a number
   abbrev pub Plain : Reply → Type 0
@@ -332,6 +379,7 @@ module _ (d : DeskOf) where
   job-plain U j h = absurd h
   job-plain (X a n r s seed) j h = any-then _ (λ _. any-then _ (λ _. passes tt))
   job-plain (Z s) j h = passes tt
+  job-plain (G s a x) j h = any-then _ (λ _. passes tt)
 
   pub replies-plainly : (r : Record) (j : Job) → IsJobOf r j → Passes (λ (e : Effect). Plain (e .1)) (operation d r)
   replies-plainly r j h = passes-operation d r (λ _. job-plain r j h)
@@ -373,6 +421,7 @@ numbers-positive d Tᴿ = tt
 numbers-positive d U = tt
 numbers-positive d (X a n r s seed) = tt
 numbers-positive d (Z s) = tt
+numbers-positive d (G s a x) = tt
 
 pub refusal-positive : (d : DeskOf) → IsDesk d → (r : Record) (n : ℕ) (c : Option Letter) → operation d r ≡ refuse n c → 1 ≤ n
 refusal-positive d D r n c e =

@@ -32,13 +32,19 @@ use Rattle.desk_c.specs.Calls.{columnByte, replyNumber, doneOf, jobRecor
 use Rattle.desk_c.specs.Settling.{JobDone, toldPlainly, headBy, headLeft}
 use Rattle.desk_c.proofs.Replied.{refusal-left}
 
--- a job whose record is known is done as the record is
-pub job-done : (j : Job) (h : Head) (columns : List ℕ) (w : Work) (columns′ : List ℕ) (r : Record) → jobRecord j ≡ pass r
-    → ((out : List ℕ) → Done r h columns out w columns′ out) → JobDone j h columns w columns′
-unfolding jobWork _>>=_
-job-done j h columns w columns′ r e k out =
+-- a job does what is meant by it
+pub job-meant : (j : Job) (h : Head) (columns : List ℕ) (w : Work) (columns′ : List ℕ) (o : OutcomeOf Record) → jobRecord j ≡ o
+    → ((out : List ℕ) → DoneBy (deskOf h columns) (o >>= operation (deskOf h columns)) out w columns′ out) → JobDone j h columns w columns′
+unfolding jobWork
+job-meant j h columns w columns′ o e k out =
     let d = deskOf h columns in
     subst (λ (z : OutcomeOf Record). DoneBy d (z >>= operation d) out w columns′ out) (sym e) (k out)
+
+-- one whose record is known is done as the record is
+pub job-done : (j : Job) (h : Head) (columns : List ℕ) (w : Work) (columns′ : List ℕ) (r : Record) → jobRecord j ≡ pass r
+    → ((out : List ℕ) → Done r h columns out w columns′ out) → JobDone j h columns w columns′
+unfolding _>>=_
+job-done j h columns w columns′ r e k = job-meant j h columns w columns′ (pass r) e k
 
 -- a letter that has none is refused
 pub no-job : (j : Job) (h : Head) (columns : List ℕ) → HoldsDesk h columns → (w : Work) → jobRecord j ≡ refuse noRecord none

@@ -12,12 +12,12 @@ use lib.IntN.{ℤ, pos}
 use Rattle.higman.specs.Text.{Bytes, byte, bytes}
 use Rattle.higman.specs.Limits.{maxPairs, slotCount}
 use Rattle.higman.specs.Refusals.{noRecord, invalidValue, Letter, letterByte}
-use Rattle.desk.specs.Limits.{stationCount, maxChanges, maxLine, maxSplitsNumeral}
-use Rattle.desk.specs.Desk.{Desk as DeskOf, isControl, isDesk, freshControl, freshDesk, dropped}
-use Rattle.desk.specs.Records.{Record, P, E, F, I, K, S, C, T, X, Z, parse, grammar, kind, hasDigits}
+use Rattle.desk.specs.Limits.{stationCount, maxChanges, maxLine, maxSplitsNumeral, maxRight}
+use Rattle.desk.specs.Desk.{Desk as DeskOf, isControl, isDesk, freshControl, freshDesk, dropped, areRights}
+use Rattle.desk.specs.Records.{Record, P, E, F, I, K, S, C, T, X, Z, parse, grammar, kind, hasDigits, neededRight}
 use Rattle.desk.specs.Replies.{Reply, silent, ok, okNumber, okWord, okBlock, lists, surveys, refuses, Outcome, refuse, pass}
 use Rattle.desk.specs.Replies.{_>>=_, admission, operation, lineOperation}
-use Rattle.desk.specs.Replies.{job as jobOf}
+use Rattle.desk.specs.Replies.{job as jobOf, grantBy}
 use Rattle.desk.specs.Bytes.{replyBytes}
 use Rattle.desk.specs.Buffers.{Work, Lent, lent, lentCall, plainCall}
 use Rattle.operations.specs.Plans.{inTable, packed, blank}
@@ -33,9 +33,9 @@ use Rattle.desk_c.specs.declared.serving.Served.{Served}
 use Rattle.desk_c.specs.declared.serving.Worked.{Worked}
 
 -- the bytes of a desk in C: 16 for the size of each block, 4 for the letter with what fills it up, 4 for the station and for each count,
--- and 8 for each word; tests/headers compares it with what C says
+-- 2 for each station's rights with what fills them up, and 8 for each word; tests/headers compares it with what C says
 abbrev pub deskSize : ℕ
-deskSize = blockCount * 16 + 4 + 4 * (1 + 8) + columnsSize * 8
+deskSize = blockCount * 16 + 4 + (4 * (1 + 8) + 2 * (7 + 1)) + columnsSize * 8
 
 -- "those of E for a column add ⇥F or ⇥T (from, to)": the letter, or 0
 abbrev pub columnByte : Option Letter → ℕ
@@ -103,7 +103,11 @@ jobRecord j =
                                                       | false ↦
                                                           elim (eqb (j .letter) (byte "Z")) [
                                                             | true ↦ pass (Z (j .a))
-                                                            | false ↦ refuse noRecord none
+                                                            | false ↦
+                                                                elim (eqb (j .letter) (byte "G")) [
+                                                                  | true ↦ grantBy (j .a) (j .b) (j .c)
+                                                                  | false ↦ refuse noRecord none
+                                                                ]
                                                           ]
                                                     ]
                                               ]
@@ -161,7 +165,7 @@ worked work d =
       | false ↦ record { desk = d; answer = doneOf (refuse invalidValue none) }
     ]
 
-deskSize-example : deskSize ≡ 18_616
+deskSize-example : deskSize ≡ 18_632
 deskSize-example = refl
 
 -- E refused for its to column, and a job done
@@ -175,9 +179,9 @@ jobWith splits letter = record { letter = letter; a = 65; b = 66; c = 67; k = po
 abbrev job : ℕ → Job
 job letter = jobWith 3 letter
 
--- K⇥A⇥2⇥B; X by its numbers; Z with a number that is no digit; M is none of them
-jobRecord-example : map (λ b. jobRecord (job b)) (byte "K" ∷ byte "X" ∷ byte "Z" ∷ byte "M" ∷ [])
-    ≡ pass (K 65 (pos 2) 66) ∷ pass (X 65 66 67 3 1) ∷ pass (Z 65) ∷ refuse 1 none ∷ []
+-- K⇥A⇥2⇥B; X by its numbers; Z with a number that is no digit; G with a right above 2; M is none of them
+jobRecord-example : map (λ b. jobRecord (job b)) (byte "K" ∷ byte "X" ∷ byte "Z" ∷ byte "G" ∷ byte "M" ∷ [])
+    ≡ pass (K 65 (pos 2) 66) ∷ pass (X 65 66 67 3 1) ∷ pass (Z 65) ∷ refuse 1 none ∷ refuse 1 none ∷ []
 unfolding maxSplitsNumeral
 jobRecord-example = refl
 
@@ -191,15 +195,15 @@ served-example : map (served (bytes "T") (packedDesk freshDesk)) (bytes ".......
     ≡ record { desk = packedDesk freshDesk; answer = record { number = 0; column = 0; length = 5 } }
     ∷ refusedWith (packedDesk freshDesk) 14 0
     ∷ []
-unfolding served isDeskValue deskIn packedDesk deskOf valueAt holdsTest inTable packed blank maxPairs slotCount stationCount
-    maxChanges isControl freshDesk dropped lentCall lent isDesk
+unfolding served isDeskValue deskIn packedDesk deskOf valueAt holdsTest inTable packed blank maxPairs slotCount stationCount maxChanges
+    maxRight areRights isControl freshDesk dropped lentCall lent isDesk
     lineOperation operation admission jobOf kind parse grammar maxLine replyBytes _>>=_
 served-example = refl
 
 buffer-example : map (bufferAfter (bytes "T") (packedDesk freshDesk)) (bytes "......." ∷ bytes "...." ∷ [])
     ≡ bytes "ok\t0\n.." ∷ bytes "...." ∷ []
-unfolding bufferAfter isDeskValue deskIn packedDesk deskOf valueAt holdsTest inTable packed blank maxPairs slotCount stationCount
-    maxChanges isControl freshDesk dropped lentCall lent
+unfolding bufferAfter isDeskValue deskIn packedDesk deskOf valueAt holdsTest inTable packed blank maxPairs slotCount stationCount maxChanges
+    maxRight areRights isControl freshDesk dropped lentCall lent
     isDesk lineOperation operation admission jobOf kind parse grammar maxLine replyBytes _>>=_
 buffer-example = refl
 
@@ -207,8 +211,8 @@ buffer-example = refl
 worked-example : worked (jobWork (job (byte "S"))) (packedDesk freshDesk)
     ≡ record { desk = packedDesk freshDesk; answer = record { number = 9; column = 0; value = 0 } }
 unfolding worked jobWork isDeskValue deskIn packedDesk deskOf valueAt holdsTest inTable packed blank maxPairs slotCount stationCount
-    maxChanges isControl freshDesk dropped plainCall
-    isDesk operation admission jobOf kind _>>=_
+    maxChanges maxRight areRights isControl freshDesk dropped plainCall
+    isDesk operation admission jobOf kind neededRight _>>=_
 worked-example = refl
 
 -- a value with a letter that is no slot's is no desk: 15, and it is left as it came

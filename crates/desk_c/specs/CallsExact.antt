@@ -13,7 +13,7 @@ use lib.ListN.{length, take, drop}
 use Rattle.higman.specs.Text.{Bytes, byte, bytes, decimal}
 use Rattle.higman.specs.Refusals.{Letter}
 use Rattle.desk.specs.Desk.{dropped}
-use Rattle.desk.specs.Records.{Record, P, M, E, F, I, K, S, W, L, C, T, U, X, Z, recordText, wellFormed}
+use Rattle.desk.specs.Records.{Record, P, M, E, F, I, K, S, W, L, C, T, U, X, Z, recordText, wellFormed, G, rightNumber}
 use Rattle.desk.specs.Replies.{refuse, pass, Effect, operation, lineOperation}
 use Rattle.desk.specs.Bytes.{replyBytes}
 use Rattle.desk_values.specs.declared.Desk.{Desk}
@@ -77,6 +77,7 @@ IsJobOf U j = ⊥
 IsJobOf (X a n r s seed) j =
     (j .letter ≡ byte "X") × (j .a ≡ a) × (j .b ≡ n) × (j .c ≡ r) × (j .splits ≡ s) × (j .seed ≡ seed) × (s ≤ 99)
 IsJobOf (Z s) j = (j .letter ≡ byte "Z") × (j .a ≡ s)
+IsJobOf (G s a x) j = (j .letter ≡ byte "G") × (j .a ≡ s) × (j .b ≡ a) × (j .c ≡ rightNumber x)
 
 -- a job is refused, with what is left of the desk
 abbrev pub JobRefused : Job → Desk → Desk → ℕ → ℕ → Type 0
@@ -103,11 +104,13 @@ pub record DoneAsLine (j : Job) (line : Bytes) (v : Desk) (out : Bytes) : Type 0
 -- `desk_do`: 15, then 1 for what is no record's job, else what the line of its record is answered, with nothing written and so no 14.
 pub record JobsExact : Type 0 where
   pub no-desk : (j : Job) (v : Desk) → isDeskValue v ≡ false → JobRefused j v v 15 0
-  -- "1, unknown letter" or "a field form": no record has this job, by its letter or since it is X with splits of three digits
+  -- "1, unknown letter" or "a field form": no record has this job, by its letter, or since it is X with splits of three digits or G with a
+  -- right above 2
   pub no-record : (j : Job) (v : Desk) → TakenForDesk v → ((r : Record) → IsJobOf r j → ⊥) → JobRefused j v (planDropped v) 1 0
-  pub unknown-letter : (j : Job) (v : Desk) → TakenForDesk v → (List·Memᴰ (j .letter) (bytes "PEFIKSCTXZ") → ⊥)
+  pub unknown-letter : (j : Job) (v : Desk) → TakenForDesk v → (List·Memᴰ (j .letter) (bytes "PEFIKSCTXZG") → ⊥)
       → JobRefused j v (planDropped v) 1 0
   pub many-splits : (j : Job) (v : Desk) → TakenForDesk v → j .letter ≡ byte "X" → 99 < j .splits → JobRefused j v (planDropped v) 1 0
+  pub right-above : (j : Job) (v : Desk) → TakenForDesk v → j .letter ≡ byte "G" → 2 < j .c → JobRefused j v (planDropped v) 1 0
   pub as-line : (r : Record) (j : Job) (v : Desk) (out : Bytes) → IsJobOf r j → So (wellFormed r) → TakenForDesk v
       → (served (recordText r) v out .answer .number ≡ 14 → ⊥) → DoneAsLine j (recordText r) v out
   -- a job of numbers that no line has digits for is refused as its record is: n of 10 with 3, k of 10000 with 12, a station of 10 with 18

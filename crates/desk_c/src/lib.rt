@@ -55,7 +55,7 @@ pub extern "C" fn desk_fresh() -> Desk
 pub extern "C" fn desk_size() -> usize
     ensures { λ r. ⌜ r ≡ deskSize ⌝ }
 {
-    18616
+    18632
 }
 
 // Whether a value is a desk.

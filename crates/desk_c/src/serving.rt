@@ -215,6 +215,9 @@ fn perform(head: Head, columns: &mut [u64], job: Job) -> Work
     if letter == b'Z' {
         return stations::name(head, job.a);
     }
+    if letter == b'G' {
+        return stations::grant(head, job.a, job.b, job.c);
+    }
     slots::refused(head, slots::numbers::NO_RECORD)
 }
 

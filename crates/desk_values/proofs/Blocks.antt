@@ -26,6 +26,7 @@ use Rattle.slots.specs.Desks.{slotAt, draftBlock, draftIn, draftOf, deskOf, Hol
 use Rattle.columns.proofs.Limits.{pair-limit}
 use Rattle.slots.proofs.Held.{slots-eight, slot-plan}
 use Rattle.slots.proofs.Windows.{put-length, put-from, put-to, put-before}
+use Rattle.slots.proofs.Rows.{control-again}
 use Rattle.desk_values.specs.declared.Desk.{Desk}
 use Rattle.desk_values.specs.Values.{heldValue, draftValue, openedBy, wordsIn, tidySize, tidySizes, packedDesk}
 
@@ -219,14 +220,15 @@ module _ (h : Head) (columns : List ℕ) (H : HoldsDesk h columns) where
   unfolding valueAt
   sizes-packed = sizes-are (slotAt h columns) draft (λ i. tidySize (sizeAt h i)) (λ i k. ap sizeOf (held-value h columns H i k))
 
-  pub desk-packed : record {
+  pub desk-packed : ((s : ℕ) → getD (h .control .rights) s 0 < 65_536) → record {
     blocks = tidySizes (h .sizes) (sizeOf draft);
     opened = openedBy (draftOf h columns);
     control = h .control;
     columns = words;
   } ≡ packedDesk (deskOf h columns)
   unfolding packedDesk deskOf
-  desk-packed =
+  desk-packed narrow =
       let sizes = sizes-packed in
       let all = words-packed in
-      sym (λ i. record { blocks = sizes i; opened = openedBy (draftOf h columns); control = h .control; columns = all i })
+      let control = control-again (h .control) narrow in
+      sym (λ i. record { blocks = sizes i; opened = openedBy (draftOf h columns); control = control i; columns = all i })

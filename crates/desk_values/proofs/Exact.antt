@@ -23,12 +23,14 @@ use Rattle.slots.specs.declared.Head.{Head}
 use Rattle.slots.specs.Blocks.{noSize, sizeAt, sizeOf, fromPlace, toPlace, valueAt}
 use Rattle.slots.specs.Desks.{slotAt, draftBlock, draftOf, deskOf, HoldsDesk}
 use Rattle.slots.proofs.Held.{slots-eight, same-count}
+use Rattle.slots.proofs.Rows.{control-again}
 use Rattle.desks.specs.Tested.{holdsTest}
 use Rattle.desks.proofs.Exact.{holds-exact}
 use Rattle.desk_values.specs.declared.Desk.{Desk}
 use Rattle.desk_values.specs.Values.{openedTest, headOf, deskIn, noShape, sizeTest, sizesTest, blankTest, draftTest, isDeskValue}
 use Rattle.desk_values.specs.Values.{heldValue, draftValue, openedBy, tidySize, tidySizes, packedDesk, Whole}
 use Rattle.desk_values.proofs.Desk.{the-row}
+use Rattle.desk_values.proofs.Narrow.{narrow-rights}
 use Rattle.desk_values.proofs.Blocks.{unused-zeros, no-pairs, from-places, to-places, held-value, draft-closed, draft-opened}
 use Rattle.desk_values.proofs.Blocks.{draft-filled}
 use Rattle.desk_values.proofs.Blocks.{words-are, sizes-packed}
@@ -161,7 +163,8 @@ module _ (d : Desk) (whole : Whole d) (t : T (isDeskValue d)) where
       (held-value h columns value-holds i n))
       (ap (λ (p : Plan). p .from) draft-same) (ap (λ (p : Plan). p .to) draft-same) in
       let opened = opened-same in
-      λ i. record { blocks = sizes i; opened = opened i; control = d .control; columns = words i }
+      let control = control-again (d .control) (whole .narrow) in
+      λ i. record { blocks = sizes i; opened = opened i; control = control i; columns = words i }
 
 -- a value that a function is given is whole: what the caller owns says so
 pub whole-of-good : (d : Desk) (values : List Val) → Is the-row d values → Whole d
@@ -169,4 +172,5 @@ whole-of-good d values good =
     record {
       headed = sym (length-map (d .blocks) _) ∙ good .1 .1 .0 .1 .0 .1;
       sized = sym (length-map (d .columns) (λ (x : ℕ). x)) ∙ good .1 .1 .1 .1 .1 .0 .1 .0 .1;
+      narrow = narrow-rights (d .control .rights) _ (good .1 .1 .1 .1 .0 .1 .1 .1 .1 .0 .1 .1);
     }

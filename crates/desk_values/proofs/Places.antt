@@ -11,12 +11,16 @@ use Rattle.higman.specs.Tables.{froms, tos}
 use Rattle.higman.specs.Limits.{Plan as PlanOf, maxPairs}
 use Rattle.words.specs.Packed.{pack}
 use Rattle.desk.specs.Limits.{stationCount}
-use Rattle.desk.specs.Desk.{Desk as DeskOf, IsDesk}
+use Rattle.desk.specs.Desk.{Desk as DeskOf, IsDesk, rightOf}
 use Rattle.operations.specs.declared.Plan.{Plan}
 use Rattle.operations.specs.Plans.{column, packed, blank}
 use Rattle.slots.specs.Blocks.{fromPlace, toPlace, valueAt}
 use Rattle.columns.proofs.Limits.{pair-limit}
 use Rattle.slots.proofs.Held.{slots-eight}
+use Rattle.slots.specs.Rights.{rightAt, packedRow, packedRights}
+use Rattle.slots.specs.Desks.{controlOf, controlIn}
+use Rattle.slots.proofs.Rows.{control-back, station-right}
+use Rattle.desk.specs.Desk.{Control as ControlOf, IsControl}
 use Rattle.desk_values.specs.declared.Desk.{Desk}
 use Rattle.desk_values.specs.Values.{headOf, heldValue, draftValue, openedBy, packedDesk}
 use Rattle.desk_values.specs.Places.{WordsFrom, BlockHolds, BlockEmpty, DeskLayout}
@@ -83,6 +87,20 @@ eight-counts : (d : DeskOf) → IsDesk d → length (d .control .changes) ≡ 8
 unfolding stationCount
 eight-counts d D = D .control .each
 
+seven-rows : (d : DeskOf) → IsDesk d → length (packedRights (d .control .rights)) ≡ 7
+unfolding stationCount
+seven-rows d D = length-map (d .control .rights) packedRow ∙ D .control .rights .each-station
+
+-- a right in the value is that of the control block that the value holds
+right-kept : (d : DeskOf) → IsDesk d → (s i : ℕ) → 1 ≤ s → s < 8 → i < 8
+    → rightAt (getD (packedRights (d .control .rights)) (s - 1) 0) i ≡ rightOf (d .control .rights) s i
+unfolding stationCount
+right-kept d D s i low high k =
+    let c = controlIn (d .control) in
+    let back : controlOf c ≡ d .control = control-back (d .control) (D .control) in
+    station-right c (subst IsControl (sym back) (D .control)) s i low high (omega (arith, slots-eight))
+    ∙ ap (λ (x : ControlOf). rightOf (x .rights) s i) back
+
 pub desk-layout : DeskLayout
 unfolding packedDesk
 desk-layout d D =
@@ -100,4 +118,6 @@ desk-layout d D =
       station = refl;
       counts = eight-counts d D;
       count = λ s _. refl;
+      rights = seven-rows d D;
+      right = right-kept d D;
     }

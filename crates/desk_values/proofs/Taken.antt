@@ -29,6 +29,7 @@ use Rattle.slots.specs.Blocks.{blockCount, columnsSize, noSize, sizeAt, sizeOf,
 use Rattle.slots.specs.Desks.{heldBy, slotAt, draftBlock, draftIn, draftOf, deskOf, HoldsDesk}
 use Rattle.columns.proofs.Limits.{pair-limit}
 use Rattle.slots.proofs.Held.{slots-eight, same-count}
+use Rattle.slots.proofs.Rows.{control-back, packed-narrow}
 use Rattle.changing.proofs.Keeping.{kept-held, kept-in-table}
 use Rattle.desks.specs.Tested.{holdsTest}
 use Rattle.desks.proofs.Exact.{holds-exact}
@@ -256,7 +257,8 @@ module _ (d : DeskOf) (D : IsDesk d) where
   desk-back =
       let slots = slots-back in
       let drafted = draft-back in
-      λ i. record { slots = slots i; draft = drafted i; control = d .control }
+      let control = control-back (d .control) (D .control) in
+      λ i. record { slots = slots i; draft = drafted i; control = control i }
 
   value-holds-desk : HoldsDesk head columns
   unfolding deskIn valueAt
@@ -307,7 +309,7 @@ module _ (d : DeskOf) (D : IsDesk d) where
       let h = holdsTest head columns in
       let z = sizesTest (packedDesk d .blocks) in
       let t = draftTest (openedBy (d .draft)) (valueAt head columns draftBlock) in (
-        record { headed = headed; sized = sized },
+        record { headed = headed; sized = sized; narrow = packed-narrow (d .control .rights) (D .control .rights) },
         and-intro (o && h && z) t (and-intro (o && h) z (and-intro o h opened-passes holds) sizes-pass)
             (subst (λ v. T (draftTest (openedBy (d .draft)) v)) (sym draft-value) draft-passes),
       )

@@ -1,6 +1,6 @@
 -- The value of a desk place by place, in the figures that include/desk.h publishes: nine blocks, those of the slots A to H and then that of
 -- the open plan, and for each 128 from-words and 128 to-words; and eight counts. How a word packs is `WordsPack` of the crate `plans`.
-use Prim.Native.Nat.{ℕ, _+_, _*_, _≤_, _<_}
+use Prim.Native.Nat.{ℕ, _+_, _*_, _-_, _/_, _%_, _^_, _≤_, _<_}
 use mathlib.Core.Path.{_≡_}
 use mathlib.Core.List.{List, []}
 use mathlib.Core.Option.{none, some}
@@ -10,7 +10,7 @@ use Rattle.higman.specs.Tables.{Table, froms, tos}
 use Rattle.higman.specs.Text.{byte}
 use Rattle.higman.specs.Limits.{Plan as PlanOf}
 use Rattle.words.specs.Packed.{pack}
-use Rattle.desk.specs.Desk.{Draft, Desk as DeskOf, stationOf, changesOf, held, IsDesk}
+use Rattle.desk.specs.Desk.{Draft, Desk as DeskOf, stationOf, changesOf, held, IsDesk, rightOf}
 use Rattle.slots.specs.Blocks.{noSize}
 use Rattle.desk_values.specs.declared.Desk.{Desk}
 use Rattle.desk_values.specs.Values.{packedDesk}
@@ -42,6 +42,9 @@ pub record DeskLaidOut (d : DeskOf) (v : Desk) : Type 0 where
   pub station : v .control .station ≡ stationOf d
   pub counts : length (v .control .changes) ≡ 8
   pub count : (s : ℕ) → s < 8 → getD (v .control .changes) s 0 ≡ changesOf (d .control) s
+  -- the rights of stations 1 to 7, two bits for each slot, A lowest
+  pub rights : length (v .control .rights) ≡ 7
+  pub right : (s i : ℕ) → 1 ≤ s → s < 8 → i < 8 → getD (v .control .rights) (s - 1) 0 / 2 ^ (2 * i) % 4 ≡ rightOf (d .control .rights) s i
 
 abbrev pub DeskLayout : Type 0
 DeskLayout = (d : DeskOf) → IsDesk d → DeskLaidOut d (packedDesk d)

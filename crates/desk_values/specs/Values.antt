@@ -1,6 +1,6 @@
 -- A desk as one value: the desk that a value holds, the test that it is one, and the value of a desk. That the values that pass the test
 -- are just those of desks is a statement, `DeskValues`, with a term of it in proofs/.
-use Prim.Native.Nat.{ℕ}
+use Prim.Native.Nat.{ℕ, _<_}
 use mathlib.Core.Path.{_≡_, refl}
 use mathlib.Core.Bool.{Bool, true, false, _&&_, not}
 use mathlib.Core.List.{List, [], _∷_, _++_, map}
@@ -15,11 +15,12 @@ use Rattle.higman.specs.Limits.{Plan as PlanOf, slotCount, maxPairs, maxDigits,
 use Rattle.higman.specs.Answers.{verdict, isKept}
 use Rattle.higman.specs.Listing.{isSlot, slotByte, slotNumber}
 use Rattle.words.specs.Packed.{packOn, pack, unpackIn, unpack}
-use Rattle.desk.specs.Limits.{stationCount, maxChanges}
-use Rattle.desk.specs.Desk.{Draft, Desk as DeskOf, IsDesk, freshDesk, changed, withDraft, isControl}
+use Rattle.desk.specs.Limits.{stationCount, maxRight, maxChanges}
+use Rattle.desk.specs.Desk.{Draft, Desk as DeskOf, IsDesk, freshDesk, changed, withDraft, areRights, isControl}
 use Rattle.operations.specs.declared.Plan.{Plan}
 use Rattle.operations.specs.Plans.{inTable, isPlan, packed, blank}
 use Rattle.slots.specs.declared.Size.{Size}
+use Rattle.slots.specs.declared.Control.{Control}
 use Rattle.slots.specs.declared.Head.{Head}
 use Rattle.slots.specs.Blocks.{blockCount, columnsSize, noSize, sizeOf, valueAt}
 use Rattle.slots.specs.Desks.{draftBlock, controlIn, deskOf}
@@ -103,10 +104,12 @@ tidySize z = elim (eqb (z .pairs) 0) [ true ↦ noSize | false ↦ z ]
 abbrev pub tidySizes : List Size → Size → List Size
 tidySizes zs draft = map (λ i. tidySize (getD zs i noSize)) (count 0 slotCount) ++ (draft ∷ [])
 
--- a value whose arrays have their lengths, as every value has that a function is given; the length of the counts is part of the test
+-- a value whose arrays have their lengths, and its rights 16 bits, as every value has that a function is given; the lengths of the counts
+-- and of the rights are part of the test
 pub record Whole (d : Desk) : Type 0 where
   pub headed : length (d .blocks) ≡ blockCount
   pub sized : length (d .columns) ≡ columnsSize
+  pub narrow : (s : ℕ) → getD (d .control .rights) s 0 < 65_536
 
 -- The values that pass the test are those of desks: each holds a desk, and is the one value of it; and the value of a desk passes, and
 -- holds that desk.
@@ -128,18 +131,18 @@ opened = withDraft held (record { slot = 1; shape = record { arity = 2; roots = 
 
 -- their values are desks, and hold them
 isDeskValue-example : map (λ d. isDeskValue (packedDesk d)) (freshDesk ∷ held ∷ opened ∷ []) ≡ true ∷ true ∷ true ∷ []
-unfolding isDeskValue packedDesk valueAt holdsTest isPlan inTable isKept shapeInRange granted isPlanWord maxPairs maxDigits
-    maxChanges slotCount stationCount isControl verdict keep normalForm normal joined packed blank pack packOn unpack unpackIn freshDesk
-    changed
-    withDraft
+unfolding isDeskValue packedDesk valueAt holdsTest isPlan inTable isKept shapeInRange granted isPlanWord maxPairs maxDigits maxChanges
+    maxRight slotCount stationCount areRights isControl verdict keep normalForm normal joined packed blank pack packOn unpack unpackIn
+    freshDesk changed withDraft
 isDeskValue-example = refl
 
 deskIn-example : deskIn (packedDesk opened) ≡ opened
-unfolding deskIn packedDesk deskOf valueAt maxPairs slotCount packed blank pack packOn unpack unpackIn freshDesk changed withDraft
+unfolding deskIn packedDesk deskOf valueAt maxPairs slotCount stationCount maxRight packed blank pack packOn unpack unpackIn freshDesk
+    changed withDraft
 deskIn-example = refl
 
 -- a word behind the pairs of a slot; a shape of an empty slot; a letter where no plan is open; a byte that is no slot's; a station above 7;
--- and a count above the limit, of a station that isn't named
+-- a count above the limit, of a station that isn't named; and a right of 3, of station 7 on slot H
 abbrev spoiled : List Desk
 spoiled =
     let v = packedDesk held in
@@ -152,18 +155,26 @@ spoiled =
     }
     ∷ record { blocks = v .blocks; opened = 65; control = v .control; columns = v .columns }
     ∷ record { blocks = v .blocks; opened = 1; control = v .control; columns = v .columns }
-    ∷ record { blocks = v .blocks; opened = 0; control = record { station = 8; changes = v .control .changes }; columns = v .columns }
+    ∷ record { blocks = v .blocks; opened = 0; control = keeping 8 (v .control .changes) (v .control .rights); columns = v .columns }
     ∷ record {
       blocks = v .blocks;
       opened = 0;
-      control = record { station = 0; changes = set (v .control .changes) 7 4_000_000_001 };
+      control = keeping 0 (set (v .control .changes) 7 4_000_000_001) (v .control .rights);
+      columns = v .columns;
+    }
+    ∷ record {
+      blocks = v .blocks;
+      opened = 0;
+      control = keeping 0 (v .control .changes) (set (v .control .rights) 6 0xEAAA);
       columns = v .columns;
     }
     ∷ []
+  where
+    keeping : ℕ → List ℕ → List ℕ → Control
+    keeping station changes rights = record { station = station; changes = changes; rights = rights }
 
-spoiled-example : map isDeskValue spoiled ≡ false ∷ false ∷ false ∷ false ∷ false ∷ false ∷ []
-unfolding isDeskValue packedDesk valueAt holdsTest isPlan inTable isKept shapeInRange granted isPlanWord maxPairs maxDigits
-    maxChanges slotCount stationCount isControl verdict keep normalForm normal joined packed blank pack packOn unpack unpackIn freshDesk
-    changed
-    withDraft
+spoiled-example : map isDeskValue spoiled ≡ false ∷ false ∷ false ∷ false ∷ false ∷ false ∷ false ∷ []
+unfolding isDeskValue packedDesk valueAt holdsTest isPlan inTable isKept shapeInRange granted isPlanWord maxPairs maxDigits maxChanges
+    maxRight slotCount stationCount areRights isControl verdict keep normalForm normal joined packed blank pack packOn unpack unpackIn
+    freshDesk changed withDraft
 spoiled-example = refl

@@ -21,10 +21,9 @@ use slots::COLUMNS;
 use slots::Control;
 use slots::DRAFT;
 use slots::Head;
+use slots::SLOTS;
 use slots::Size;
 use slots::blocks;
-
-const SLOTS: usize = 8;
 
 // Where the columns of the open plan start.
 const FROM: usize = DRAFT * BLOCK;
@@ -70,7 +69,7 @@ pub fn head_of(desk: Desk) -> Head
     Head {
         sizes: sizes,
         is_open: true,
-        slot: slots::slot_number(opened),
+        slot: slots::slot_number(opened) as u8,
         control: control,
     }
 }
@@ -229,7 +228,7 @@ fn opened_by(head: Head, columns: &[u64]) -> u8
     if !head.is_open {
         return 0;
     }
-    b'A' + head.slot as u8
+    b'A' + head.slot
 }
 
 // The value of the desk that a head and its columns hold.

@@ -14,12 +14,14 @@ use Rattle.higman.specs.Limits.{maxPairs, maxDigits, slotCount, shapeInRange, g
 use Rattle.higman.specs.Answers.{verdict, isKept}
 use Rattle.words.specs.Packed.{packOn, pack, unpackIn, unpack}
 use Rattle.columns.specs.Packed.{wordsOf}
+use Rattle.desk.specs.Limits.{maxRight, maxChanges}
 use Rattle.desk.specs.Desk.{isControl}
 use Rattle.operations.specs.declared.Plan.{Plan}
 use Rattle.operations.specs.Plans.{shapeOf, zeros, inTable, isPlan, packed, blank}
 use Rattle.operations.specs.Answers.{value21}
 use Rattle.slots.specs.declared.Control.{Control}
 use Rattle.slots.specs.declared.Head.{Head}
+use Rattle.slots.specs.Rights.{rowOf}
 use Rattle.slots.specs.Blocks.{blockCount, columnsSize, sizeAt, valueAt}
 use Rattle.slots.specs.Desks.{draftBlock, controlOf, HoldsDesk}
 
@@ -41,7 +43,17 @@ draftTest slot v = leb (suc slot) slotCount && shapeInRange (shapeOf v) && words
 abbrev pub openTest : Head → Plan → Bool
 openTest h v = elim (h .is_open) [ false ↦ true | true ↦ draftTest (h .slot) v ]
 
--- a station and counts in their ranges
+-- counts in their range, the rights of a station on the slots, and those of all stations
+abbrev pub countsTest : List ℕ → Bool
+countsTest changes = all (λ n. leb n maxChanges) changes
+
+abbrev pub rowTest : ℕ → Bool
+rowTest row = all (λ x. leb x maxRight) (rowOf row)
+
+abbrev pub rightsTest : List ℕ → Bool
+rightsTest rows = all rowTest rows
+
+-- a station, counts and rights in their ranges
 abbrev pub controlTest : Control → Bool
 controlTest c = isControl (controlOf c)
 

@@ -1,12 +1,13 @@
 // Whether a head and columns that somebody made hold a desk (document 01, "When each operation says no": "a plan or desk handed in isn't
 // one as described above"): each slot holds a kept plan or nothing, an open plan is one as P and M make it, and
-// station and counts are in their ranges.
+// station, counts and rights are in their ranges.
 ghost use mathlib.Core.Path.{_≡_};
 ghost use Prim.Native.Nat.{_≤_};
 ghost use Rattle.higman.specs.Limits.{maxPairs};
 ghost use Rattle.slots.specs.Desks.{draftBlock};
 ghost use Rattle.slots.specs.Blocks.{InColumns, sizeAt, valueAt};
-ghost use Rattle.desks.specs.Tested.{slotTest, slotsTest, openTest, controlTest, holdsTest};
+ghost use Rattle.desks.specs.Tested.{slotTest, slotsTest, openTest, countsTest, rowTest, rightsTest};
+ghost use Rattle.desks.specs.Tested.{controlTest, holdsTest};
 use operations::MAX_PAIRS;
 use operations::Plan;
 use operations::shapes;
@@ -17,11 +18,10 @@ use slots::DRAFT;
 use slots::Desk;
 use slots::Head;
 use slots::MAX_CHANGES;
+use slots::SLOTS;
 use slots::STATIONS;
 use slots::blocks;
-
-// A to H: `slotCount` of higman's Limits.antt.
-const SLOTS: usize = 8;
+use slots::rights;
 
 // Where the columns of the open plan start.
 const FROM: usize = DRAFT * BLOCK;
@@ -54,7 +54,7 @@ fn is_open_plan(head: Head, columns: &[u64]) -> bool
     }
     let size = head.sizes[DRAFT];
     let n = size.pairs;
-    if SLOTS <= head.slot {
+    if SLOTS <= head.slot as usize {
         return false;
     }
     if !shapes::in_range(size.arity, size.roots) {
@@ -82,14 +82,10 @@ fn are_slots(head: Head, columns: &[u64]) -> bool
     true
 }
 
-// Whether a control block is as a desk keeps one: no count is over the limit, whether or not its station is named.
-fn is_control(control: Control) -> bool
-    ensures { λ r. ⌜ r ≡ controlTest control ⌝ }
+// Whether no count is over the limit, whether or not its station is named.
+fn are_counts(changes: [u32; STATIONS]) -> bool
+    ensures { λ r. ⌜ r ≡ countsTest changes ⌝ }
 {
-    if STATIONS <= control.station as usize {
-        return false;
-    }
-    let changes = control.changes;
     let mut i = 0;
     while i < STATIONS {
         if MAX_CHANGES < changes[i] {
@@ -98,6 +94,49 @@ fn is_control(control: Control) -> bool
         i += 1;
     }
     true
+}
+
+// Whether a station's rights on the slots are at most 2.
+fn is_row(row: u16) -> bool
+    ensures { λ r. ⌜ r ≡ rowTest row ⌝ }
+{
+    let mut i = 0;
+    while i < SLOTS {
+        if rights::WRITE < rights::at(row, i) {
+            return false;
+        }
+        i += 1;
+    }
+    true
+}
+
+// Whether the rights of all stations are.
+fn are_rights(rows: [u16; STATIONS - 1]) -> bool
+    ensures { λ r. ⌜ r ≡ rightsTest rows ⌝ }
+{
+    let mut s = 0;
+    while s < STATIONS - 1 {
+        if !is_row(rows[s]) {
+            return false;
+        }
+        s += 1;
+    }
+    true
+}
+
+// Whether a control block is as a desk keeps one.
+fn is_control(control: Control) -> bool
+    ensures { λ r. ⌜ r ≡ controlTest control ⌝ }
+{
+    if STATIONS <= control.station as usize {
+        return false;
+    }
+    let changes = control.changes;
+    if !are_counts(changes) {
+        return false;
+    }
+    let rows = control.rights;
+    are_rights(rows)
 }
 
 // "a .. desk handed in isn't one as described above": whether it is one.

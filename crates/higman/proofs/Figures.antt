@@ -107,5 +107,7 @@ numbers-named =
       sixteen = refl;
       seventeen = refl;
       eighteen = refl;
+      nineteen = refl;
+      twenty = refl;
       cases = cases-numbered;
     }

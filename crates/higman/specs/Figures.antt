@@ -16,7 +16,7 @@ use Rattle.higman.specs.Limits.{shapeInRange, maxPairs, isPlanWord, pair
 use Rattle.higman.specs.Listing.{slotNumber, slotByte, isSlot}
 use Rattle.higman.specs.Refusals.{noRecord, wrongState, shapeOutside, badWord, pairsFull, wordsOverlap, rootUncovered, slotOutside}
 use Rattle.higman.specs.Refusals.{slotEmpty, shapesDiffer, limitBroken, powerOutside, codeTooShort, bufferTooShort, invalidValue}
-use Rattle.higman.specs.Refusals.{countFull, seedOutside, stationOutside}
+use Rattle.higman.specs.Refusals.{countFull, seedOutside, stationOutside, stationRefused, rightMissing}
 use Rattle.higman.specs.Answers.{Overlap, Gap, reasonNumber, Refusal, BadCode, ShapesDiffer, LimitBroken, PowerOutside, SeedOutside}
 use Rattle.higman.specs.Answers.{TooManyPairs, WordTooLong, refusalNumber, Image, TooShort, NotRouted, routeNumber}
 
@@ -65,7 +65,7 @@ pub record CasesNumbered : Type 0 where
   pub not-routed : (r : Refusal) → routeNumber (NotRouted r) ≡ some (refusalNumber r)
   pub routed : (w : Word) → routeNumber (Image w) ≡ none
 
--- the numbers of "When each operation says no" and of change requests E3 and E5, name by name
+-- the numbers of "When each operation says no" and of change requests E3, E5 and E6, name by name
 pub record NumbersNamed : Type 0 where
   pub one : noRecord ≡ 1
   pub two : wrongState ≡ 2
@@ -85,4 +85,6 @@ pub record NumbersNamed : Type 0 where
   pub sixteen : countFull ≡ 16
   pub seventeen : seedOutside ≡ 17
   pub eighteen : stationOutside ≡ 18
+  pub nineteen : stationRefused ≡ 19
+  pub twenty : rightMissing ≡ 20
   pub cases : CasesNumbered

@@ -78,6 +78,14 @@ seedOutside = 17
 abbrev pub stationOutside : ℕ
 stationOutside = 18
 
+-- "19, G from another station or for station 0" (change request E6)
+abbrev pub stationRefused : ℕ
+stationRefused = 19
+
+-- "20, a missing right" (change request E6)
+abbrev pub rightMissing : ℕ
+rightMissing = 20
+
 -- "those of E for a column add ⇥F or ⇥T (from, to)"
 pub data Letter : Type 0 where
   F : Letter
@@ -99,6 +107,6 @@ later-numbers-example : shapesDiffer ∷ limitBroken ∷ powerOutside ∷ codeTo
     ≡ 10 ∷ 11 ∷ 12 ∷ 13 ∷ 14 ∷ 15 ∷ 16 ∷ []
 later-numbers-example = refl
 
--- those of change requests E3 and E5
-requested-numbers-example : seedOutside ∷ stationOutside ∷ [] ≡ 17 ∷ 18 ∷ []
+-- those of change requests E3, E5 and E6
+requested-numbers-example : seedOutside ∷ stationOutside ∷ stationRefused ∷ rightMissing ∷ [] ≡ 17 ∷ 18 ∷ 19 ∷ 20 ∷ []
 requested-numbers-example = refl

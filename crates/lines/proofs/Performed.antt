@@ -23,12 +23,16 @@ use Rattle.slots.proofs.Steps.{done-told, done-by-refusal}
 use Rattle.lines.specs.Lines.{LineDone}
 
 module _ (h : Head) (columns : List ℕ) (line : Bytes) (r : Record) (out : List ℕ) (w : Work) (columns′ out′ : List ℕ) where
+  pub line-meant : (x : Record) (m : Outcome DeskRecord) → r ≡ x → meant line x ≡ m
+      → DoneBy (deskOf h columns) (m >>= operation (deskOf h columns)) out w columns′ out′ → LineDone h columns line r out w columns′ out′
+  line-meant x m e q k =
+      let d = deskOf h columns in
+      subst (λ (z : Outcome DeskRecord). DoneBy d (z >>= operation d) out w columns′ out′) (sym (ap (meant line) e ∙ q)) k
+
   pub line-done : (x : Record) (m : DeskRecord) → r ≡ x → meant line x ≡ pass m → Done m h columns out w columns′ out′
       → LineDone h columns line r out w columns′ out′
   unfolding _>>=_
-  line-done x m e q k =
-      let d = deskOf h columns in
-      subst (λ (z : Outcome DeskRecord). DoneBy d (z >>= operation d) out w columns′ out′) (sym (ap (meant line) e ∙ q)) k
+  line-done x m e q k = line-meant x (pass m) e q k
 
 -- one that asks leaves the head and the columns as they are
 pub line-told : (h : Head) (columns : List ℕ) → HoldsDesk h columns → (line : Bytes) (r : Record) (out : List ℕ) (p : Reply) (out′ : List ℕ)

@@ -151,6 +151,11 @@ pub fn perform(head: Head, columns: &mut [u64], line: &[u8], record: Record, out
             seed,
         } => changing::exercise(head, columns, slot, arity, roots, splits, seed),
         Record::Station { station } => stations::name(head, station),
+        Record::Grant {
+            station,
+            slot,
+            right,
+        } => stations::grant(head, station, slot, right),
         Record::NoRecord => slots::refused(head, numbers::NO_RECORD),
     }
 }

@@ -14,7 +14,7 @@ use slots::Work;
 use slots::numbers;
 use words::Reading;
 
-// P: 2, 8, 3.
+// P: 2, 8, 20, 3.
 pub fn open(head: Head, slot: u8, arity: u8, roots: u8) -> Work
     requires { ⌜ HeadOfDesk head ⌝ }
     ensures { λ r. ⌜ DoneByHead (P slot arity roots) head r ⌝ }
@@ -33,7 +33,7 @@ pub fn open(head: Head, slot: u8, arity: u8, roots: u8) -> Work
         pairs: 0,
     };
     h.is_open = true;
-    h.slot = slots::slot_number(slot);
+    h.slot = slots::slot_number(slot) as u8;
     Work {
         head: h,
         reply: Reply::Silent,

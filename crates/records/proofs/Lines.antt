@@ -48,7 +48,7 @@ module _ (b : ℕ) (not-E : b ≡ byte "E" → ⊥) (not-T : b ≡ byte "T" → 
   unfolding grammar
   no-rule-alone =
       nothing refl (nothing refl (other not-E (nothing refl (nothing refl (nothing refl (nothing refl (nothing refl
-      (nothing refl (nothing refl (other not-T (other not-U (nothing refl (nothing refl no-more)))))))))))))
+      (nothing refl (nothing refl (other not-T (other not-U (nothing refl (nothing refl (nothing refl no-more))))))))))))))
 
   pub other-alone : NoRecord ≡ alone b
   unfolding alone
@@ -67,6 +67,7 @@ pub record OtherLetter (b : ℕ) : Type 0 where
   pub not-C : b ≡ byte "C" → ⊥
   pub not-X : b ≡ byte "X" → ⊥
   pub not-Z : b ≡ byte "Z" → ⊥
+  pub not-G : b ≡ byte "G" → ⊥
 
 none-taken : (r : Record) (l : Bytes) → noMore r (fields l) ≡ none
 none-taken r l = fields-some (λ fs. noMore r fs ≡ none) (λ f fs. refl) l
@@ -77,7 +78,7 @@ module _ (b : ℕ) (o : OtherLetter b) (l : Bytes) where
   no-rule-behind =
       other (o .not-P) (other (o .not-M) (nothing (none-taken E l) (other (o .not-F) (other (o .not-I) (other (o .not-K) (other (o .not-S)
       (other (o .not-W) (other (o .not-L) (other (o .not-C) (nothing (none-taken T l) (nothing (none-taken U l)
-      (other (o .not-X) (other (o .not-Z) no-more)))))))))))))
+      (other (o .not-X) (other (o .not-Z) (other (o .not-G) no-more))))))))))))))
 
   pub other-behind : NoRecord ≡ behindLetter b l
   unfolding behindLetter

@@ -1,7 +1,7 @@
 -- What the rules of the grammar read behind a letter and its tab, by the tests of the code at its places of the line. Rules of the same
 -- form share a law.
-use Prim.Native.Nat.{ℕ, suc, _+_, _-_, _≤_, _<_}
-use mathlib.Core.Path.{_≡_, refl, _∙_, ap, ap₂}
+use Prim.Native.Nat.{ℕ, zero, suc, _+_, _-_, _≤_, _<_}
+use mathlib.Core.Path.{_≡_, refl, sym, _∙_, ap, ap₂}
 use mathlib.Core.Logic.{_⊎_, inl, inr}
 use mathlib.Core.Bool.{true, false}
 use mathlib.Core.List.{List, [], _∷_}
@@ -12,17 +12,19 @@ use lib.ListN.{length, getD, drop, length-drop}
 use Rattle.higman.specs.Text.{Bytes, isNumeral}
 use Rattle.higman.proofs.Tests.{passes}
 use Rattle.desk.specs.Limits.{maxNumeral, maxSplitsNumeral, maxSeedNumeral}
-use Rattle.desk.specs.Records.{Record, P, M, K, W, Z, Form, slotField, anyField, numberField, signedField, exerciseFields}
+use Rattle.desk.specs.Records.{Right, rightNumber, Record, P, M, K, W, Z, G}
+use Rattle.desk.specs.Records.{Form, slotField, anyField, numberField, signedField, rightNumbered, rightField, exerciseFields}
 use Rattle.desk.specs.Records.{fields, field, noMore, noTab}
-use Rattle.records.specs.declared.Record.the-variants.{Pair, Route}
+use Rattle.records.specs.declared.Record.the-variants.{Pair, Route, Grant}
 use Rattle.records.specs.Reading.{placed}
-use Rattle.records.specs.Fields.{singleThen, singleLast, singles, firstField}
+use Rattle.records.specs.Fields.{singleThen, singleLast, singles, firstField, placedIf}
 use Rattle.records.proofs.fields.Forms.{field-some, field-none, field-nothing}
 use Rattle.records.proofs.fields.Numbers.{number-no-tab}
 use Rattle.records.proofs.fields.Ends.{fields-only, fields-then, fields-last, fields-two}
 use Rattle.records.proofs.fields.OneByte.{SingleForm, slot-single, digit-single, then-fails, then-nothing, last-fails}
 use Rattle.records.proofs.fields.OneByte.{slot-then, slot-last, digit-then, digit-last, not-digit-then, not-digit-last}
 use Rattle.records.proofs.fields.OneByte.{singles-first, singles-behind, singles-length, singles-fail}
+use Rattle.records.proofs.fields.OneByte.{right-value, right-none, form-last}
 
 -- a line with so many fields of one byte each behind its letter
 pub singles-end : (line : Bytes) (k : ℕ) → singles (suc k) (drop 2 line) ≡ true → length line ≡ k + k + 3
@@ -58,7 +60,7 @@ module _ (make : ℕ → ℕ → Record) (line : Bytes) where
   pub two-slots-read : singles 2 (drop 2 line) ≡ true → twoSlots ≡ some (make (getD line 2 0) (getD line 4 0))
   two-slots-read t = slot-then line 2 _ (singles-first 0 (drop 2 line) t) ∙ slot-last line 4 _ (singles-behind line 2 0 t)
 
--- P and F, three of two forms
+-- P, F and G, three of three forms
 module _ {A B C : Type 0} {first : Form A} {second : Form B} {third : Form C} (make : A → B → C → Record) (line : Bytes)
     (one : SingleForm first) (two : SingleForm second) (three : SingleForm third) where
   pub three-missing : singles 3 (drop 2 line) ≡ false
@@ -70,6 +72,25 @@ module _ {A B C : Type 0} {first : Form A} {second : Form B} {third : Form C} (m
       second-missing a e =
           let l = drop 2 (drop 2 line) in
           singles-fail two _ 0 l (λ b. refl) (λ b. last-fails three _ (drop 2 l) (λ c f fs. refl)) e
+
+-- G behind its station and its slot, by its right
+module _ (s a : ℕ) where
+  granted : Option Right → Option Record
+  granted o = elim o [ none ↦ none | some x ↦ some (G s a x) ]
+
+  granted-above : (n : ℕ) → 2 < n → granted (rightNumbered n) ≡ none
+  unfolding granted
+  granted-above zero h = absurd (omega arith)
+  granted-above (suc zero) h = absurd (omega arith)
+  granted-above (suc (suc zero)) h = absurd (omega arith)
+  granted-above (suc (suc (suc n))) h = refl
+
+  granted-placed : (n : ℕ) → n ≤ 2 → Grant s a n ≡ placedIf (granted (rightNumbered n))
+  unfolding granted rightNumber
+  granted-placed zero h = refl
+  granted-placed (suc zero) h = refl
+  granted-placed (suc (suc zero)) h = refl
+  granted-placed (suc (suc (suc n))) h = absurd (omega arith)
 
 -- the tests of three fields, one by one
 module _ (line : Bytes) (t : singles 3 (drop 2 line) ≡ true) where
@@ -100,6 +121,33 @@ module _ (line : Bytes) (t : singles 3 (drop 2 line) ≡ true) where
 
     pub open-read : isNumeral (getD line 6 0) ≡ true → asOpen ≡ some (P (getD line 2 0) (getD line 4 0 - 48) (getD line 6 0 - 48))
     open-read r = slot-then line 2 _ first-of-three ∙ digit-then line 4 _ second-of-three n ∙ digit-last line 6 _ third-of-three r
+
+  abbrev asGrant : Option Record
+  asGrant = field (numberField 1) (λ s. field slotField (λ a. field rightField (λ x. noMore (G s a x)))) (fields (drop 2 line))
+
+  pub grant-wrong-station : isNumeral (getD line 2 0) ≡ false → asGrant ≡ none
+  grant-wrong-station s = not-digit-then line 2 _ first-of-three s
+
+  module _ (s : isNumeral (getD line 2 0) ≡ true) where
+    grant-by-right : asGrant ≡ granted (getD line 2 0 - 48) (getD line 4 0) (rightField (getD line 6 0 ∷ []))
+    unfolding granted
+    grant-by-right =
+        digit-then line 2 _ first-of-three s ∙ slot-then line 4 _ second-of-three ∙ form-last rightField _ line 6 third-of-three
+
+    pub grant-no-digit : isNumeral (getD line 6 0) ≡ false → asGrant ≡ none
+    unfolding granted
+    grant-no-digit x = grant-by-right ∙ ap (granted (getD line 2 0 - 48) (getD line 4 0)) (right-none (getD line 6 0) x)
+
+    module _ (x : isNumeral (getD line 6 0) ≡ true) where
+      grant-numbered : asGrant ≡ granted (getD line 2 0 - 48) (getD line 4 0) (rightNumbered (getD line 6 0 - 48))
+      grant-numbered = grant-by-right ∙ ap (granted (getD line 2 0 - 48) (getD line 4 0)) (right-value (getD line 6 0) x)
+
+      pub grant-above : 50 < getD line 6 0 → asGrant ≡ none
+      grant-above h = grant-numbered ∙ granted-above (getD line 2 0 - 48) (getD line 4 0) (getD line 6 0 - 48) (omega arith)
+
+      pub grant-read : getD line 6 0 ≤ 50 → Grant (getD line 2 0 - 48) (getD line 4 0) (getD line 6 0 - 48) ≡ placedIf asGrant
+      grant-read h =
+          granted-placed (getD line 2 0 - 48) (getD line 4 0) (getD line 6 0 - 48) (omega arith) ∙ sym (ap placedIf grant-numbered)
 
 -- M, by the end of its first word
 module _ (line : Bytes) (end : ℕ) (ends : end ≡ 2 + length (firstField (drop 2 line))) where

@@ -14,9 +14,10 @@ use Rattle.higman.specs.Refusals.{noRecord}
 use Rattle.higman.specs.Text.{Bytes, byte, tab, decimal}
 use Rattle.higman.proofs.Tests.{and-left, and-right}
 use Rattle.desk.specs.Limits.{maxLine, maxNumeral, maxSplitsNumeral, maxSeedNumeral}
-use Rattle.desk.specs.Records.{Record, P, M, E, F, I, K, S, W, L, C, U, X, Z, parse, recordFields, recordText}
+use Rattle.desk.specs.Records.{Record, P, M, E, F, I, K, S, W, L, C, U, X, Z, G, parse, recordFields, recordText}
+use Rattle.desk.specs.Records.{Right, noRight, mayRead, mayWrite, rightNumber}
 use Rattle.desk.specs.Records.{noTab, numbersFit, hasDigits, signedDecimal, wellFormed}
-use Rattle.desk.specs.Replies.{Outcome, refuse, pass, recordOf}
+use Rattle.desk.specs.Replies.{Outcome, refuse, pass, recordOf, grantBy}
 use Rattle.desk.proofs.NumberFields.{number-exact, signed-exact}
 use Rattle.desk.proofs.Grammar.{text-exact}
 use Rattle.records.specs.Reading.{part, placed, placedBy, readLine, bytesOf, meant, Within, InBounds, ReadExact}
@@ -57,6 +58,19 @@ module _ (line : Bytes) (a : ℕ) (code : Bytes) (e : line ≡ recordText (W a c
   unfolding recordText
   in-front-of-code = e ∙ ap (λ l. byte "W" ∷ tab ∷ a ∷ tab ∷ l) (sym (append-nil code))
 
+-- a right and its number
+right-means : (s a : ℕ) (x : Right) → grantBy s a (rightNumber x) ≡ pass (G s a x)
+unfolding rightNumber
+right-means s a noRight = refl
+right-means s a mayRead = refl
+right-means s a mayWrite = refl
+
+right-within : (x : Right) → rightNumber x ≤ 2
+unfolding rightNumber
+right-within noRight = omega arith
+right-within mayRead = omega arith
+right-within mayWrite = omega arith
+
 -- a record's places, in the line that is its text
 placed-means : (line : Bytes) (r : Record) → line ≡ recordText r → meant line (placed r) ≡ pass r
 placed-means line (P a n r) e = refl
@@ -78,6 +92,7 @@ placed-means line Record.T e = refl
 placed-means line U e = refl
 placed-means line (X a n r s seed) e = refl
 placed-means line (Z s) e = refl
+placed-means line (G s a x) e = right-means s a x
 
 below-of-digits : (m n : ℕ) → T (hasDigits m n) → n < 10 ^ m
 below-of-digits m n h = number-below m (decimal n) n (number-exact m .reads n h)
@@ -114,6 +129,7 @@ placed-in-bounds line (X a n r s seed) h e =
       below-of-digits maxSeedNumeral seed (and-right up-to-splits (hasDigits maxSeedNumeral seed) h),
     )
 placed-in-bounds line (Z s) h e = one-digit s h
+placed-in-bounds line (G s a x) h e = (one-digit s h, right-within x)
 
 -- What holds of a line that is no record, and of every record in the line that is its text, holds of what a line is read as.
 module _ (line : Bytes) (Q : Outcome Record → Type 0) (refused : Q (refuse noRecord none))

@@ -10,19 +10,19 @@ use lib.ListN.{length, take, drop, replicate}
 use Rattle.higman.specs.Refusals.{noRecord}
 use Rattle.higman.specs.Text.{Bytes, byte, bytes}
 use Rattle.desk.specs.Limits.{maxLine, maxNumeral, maxSplitsNumeral, maxSeedNumeral}
-use Rattle.desk.specs.Records.{Record as DeskRecord, P, M, E, F, I, K, S, W, L, C, T, U, X, Z, grammar, parse}
-use Rattle.desk.specs.Replies.{Outcome, refuse, pass, recordOf}
+use Rattle.desk.specs.Records.{Record as DeskRecord, P, M, E, F, I, K, S, W, L, C, T, U, X, Z, G, mayWrite, rightNumber, grammar, parse}
+use Rattle.desk.specs.Replies.{Outcome, refuse, pass, recordOf, grantBy}
 use Rattle.records.specs.declared.Part.{Part}
 use Rattle.records.specs.declared.Record.{Record}
 use Rattle.records.specs.declared.Record.the-variants.{Open, Pair, Close, Follow, Invert, Power, Same, Route}
-use Rattle.records.specs.declared.Record.the-variants.{List, Empty, Count, Survey, Exercise, Station, NoRecord}
+use Rattle.records.specs.declared.Record.the-variants.{List, Empty, Count, Survey, Exercise, Station, Grant, NoRecord}
 
 -- so many bytes from a place on
 abbrev pub part : ℕ → ℕ → Part
 part start size = record { start = start; end = start + size }
 
 -- A record by its numbers and places. A letter and a tab stand in front of M's words, these and a slot and a tab in front of W's code,
--- and a tab stands between M's words.
+-- and a tab stands between M's words. A right is its number.
 abbrev pub placed : DeskRecord → Record
 placed (P a n r) = Open a n r
 placed (M from to) = Pair (part 2 (length from)) (part (2 + length from + 1) (length to))
@@ -38,6 +38,7 @@ placed T = Count
 placed U = Survey
 placed (X a n r s seed) = Exercise a n r s seed
 placed (Z s) = Station s
+placed (G s a x) = Grant s a (rightNumber x)
 
 -- "Every record: 1, unknown letter, wrong number of fields, a field form, or a line too long": the one refusal of `recordOf`
 abbrev pub placedBy : Outcome DeskRecord → Record
@@ -67,6 +68,7 @@ meant line Count = pass T
 meant line Survey = pass U
 meant line (Exercise a n r s seed) = pass (X a n r s seed)
 meant line (Station s) = pass (Z s)
+meant line (Grant s a x) = grantBy s a x
 meant line NoRecord = refuse noRecord none
 
 -- a part that can be lent: it stands within the line
@@ -75,7 +77,7 @@ pub record Within (line : Bytes) (p : Part) : Type 0 where
   pub inside : p .end ≤ length line
 
 -- the parts stand within the line; "n and r one digit 0 to 9", "k an optional minus and one to four digits", "s one or two digits and seed
--- one to ten", a station one digit
+-- one to ten", a station one digit, a right 0 to 2
 abbrev pub InBounds : Bytes → Record → Type 0
 InBounds line (Open a n r) = (n ≤ 9) × (r ≤ 9)
 InBounds line (Pair from to) = Within line from × Within line to
@@ -91,6 +93,7 @@ InBounds line Count = Unit {0}
 InBounds line Survey = Unit {0}
 InBounds line (Exercise a n r s seed) = (n ≤ 9) × (r ≤ 9) × (s < 10 ^ maxSplitsNumeral) × (seed < 10 ^ maxSeedNumeral)
 InBounds line (Station s) = s ≤ 9
+InBounds line (Grant s a x) = (s ≤ 9) × (x ≤ 2)
 InBounds line NoRecord = Unit {0}
 
 -- What is read of a line means the record that the definitions give, refusal 1 included, and is in bounds.
@@ -99,9 +102,10 @@ pub record ReadExact : Type 0 where
   pub in-bounds : (line : Bytes) → InBounds line (readLine line)
 
 -- the numbers of P, the places of M's words, one of them empty, K's number, the place of W's code, the numbers of X, X with a tab at its
--- end, a slot of two bytes, Z's station, and a station of two digits
+-- end, a slot of two bytes, Z's station, a station of two digits, G's numbers and slot, a right of 3, and G with a station of two digits
 readLine-example : map (λ l. readLine (bytes l))
-    ("P\tA\t2\t1" ∷ "M\t11\t" ∷ "K\tA\t-2\tz" ∷ "W\tA\t1122" ∷ "X\tA\t2\t1\t10\t0" ∷ "X\tA\t2\t1\t1\t7\t" ∷ "L\tAB" ∷ "Z\t7" ∷ "Z\t10" ∷ [])
+    ("P\tA\t2\t1" ∷ "M\t11\t" ∷ "K\tA\t-2\tz" ∷ "W\tA\t1122" ∷ "X\tA\t2\t1\t10\t0" ∷ "X\tA\t2\t1\t1\t7\t" ∷ "L\tAB" ∷ "Z\t7" ∷ "Z\t10"
+    ∷ "G\t1\tA\t2" ∷ "G\t1\tA\t3" ∷ "G\t10\tA\t2" ∷ [])
     ≡ Open (byte "A") 2 1
     ∷ Pair (part 2 2) (part 5 0)
     ∷ Power (byte "A") (negsuc 1) (byte "z")
@@ -111,8 +115,11 @@ readLine-example : map (λ l. readLine (bytes l))
     ∷ NoRecord
     ∷ Station 7
     ∷ NoRecord
+    ∷ Grant 1 (byte "A") 2
+    ∷ NoRecord
+    ∷ NoRecord
     ∷ []
-unfolding readLine parse grammar maxLine maxNumeral maxSplitsNumeral maxSeedNumeral
+unfolding readLine rightNumber parse grammar maxLine maxNumeral maxSplitsNumeral maxSeedNumeral
 readLine-example = refl
 
 -- "Lines hold at most 1,100 bytes"
@@ -124,6 +131,6 @@ readLine-limit = refl
 bytesOf-example : map (bytesOf (bytes "M\t11\t122")) (part 2 2 ∷ part 5 3 ∷ part 8 0 ∷ []) ≡ bytes "11" ∷ bytes "122" ∷ [] ∷ []
 bytesOf-example = refl
 
-meant-example : map (meant (bytes "M\t11\t122")) (Pair (part 2 2) (part 5 3) ∷ NoRecord ∷ [])
-    ≡ pass (M (bytes "11") (bytes "122")) ∷ refuse 1 none ∷ []
+meant-example : map (meant (bytes "M\t11\t122")) (Pair (part 2 2) (part 5 3) ∷ Grant 1 (byte "A") 2 ∷ NoRecord ∷ [])
+    ≡ pass (M (bytes "11") (bytes "122")) ∷ pass (G 1 (byte "A") mayWrite) ∷ refuse 1 none ∷ []
 meant-example = refl

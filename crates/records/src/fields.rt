@@ -1,6 +1,6 @@
-// The fields of a line and their forms (document 01, "Field forms"): fields of one byte, which slots, the numbers n and r and stations
-// are; the end of a field; a field that is the last; numbers of several digits; and the number k. A place in the line may be any number:
-// no field stands behind its end.
+// The fields of a line and their forms (document 01, "Field forms"): fields of one byte, which slots, the numbers n and r, stations and
+// rights are; the end of a field; a field that is the last; numbers of several digits; and the number k. A place in the line may be any
+// number: no field stands behind its end.
 ghost use mathlib.Core.Path.{_≡_};
 ghost use Prim.Native.Nat.{_+_, _≤_};
 ghost use lib.ListN.{length, drop};

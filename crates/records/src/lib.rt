@@ -94,6 +94,12 @@ pub enum Record {
     Station {
         station: u8,
     },
+    // G⇥station⇥slot⇥right
+    Grant {
+        station: u8,
+        slot: u8,
+        right: u8,
+    },
     // no record: refusal 1
     NoRecord,
 }
@@ -316,6 +322,31 @@ fn read_station(line: &[u8]) -> Record
     }
 }
 
+// A digit, a slot and a digit from 0 to 2.
+fn read_grant(line: &[u8]) -> Record
+    ensures { λ r. ⌜ r ≡ behindLetter (byte "G") (drop 2 (now (line .entry))) ⌝ }
+{
+    if !fields::singles(line, FIRST, 3) {
+        return Record::NoRecord;
+    }
+    let holder = line[FIRST];
+    let right = line[THIRD];
+    if !fields::is_numeral(holder) {
+        return Record::NoRecord;
+    }
+    if !fields::is_numeral(right) {
+        return Record::NoRecord;
+    }
+    if b'2' < right {
+        return Record::NoRecord;
+    }
+    Record::Grant {
+        station: holder - b'0',
+        slot: line[SECOND],
+        right: right - b'0',
+    }
+}
+
 // A letter that no field follows.
 fn read_alone(letter: u8) -> Record
     ensures { λ r. ⌜ r ≡ alone letter ⌝ }
@@ -344,6 +375,7 @@ fn read_fields(letter: u8, line: &[u8]) -> Record
         b'C' => read_empty(line),
         b'X' => read_exercise(line),
         b'Z' => read_station(line),
+        b'G' => read_grant(line),
         _ => Record::NoRecord,
     }
 }

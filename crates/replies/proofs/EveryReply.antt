@@ -18,7 +18,7 @@ use Rattle.higman.specs.Listing.{slotNumber}
 use Rattle.higman.proofs.Tests.{all-at}
 use Rattle.desk.specs.Limits.{maxChanges}
 use Rattle.desk.specs.Desk.{Desk, IsDesk, stationOf, countOf}
-use Rattle.desk.specs.Records.{Record, P, M, E, F, I, K, S, W, L, C, T, U, X, Z}
+use Rattle.desk.specs.Records.{Record, P, M, E, F, I, K, S, W, L, C, T, U, X, Z, G}
 use Rattle.desk.specs.Replies.{okNumber, okWord, refuses, Effect, Outcome, refuse, pass, ofRoute, closed, job, operation, recordOf}
 use Rattle.desk.specs.Replies.{lineOperation, respondLine}
 use Rattle.desk.specs.Bytes.{replyBytes}
@@ -30,12 +30,12 @@ use Rattle.desk.proofs.Demand2.{demand2}
 use Rattle.replies.specs.Sizes.{maxReply, RepliesFit}
 use Rattle.replies.proofs.Sizes.{rooms, few-pairs, listing-fits, image-fits, block-fits, ok-number-size, no-size, survey-size}
 
--- 1 to 12, and 16 to 18
+-- 1 to 12, and 16 to 20
 number-small : (n : ℕ) → List·Memᴰ n refusalNumbers → n < 10 ^ 3
 number-small n m =
-    let within = all-at (λ k. leb k 18) (1 ∷ 2 ∷ 3 ∷ 4 ∷ 5 ∷ 6 ∷ 7 ∷ 8 ∷ 9 ∷ 10 ∷ 11 ∷ 12 ∷ 16 ∷ 17 ∷ 18 ∷ []) tt n
+    let within = all-at (λ k. leb k 20) (1 ∷ 2 ∷ 3 ∷ 4 ∷ 5 ∷ 6 ∷ 7 ∷ 8 ∷ 9 ∷ 10 ∷ 11 ∷ 12 ∷ 16 ∷ 17 ∷ 18 ∷ 19 ∷ 20 ∷ []) tt n
     (subst (λ l. List·Memᴰ n l) (demand1 .numbers) m) in
-    omega (arith, leb→le n 18 within)
+    omega (arith, leb→le n 20 within)
 
 -- an outcome of which every value has something passes it on
 passes-of : {A : Type 0} {Q : A → Type 0} (o : Outcome A) → ((a : A) → o ≡ pass a → Q a) → Passes Q o
@@ -109,6 +109,7 @@ module _ (d : Desk) (D : IsDesk d) where
       let k = demand2 .exercises d a (record { arity = n; roots = r }) s seed e D o .plan in
       as-known (k .effect) (pairs-fit _ (k .kept))
   record-fits (Z s) e o = as-known (demand2 .stations .named d s e o .1) (rooms .ok)
+  record-fits (G s a x) e o = as-known (demand2 .rights .given d s a x e o .4) (rooms .ok)
 
   line-fits : (line : Bytes) → Passes Fits (lineOperation d line)
   unfolding lineOperation

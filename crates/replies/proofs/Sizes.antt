@@ -24,7 +24,8 @@ use Rattle.higman.proofs.KeptPlans.{in-range}
 use Rattle.higman.proofs.Answers.{image-of-route}
 use Rattle.higman.proofs.Fronts.{block-own, block-few}
 use Rattle.words.proofs.Runs.{word-size}
-use Rattle.desk.specs.Desk.{Desk, IsDesk}
+use Rattle.desk.specs.Desk.{Desk, IsDesk, seen}
+use Rattle.desk.proofs.Seen.{seen-length}
 use Rattle.desk.specs.Replies.{Held, heldFrom, comesBefore, surveyed, surveys, okBlock}
 use Rattle.desk.specs.Bytes.{lineOf, okLine, noLine, columnField, heldFields, replyBytes}
 use Rattle.desk.proofs.Grammar.{text-exact}
@@ -145,8 +146,8 @@ held-few i (some p ∷ l) = omega (arith, held-few (suc i) l)
 surveyed-few : (d : Desk) → length (surveyed d) ≤ length (d .slots)
 unfolding surveyed
 surveyed-few d =
-    let hs = heldFrom 0 (d .slots) in
-    omega (arith, length-of-perm (arranged-perm comesBefore hs), held-few 0 (d .slots))
+    let hs = heldFrom 0 (seen d) in
+    omega (arith, length-of-perm (arranged-perm comesBefore hs), held-few 0 (seen d), seen-length d)
 
 pub survey-size : (d : Desk) → IsDesk d → length (replyBytes (surveys (surveyed d))) ≤ slotCount * 10 + 14
 unfolding slotCount
@@ -156,6 +157,7 @@ survey-size d D =
     let line : Held → Bytes = λ h. lineOf (heldFields h) in
     let count = okLine (decimal (length hs) ∷ []) in
     let whole = ap length (text-exact .replies .survey hs) ∙ length-append (joinLines (map line hs)) count in
-    let kept : (h : Held) → List·Memᴰ h hs → Kept (h .plan) = λ h m. D .kept (h .slot) (h .plan) (survey-of d .each (h .slot) (h .plan) .1 m) in
+    let kept : (h : Held) → List·Memᴰ h hs → Kept (h .plan) =
+    λ h m. D .kept (h .slot) (h .plan) (survey-of d .each (h .slot) (h .plan) .1 m .0) in
     let each = lines-fit line 10 hs (λ h m. held-size h (kept h m)) in
     omega (arith, ok-number-size (length hs) (omega arith))

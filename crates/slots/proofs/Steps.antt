@@ -11,15 +11,15 @@ use lib.ListN.{length}
 use Rattle.higman.specs.Bases.{all}
 use Rattle.higman.specs.Limits.{slotCount}
 use Rattle.higman.specs.Listing.{isSlot, slotNumber}
-use Rattle.higman.specs.Refusals.{wrongState, slotOutside, countFull, stationOutside, Letter, letterByte}
+use Rattle.higman.specs.Refusals.{wrongState, slotOutside, countFull, stationOutside, rightMissing, Letter, letterByte}
 use Rattle.higman.specs.Buffers.{written}
 use Rattle.higman.proofs.Tests.{T-of, so, all-at}
 use Rattle.words.proofs.Checks.{check-map, check-append}
 use Rattle.desk.specs.Desk.{Desk, IsDesk}
 use Rattle.desk.specs.Records.{Record, SlotUse, reading, writing, Kind, kind, ofSlots, ofOpenPlan, needsOpen, stationsNamed, slotsNamed}
-use Rattle.desk.specs.Records.{isChange}
+use Rattle.desk.specs.Records.{neededRight, isChange}
 use Rattle.desk.specs.Replies.{_>>=_, _when_, refuses, Outcome, refuse, pass, Effect}
-use Rattle.desk.specs.Replies.{openAmiss, noStation, outside, atLimit, job, admission, operation, isOpen}
+use Rattle.desk.specs.Replies.{openAmiss, noStation, outside, mayUse, denied, atLimit, job, admission, operation, isOpen}
 use Rattle.desk.proofs.Outcomes.{passed, admitted}
 use Rattle.desk.proofs.Stays.{operation-stays, slot-below as below}
 use Rattle.operations.specs.Plans.{inTable}
@@ -28,7 +28,7 @@ use Rattle.slots.specs.declared.Reply.{Reply}
 use Rattle.slots.specs.declared.Reply.the-variants.{Refused, RefusedIn}
 use Rattle.slots.specs.declared.Work.{Work}
 use Rattle.slots.specs.Blocks.{blockCount, columnsSize, sizeAt, valueAt}
-use Rattle.slots.specs.Desks.{draftBlock, deskOf, HoldsDesk}
+use Rattle.slots.specs.Desks.{draftBlock, deskOf, HoldsDesk, allowedIn}
 use Rattle.slots.specs.Works.{usesOf, AdmittedAs, refusing, refusingIn, direct, told, replyTo, deskAfter, DoneBy, Done, ToldBy, Tells}
 use Rattle.slots.proofs.Held.{open-is}
 
@@ -59,28 +59,32 @@ amiss-open h columns r e = rw (openAmiss, e) (ap not (open-is h columns))
 
 -- the tests that all records have in common, by what they find
 module _ (h : Head) (columns : List ℕ) (r : Record) where
-  abbrev tests : Bool → Bool → Bool → Outcome (Unit {0})
-  tests b s c = (wrongState when b) >>= λ _. (stationOutside when s) >>= λ _. slotOutside when c
+  abbrev tests : Bool → Bool → Bool → Bool → Outcome (Unit {0})
+  tests b s c m = (wrongState when b) >>= λ _. (stationOutside when s) >>= λ _. (slotOutside when c) >>= λ _. rightMissing when m
 
-  -- in this order: 2, 18, 8
-  pub tested : {b s c : Bool} → openAmiss (deskOf h columns) r ≡ b → noStation (stationsNamed r) ≡ s → outside (slotsNamed r) ≡ c
-      → admission (deskOf h columns) r ≡ tests b s c
+  -- in this order: 2, 18, 8, 20
+  pub tested : {b s c m : Bool} → openAmiss (deskOf h columns) r ≡ b → noStation (stationsNamed r) ≡ s → outside (slotsNamed r) ≡ c
+      → denied (deskOf h columns) (slotsNamed r) ≡ m → admission (deskOf h columns) r ≡ tests b s c m
   unfolding admission
-  tested o n u = rw (o, n, u) refl
+  tested {b} {s} {c} {m} o n u a =
+      ap (λ x. tests x (noStation (stationsNamed r)) (outside (slotsNamed r)) (denied (deskOf h columns) (slotsNamed r))) o
+      ∙ ap (λ x. tests b x (outside (slotsNamed r)) (denied (deskOf h columns) (slotsNamed r))) n
+      ∙ ap (λ x. tests b s x (denied (deskOf h columns) (slotsNamed r))) u
+      ∙ ap (tests b s c) a
 
   -- of a record of some slots
-  admission-is : (us : List SlotUse) (change : Bool) → kind r ≡ ofSlots us change → {b c : Bool} → h .is_open ≡ b → outside us ≡ c
-      → admission (deskOf h columns) r ≡ tests b false c
-  admission-is us change k o s =
+  admission-is : (us : List SlotUse) (change : Bool) → kind r ≡ ofSlots us change → {b c m : Bool} → h .is_open ≡ b → outside us ≡ c
+      → denied (deskOf h columns) us ≡ m → admission (deskOf h columns) r ≡ tests b false c m
+  admission-is us change k o s a =
       tested (amiss-closed h columns r (ap (λ (z : Kind). z .open-plan) k) ∙ o) (ap noStation (ap (λ (z : Kind). z .stations) k))
-      (ap outside (ap (λ (z : Kind). z .slots) k) ∙ s)
+      (ap outside (ap (λ (z : Kind). z .slots) k) ∙ s) (ap (denied (deskOf h columns)) (ap (λ (z : Kind). z .slots) k) ∙ a)
 
   -- and of one of the open plan
   module _ (change : Bool) (k : kind r ≡ ofOpenPlan change) where
-    plan-tested : {b : Bool} → h .is_open ≡ b → admission (deskOf h columns) r ≡ tests (not b) false false
+    plan-tested : {b : Bool} → h .is_open ≡ b → admission (deskOf h columns) r ≡ tests (not b) false false false
     plan-tested o =
         tested (amiss-open h columns r (ap (λ (z : Kind). z .open-plan) k) ∙ ap not o) (ap noStation (ap (λ (z : Kind). z .stations) k))
-        (ap outside (ap (λ (z : Kind). z .slots) k))
+        (ap outside (ap (λ (z : Kind). z .slots) k)) (ap (denied (deskOf h columns)) (ap (λ (z : Kind). z .slots) k))
 
     pub no-plan-open : h .is_open ≡ false → admission (deskOf h columns) r ≡ refuse wrongState none
     unfolding _>>=_
@@ -98,21 +102,41 @@ outside-uses reads targets e f =
     ap not (check-append named (map reading reads) (map writing targets)
     ∙ ap₂ _&&_ (check-map named reading reads ∙ e) (check-map named writing targets ∙ f))
 
+-- and the rights that they need
+denied-uses : (h : Head) (columns reads targets : List ℕ) → {b c : Bool} → allowedIn (h .control) 1 reads
+    ≡ b → allowedIn (h .control) 2 targets ≡ c
+    → denied (deskOf h columns) (usesOf reads targets) ≡ not (b && c)
+unfolding allowedIn deskOf neededRight
+denied-uses h columns reads targets e f =
+    let may : SlotUse → Bool = mayUse (deskOf h columns) in
+    ap not (check-append may (map reading reads) (map writing targets)
+    ∙ ap₂ _&&_ (check-map may reading reads ∙ e) (check-map may writing targets ∙ f))
+
 -- what a head says to every record of these slots
 pub admission-open : (h : Head) (reads targets : List ℕ) → h .is_open ≡ true → AdmittedAs h reads targets wrongState
 unfolding _>>=_
-admission-open h reads targets o = λ r change columns k. admission-is h columns r (usesOf reads targets) change k o refl
+admission-open h reads targets o = λ r change columns k. admission-is h columns r (usesOf reads targets) change k o refl refl
 
 module _ (h : Head) (reads targets : List ℕ) (o : h .is_open ≡ false) where
   pub admission-outside : {b c : Bool} → all isSlot reads ≡ b → all isSlot targets ≡ c → (b && c) ≡ false
       → AdmittedAs h reads targets slotOutside
   unfolding _>>=_
   admission-outside e f n =
-      λ r change columns k. admission-is h columns r (usesOf reads targets) change k o (outside-uses reads targets e f ∙ ap not n)
+      λ r change columns k. admission-is h columns r (usesOf reads targets) change k o (outside-uses reads targets e f ∙ ap not n) refl
 
-  pub admission-passed : all isSlot reads ≡ true → all isSlot targets ≡ true → AdmittedAs h reads targets 0
-  unfolding _>>=_
-  admission-passed e f = λ r change columns k. admission-is h columns r (usesOf reads targets) change k o (outside-uses reads targets e f)
+  module _ (e : all isSlot reads ≡ true) (f : all isSlot targets ≡ true) where
+    pub admission-denied : {b c : Bool} → allowedIn (h .control) 1 reads ≡ b → allowedIn (h .control) 2 targets ≡ c → (b && c) ≡ false
+        → AdmittedAs h reads targets rightMissing
+    unfolding _>>=_
+    admission-denied a m n =
+        λ r change columns k. admission-is h columns r (usesOf reads targets) change k o (outside-uses reads targets e f)
+        (denied-uses h columns reads targets a m ∙ ap not n)
+
+    pub admission-passed : allowedIn (h .control) 1 reads ≡ true → allowedIn (h .control) 2 targets ≡ true → AdmittedAs h reads targets 0
+    unfolding _>>=_
+    admission-passed a m =
+        λ r change columns k. admission-is h columns r (usesOf reads targets) change k o (outside-uses reads targets e f)
+        (denied-uses h columns reads targets a m)
 
 pub slot-below : (a : ℕ) → isSlot a ≡ true → slotNumber a < slotCount
 slot-below a e = below a (T-of e)

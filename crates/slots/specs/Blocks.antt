@@ -1,5 +1,5 @@
 -- The blocks of the columns: what stands in one, and the columns with another plan in one.
-use Prim.Native.Nat.{ℕ, _+_, _*_, _<_}
+use Prim.Native.Nat.{ℕ, _+_, _*_, _-_, _<_}
 use mathlib.Core.Path.{_≡_}
 use mathlib.Core.Bool.{false}
 use mathlib.Core.List.{List}
@@ -7,6 +7,7 @@ use lib.ListN.{length, getD, set, take, drop}
 use Rattle.higman.specs.Limits.{maxPairs}
 use Rattle.higman.specs.Buffers.{written}
 use Rattle.operations.specs.declared.Plan.{Plan}
+use Rattle.slots.specs.Rights.{rowOf, packedRow}
 use Rattle.slots.specs.declared.Size.{Size}
 use Rattle.slots.specs.declared.Control.{Control}
 use Rattle.slots.specs.declared.Head.{Head}
@@ -57,11 +58,22 @@ sizeOf p = record { arity = p .arity; roots = p .roots; pairs = p .pairs }
 
 -- one change more of the station that is named
 abbrev pub notedIn : Control → Control
-notedIn c = record { station = c .station; changes = set (c .changes) (c .station) (getD (c .changes) (c .station) 0 + 1) }
+notedIn c = record {
+  station = c .station;
+  changes = set (c .changes) (c .station) (getD (c .changes) (c .station) 0 + 1);
+  rights =
+      c .rights;
+}
 
 -- this station named
 abbrev pub namedIn : Control → ℕ → Control
-namedIn c s = record { station = s; changes = c .changes }
+namedIn c s = record { station = s; changes = c .changes; rights = c .rights }
+
+-- a right on a slot given to a station from 1 on
+abbrev pub givenIn : Control → ℕ → ℕ → ℕ → Control
+givenIn c s i x =
+    let row = packedRow (set (rowOf (getD (c .rights) (s - 1) 0)) i x) in
+    record { station = c .station; changes = c .changes; rights = set (c .rights) (s - 1) row }
 
 -- the head after a plan, or no plan, was put into a slot: no plan is open, and the change is counted
 unfoldable pub filledHead : Head → ℕ → Plan → Head

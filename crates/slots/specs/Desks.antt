@@ -9,13 +9,16 @@ use lib.ListN.{length, replicate}
 use Rattle.higman.specs.Words.{count}
 use Rattle.higman.specs.Tables.{row}
 use Rattle.higman.specs.Limits.{Plan as PlanOf, maxPairs, slotCount}
+use Rattle.higman.specs.Bases.{all}
+use Rattle.higman.specs.Listing.{isSlot, slotNumber}
 use Rattle.words.specs.Packed.{unpackIn, unpack}
-use Rattle.desk.specs.Limits.{stationCount, maxChanges}
-use Rattle.desk.specs.Desk.{Draft, Desk, Control as ControlOf, countIn, IsControl, IsDesk, freshDesk, changed}
+use Rattle.desk.specs.Limits.{stationCount, maxRight, maxChanges}
+use Rattle.desk.specs.Desk.{Draft, Desk, Control as ControlOf, countIn, rightOf, IsControl, IsDesk, freshDesk, changed}
 use Rattle.operations.specs.declared.Plan.{Plan}
 use Rattle.operations.specs.Plans.{shapeOf, rowsOf, planOf, inTable, blank}
 use Rattle.slots.specs.declared.Control.{Control}
 use Rattle.slots.specs.declared.Head.{Head}
+use Rattle.slots.specs.Rights.{rightsOf, packedRights, Givable}
 use Rattle.slots.specs.Blocks.{blockCount, columnsSize, noSize, sizeAt, valueAt, put, filledHead}
 
 -- the block of the open plan, behind those of the slots
@@ -41,11 +44,11 @@ draftOf h columns = elim (h .is_open) [ true ↦ some (draftIn (h .slot) (valueA
 
 -- what a desk keeps beside its plans
 abbrev pub controlOf : Control → ControlOf
-controlOf c = record { station = c .station; changes = c .changes }
+controlOf c = record { station = c .station; changes = c .changes; rights = rightsOf (c .rights) }
 
 -- and its block
 abbrev pub controlIn : ControlOf → Control
-controlIn c = record { station = c .station; changes = c .changes }
+controlIn c = record { station = c .station; changes = c .changes; rights = packedRights (c .rights) }
 
 -- no change more of the named station is counted
 abbrev pub fullIn : Control → Bool
@@ -55,6 +58,30 @@ fullIn c = leb maxChanges (countIn (controlOf c))
 pub record Countable (c : Control) : Type 0 where
   pub is-control : IsControl (controlOf c)
   pub room : fullIn c ≡ false
+
+-- the named station's right on a slot may be asked
+pub record RightAsked (c : Control) (i : ℕ) : Type 0 where
+  pub is-control : IsControl (controlOf c)
+  pub named : i < slotCount
+
+-- a right that may be given to a station
+pub record RightGiven (s i x : ℕ) : Type 0 where
+  pub other : 1 ≤ s
+  pub known : s < stationCount
+  pub given : Givable i x
+
+-- some right of the named station on slots may be asked
+pub record RightsAsked (c : Control) (names : List ℕ) (right : ℕ) : Type 0 where
+  pub is-control : IsControl (controlOf c)
+  pub named : all isSlot names ≡ true
+  pub fits : right ≤ maxRight
+
+-- whether the named station has at least this right on the slot of a name, and on those of all of these names
+abbrev pub hasRight : Control → ℕ → ℕ → Bool
+hasRight c right b = leb right (rightOf (controlOf c .rights) (c .station) (slotNumber b))
+
+unfoldable pub allowedIn : Control → ℕ → List ℕ → Bool
+allowedIn c right names = all (hasRight c right) names
 
 -- "The desk has slots A to H, at most one open plan, and a count of changes"
 unfoldable pub deskOf : Head → List ℕ → Desk
@@ -76,7 +103,7 @@ heldHead =
       sizes = record { arity = 2; roots = 1; pairs = 2 } ∷ replicate 8 noSize;
       is_open = false;
       slot = 0;
-      control = record { station = 0; changes = 1 ∷ replicate 7 0 };
+      control = record { station = 0; changes = 1 ∷ replicate 7 0; rights = replicate 7 0xAAAA };
     }
 
 abbrev heldColumns : List ℕ
@@ -86,9 +113,9 @@ abbrev exchange : PlanOf
 exchange = record { shape = record { arity = 2; roots = 1 }; rows = row 11 12 ∷ row 12 11 ∷ [] }
 
 deskOf-example : deskOf heldHead heldColumns ≡ changed freshDesk 0 (some exchange)
-unfolding deskOf valueAt slotCount stationCount freshDesk changed maxPairs unpack unpackIn
+unfolding deskOf valueAt slotCount stationCount maxRight freshDesk changed maxPairs unpack unpackIn
 deskOf-example = refl
 
 emptied-example : deskOf (filledHead heldHead 0 blank) (put heldColumns 0 blank) ≡ changed (changed freshDesk 0 (some exchange)) 0 none
-unfolding deskOf valueAt filledHead put blank slotCount stationCount freshDesk changed maxPairs unpack unpackIn
+unfolding deskOf valueAt filledHead put blank slotCount stationCount maxRight freshDesk changed maxPairs unpack unpackIn
 emptied-example = refl

@@ -4,14 +4,15 @@ ghost use mathlib.Core.Path.{_≡_};
 ghost use mathlib.Core.Bool.{true, false};
 ghost use Rattle.higman.specs.Listing.{isSlot, slotNumber};
 ghost use Rattle.higman.specs.Bases.{all};
-ghost use Rattle.desk.specs.Desk.{freshControl, countIn, IsControl};
-ghost use Rattle.slots.specs.Blocks.{notedIn, namedIn};
-ghost use Rattle.slots.specs.Desks.{controlOf, fullIn, Countable};
+ghost use Rattle.desk.specs.Desk.{freshControl, countIn, rightOf, IsControl};
+ghost use Rattle.slots.specs.Blocks.{notedIn, namedIn, givenIn};
+ghost use Rattle.slots.specs.Desks.{controlOf, fullIn, Countable, RightAsked, RightGiven, RightsAsked, allowedIn};
 ghost use Rattle.slots.specs.Works.{HeadOfDesk, AdmittedAs, refusing};
 use operations::listing;
 
 pub mod blocks;
 pub mod numbers;
+pub mod rights;
 
 // The words of a block: a column of from-words and a column of to-words.
 pub const BLOCK: usize = 256;
@@ -23,6 +24,9 @@ pub const COLUMNS: usize = 2304;
 pub const BLOCKS: usize = 9;
 
 pub const DRAFT: usize = 8;
+
+// A to H: `slotCount` of higman's Limits.antt.
+pub const SLOTS: usize = 8;
 
 // The stations: `stationCount` of desk's Limits.antt.
 pub const STATIONS: usize = 8;
@@ -38,11 +42,13 @@ pub struct Size {
     pub pairs: usize,
 }
 
-// What a desk keeps beside its plans: the station that is named, and "a count of changes" for each station (change request E5).
+// What a desk keeps beside its plans: the station that is named, "a count of changes" for each station (change request E5), and for each
+// station but 0 its rights on the slots (change request E6).
 #[repr(C)]
 pub struct Control {
     pub station: u32,
     pub changes: [u32; STATIONS],
+    pub rights: [u16; STATIONS - 1],
 }
 
 // What is known of a desk beside its words: the sizes of the blocks, whether a plan is open and for which slot, and what it keeps beside
@@ -50,7 +56,7 @@ pub struct Control {
 pub struct Head {
     pub sizes: [Size; BLOCKS],
     pub is_open: bool,
-    pub slot: usize,
+    pub slot: u8,
     pub control: Control,
 }
 
@@ -82,13 +88,14 @@ pub struct Work {
     pub reply: Reply,
 }
 
-// Station 0 is named, and every count is 0.
+// Station 0 is named, every count is 0, and every right is 2.
 pub fn fresh_control() -> Control
     ensures { λ r. ⌜ controlOf r ≡ freshControl ⌝ }
 {
     Control {
         station: 0,
         changes: [0u32; STATIONS],
+        rights: [rights::ALL; STATIONS - 1],
     }
 }
 
@@ -131,6 +138,50 @@ pub fn named(control: Control, station: u8) -> Control
     next
 }
 
+// A right on a slot given to a station: "station 0 always has 2", so that nothing is kept for it.
+pub fn given(control: Control, station: u8, slot: usize, right: u8) -> Control
+    requires { ⌜ RightGiven station slot right ⌝ }
+    ensures { λ r. ⌜ r ≡ givenIn control station slot right ⌝ }
+{
+    let place = station as usize - 1;
+    let row = control.rights[place];
+    let mut next = control;
+    next.rights[place] = rights::with(row, slot, right);
+    next
+}
+
+// The right of the named station on a slot.
+pub fn right(control: Control, slot: usize) -> u8
+    requires { ⌜ RightAsked control slot ⌝ }
+    ensures { λ r. ⌜ r ≡ rightOf (controlOf control .rights) (control .station) slot ⌝ }
+{
+    let station = control.station as usize;
+    if station == 0 {
+        return rights::WRITE;
+    }
+    let row = control.rights[station - 1];
+    rights::at(row, slot)
+}
+
+// Whether the named station has at least some right on all of some slots. Station 0 has them all.
+fn are_allowed(control: Control, names: &[u8], needed: u8) -> bool
+    requires { ⌜ RightsAsked control (now names) needed ⌝ }
+    ensures { λ r. ⌜ r ≡ allowedIn control needed (now (names .entry)) ⌝ }
+{
+    if control.station == 0 {
+        return true;
+    }
+    let mut i = 0;
+    while i < names.len() {
+        let slot = slot_number(names[i]);
+        if right(control, slot) < needed {
+            return false;
+        }
+        i += 1;
+    }
+    true
+}
+
 // Whether all of some bytes name slots.
 fn are_slots(names: &[u8]) -> bool
     ensures { λ r. ⌜ r ≡ all isSlot (now (names .entry)) ⌝ }
@@ -145,8 +196,8 @@ fn are_slots(names: &[u8]) -> bool
     true
 }
 
-// What all records of slots have in common, by the slots that one reads and those that are its targets: 2, 8. The number of the refusal,
-// or 0.
+// What all records of slots have in common, by the slots that one reads and those that are its targets: 2, 8, 20. The number of the
+// refusal, or 0.
 pub fn admission(head: Head, reads: &[u8], targets: &[u8]) -> u8
     requires { ⌜ HeadOfDesk head ⌝ }
     ensures { λ r. ⌜ AdmittedAs head (now (reads .entry)) (now (targets .entry)) r ⌝ }
@@ -159,6 +210,13 @@ pub fn admission(head: Head, reads: &[u8], targets: &[u8]) -> u8
     }
     if !are_slots(targets) {
         return operations::numbers::SLOT_OUTSIDE;
+    }
+    let control = head.control;
+    if !are_allowed(control, reads, rights::READ) {
+        return numbers::RIGHT_MISSING;
+    }
+    if !are_allowed(control, targets, rights::WRITE) {
+        return numbers::RIGHT_MISSING;
     }
     0
 }

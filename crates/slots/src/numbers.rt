@@ -13,3 +13,7 @@ pub const SLOT_EMPTY: u8 = 9;
 pub const COUNT_FULL: u8 = 16;
 // `stationOutside`
 pub const STATION_OUTSIDE: u8 = 18;
+// `stationRefused`
+pub const STATION_REFUSED: u8 = 19;
+// `rightMissing`
+pub const RIGHT_MISSING: u8 = 20;

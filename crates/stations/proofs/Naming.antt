@@ -35,21 +35,21 @@ module _ (h : Head) (columns : List ℕ) (s : ℕ) where
       record { sized = H .sized; headed = H .headed; is-desk = subst IsDesk (sym named-desk) d; in-tables = H .in-tables; few = H .few }
 
   -- whether there is no such station
-  unknown : (b : Bool) → isStation s ≡ b → noStation (s ∷ []) ≡ not b
+  pub unknown : (b : Bool) → isStation s ≡ b → noStation (s ∷ []) ≡ not b
   unknown true e = ap (λ x. not (elim x as (λ _. Bool) [ true ↦ true | false ↦ false ])) e
   unknown false e = ap (λ x. not (elim x as (λ _. Bool) [ true ↦ true | false ↦ false ])) e
 
   pub name-open : h .is_open ≡ true → admission (deskOf h columns) (Z s) ≡ refuse wrongState none
   unfolding kind _>>=_
-  name-open o = tested h columns (Z s) (amiss-closed h columns (Z s) refl ∙ o) refl refl
+  name-open o = tested h columns (Z s) (amiss-closed h columns (Z s) refl ∙ o) refl refl refl
 
   module _ (o : h .is_open ≡ false) where
     pub name-outside : 8 ≤ s → admission (deskOf h columns) (Z s) ≡ refuse stationOutside none
     unfolding kind _>>=_ stationCount
     name-outside k =
-        tested h columns (Z s) (amiss-closed h columns (Z s) refl ∙ o) (unknown false (lt-leb (s + 1) 8 (omega arith))) refl
+        tested h columns (Z s) (amiss-closed h columns (Z s) refl ∙ o) (unknown false (lt-leb (s + 1) 8 (omega arith))) refl refl
 
     pub name-passed : s < 8 → admission (deskOf h columns) (Z s) ≡ pass tt
     unfolding kind _>>=_ stationCount
     name-passed k =
-        tested h columns (Z s) (amiss-closed h columns (Z s) refl ∙ o) (unknown true (le-leb (s + 1) 8 (omega arith))) refl
+        tested h columns (Z s) (amiss-closed h columns (Z s) refl ∙ o) (unknown true (le-leb (s + 1) 8 (omega arith))) refl refl

@@ -9,7 +9,7 @@ use Rattle.desk.specs.Records.{T, kind}
 use Rattle.desk.specs.Replies.{okNumber, job}
 use Rattle.desk.specs.Desk.{countOf}
 use Rattle.slots.specs.declared.Reply.the-variants.{Number}
-use Rattle.slots.specs.Desks.{deskOf}
+use Rattle.slots.specs.Desks.{deskOf, allowedIn}
 use Rattle.slots.proofs.Held.{control-held}
 use Rattle.slots.proofs.Steps.{admission-open, admission-passed, tells-by}
 use Rattle.asking.proofs.Answered.{asks-by, answered}
@@ -23,11 +23,11 @@ returns c = λ columns out.
     tells-by h columns T out [] [] false refl wrongState (admission-open h [] [] (c .if1 .taken)) (λ z. omega arith)
 
 returns-2 : tie.Need-returns-2
-unfolding kind job deskOf
+unfolding kind job deskOf allowedIn
 returns-2 c = λ columns out.
     let e = c .before in
     let h = e .before .args .head in
-    answered h columns T out (asks-by h columns T [] refl 0 (admission-passed h [] [] (e .if1 .left) refl refl) refl)
+    answered h columns T out (asks-by h columns T [] refl 0 (admission-passed h [] [] (e .if1 .left) refl refl refl refl) refl)
     (okNumber (countOf (deskOf h columns))) refl _ (ap Number (c .count .ensures)) out refl
 
 count-requires : tie.Need-count-requires

@@ -13,8 +13,8 @@ use Rattle.desk.specs.Records.{U, kind}
 use Rattle.desk.specs.Replies.{surveyed, surveys, job}
 use Rattle.replies.proofs.Sizes.{ok-number-size}
 use Rattle.slots.specs.declared.Reply.the-variants.{Written}
-use Rattle.slots.specs.Desks.{deskOf}
-use Rattle.slots.proofs.Held.{slots-eight}
+use Rattle.slots.specs.Desks.{deskOf, allowedIn}
+use Rattle.slots.proofs.Held.{slots-eight, control-held}
 use Rattle.slots.proofs.Steps.{admission-open, admission-passed, tells-by}
 use Rattle.asking.proofs.Answered.{asks-by, answered}
 use Rattle.asking.proofs.Surveyed.{line-fits, Surveyed, survey-start, survey-long, survey-room, next-named, next-full, survey-next}
@@ -35,7 +35,9 @@ returns c = λ columns H.
     tells-by (a .t1) columns U (a .out .now) [] [] false refl wrongState (admission-open (a .t1) [] [] (c .if1 .taken)) (λ z. omega arith)
 
 arrange-requires : tie.Need-arrange-requires Inv-loop μ-loop
-arrange-requires c κs = omega (arith, slots-eight)
+arrange-requires c κs =
+    let s = c .before .before .before in
+    record { is-control = control-held (s .args .t1) (s .pre .0) (s .pre .1 .holds); room = omega (arith, slots-eight) }
 
 loop-holds : tie.Need-loop-holds Inv-loop μ-loop
 loop-holds c = let a = c .before .before .before .before .before .args in survey-start (a .t1) (a .out .now)
@@ -115,7 +117,7 @@ same-length c =
     omega (arith, survey-long (l .loop .inv) (l .before .before .before .before .before .before .pre .1 .room))
 
 returns-2 : tie.Need-returns-2 Inv-loop μ-loop
-unfolding kind job
+unfolding kind job allowedIn
 returns-2 c = λ columns H.
     let o = c .before .before in
     let e = o .before .before in
@@ -125,7 +127,8 @@ returns-2 c = λ columns H.
     let s = n .before .before in
     let h = s .args .t1 in
     let whole = survey-ends H (a .arrange .ensures) (l .loop .inv) (e .loop-test .left) (o .ok-number .ensures) in
-    answered h columns U (s .args .out .now) (asks-by h columns U [] refl 0 (admission-passed h [] [] (n .if1 .left) refl refl) refl)
+    answered h columns U (s .args .out .now) (asks-by h columns U [] refl 0
+    (admission-passed h [] [] (n .if1 .left) refl refl refl refl) refl)
     (surveys (surveyed (deskOf h columns))) refl (Written (o .ok-number .result)) (ap Written (whole .place ∙ zero-add _)) _ (whole .contents)
 
 pub survey-spec : {M : Type 1} → statement M

@@ -129,7 +129,7 @@ makes c =
 
 keep-requires : tie.Need-keep-requires
 keep-requires c κs =
-    let g = c .before in
+    let g = c .before .before in
     let s = closer g in
     record {
       holds = s .pre;
@@ -142,7 +142,7 @@ returns-4 : tie.Need-returns-4
 unfolding kind
 returns-4 c = λ out.
     let k = c .before .before in
-    let g = k .before .before in
+    let g = k .before .before .before in
     let e = read (judged (passed g)) in
     let s = closer g in
     k .keep .ensures E (answer g) (makes g)
@@ -162,6 +162,7 @@ close-spec =
     (λ c κs. search needs)
     (λ c. search needs)
     (λ c κs. search needs)
+    (λ c. search needs)
     keep-requires
     (λ c. search needs)
     returns-2

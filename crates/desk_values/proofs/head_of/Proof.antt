@@ -7,6 +7,8 @@ use borrow.Author.Needs.{needs}
 use borrow.Author.Tests.{eq-eqb, ne-eqb}
 use Rattle.higman.specs.Listing.{isSlot, slotNumber}
 use Rattle.slots.specs.declared.Head.{Head}
+use Rattle.slots.proofs.Held.{slots-eight}
+use Rattle.slots.proofs.Steps.{slot-below}
 use Rattle.desk_values.specs.declared.Desk.{Desk}
 use Rattle.desk_values.proofs.head_of.Statement.{statement}
 use Rattle.desk_values.proofs.head_of.Tie as tie
@@ -29,6 +31,12 @@ slot-number-requires c κs =
     let d = s .args .desk in
     sym (ap (tested (d .opened)) (ne-eqb (d .opened) 0 (c .if1 .left))) ∙ s .pre
 
+cast-slot : tie.Need-cast-t7
+cast-slot c =
+    let e = c .before in
+    let d = e .before .before .before .args .desk in
+    record { fits = omega (arith, c .slot-number .ensures, slot-below (d .opened) (slot-number-requires e tt), slots-eight) }
+
 returns-2 : tie.Need-returns-2
 returns-2 c =
     let e = c .before in
@@ -37,4 +45,4 @@ returns-2 c =
     ∙ ap (made d true) (sym (c .slot-number .ensures)))
 
 pub head-of-spec : {M : Type 1} → statement M
-head-of-spec = tie.close (tie.spec returns slot-number-requires returns-2)
+head-of-spec = tie.close (tie.spec returns slot-number-requires cast-slot returns-2)

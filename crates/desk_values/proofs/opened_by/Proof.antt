@@ -36,4 +36,4 @@ returns-2 c =
 pub opened-by-spec : {M : Type 1} → statement M
 opened-by-spec =
     tie.close
-    (tie.spec returns (λ c. omega (arith, small (c .before))) (λ c. omega (arith, small (c .before))) returns-2)
+    (tie.spec returns (λ c. record { fits = omega (arith, small (c .before)) }) returns-2)

@@ -1,13 +1,19 @@
 -- `desk_values::packed` meets its contract.
+use Prim.Native.Nat.{ℕ, _<_}
 use mathlib.Core.Path.{_≡_, _∙_, ap}
 use borrow.Author.Needs.{needs}
+use lib.ListN.{getD}
 use Rattle.operations.specs.declared.Plan.{Plan}
 use Rattle.slots.specs.Blocks.{sizeOf, put}
 use Rattle.slots.specs.Desks.{draftBlock}
 use Rattle.desk_values.specs.Values.{tidySizes}
+use Rattle.desk_values.proofs.Narrow.{narrow-rights}
 use Rattle.desk_values.proofs.Blocks.{desk-packed}
 use Rattle.desk_values.proofs.packed.Statement.{statement}
 use Rattle.desk_values.proofs.packed.Tie as tie
+
+narrow : (s : tie.Start) (i : ℕ) → getD (s .args .head .control .rights) i 0 < 65_536
+narrow s = narrow-rights (s .args .head .control .rights) _ (s .good .0 .1 .1 .1 .1 .1 .0 .1 .1 .1 .1 .0 .1 .1)
 
 returns : tie.Need-returns
 returns c =
@@ -22,7 +28,7 @@ returns c =
     let words = p .put .ensures ∙ ap (put (s .args .columns) draftBlock) draft in
     let opened = o .opened-by .ensures in
     (λ i. record { blocks = sizes i; opened = opened i; control = h .control; columns = words i })
-    ∙ desk-packed h (s .args .columns) (s .pre)
+    ∙ desk-packed h (s .args .columns) (s .pre) (narrow s)
 
 pub packed-spec : {M : Type 1} → statement M
 packed-spec =

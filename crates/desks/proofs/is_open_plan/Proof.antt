@@ -121,6 +121,7 @@ is-open-plan-spec =
     (tie.spec
     returns
     (λ c. search needs)
+    (λ c. search needs)
     returns-2
     (λ c κs. search needs)
     returns-3

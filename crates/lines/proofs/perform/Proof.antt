@@ -12,7 +12,7 @@ use Rattle.records.specs.declared.Record.the-variants.{Open, Pair, Close, Follo
 use Rattle.records.specs.Reading.{Within, InBounds}
 use Rattle.operations.proofs.Signs.{read, read-is}
 use Rattle.slots.specs.Works.{Done}
-use Rattle.lines.proofs.Performed.{line-done, line-told, no-line, small-fits}
+use Rattle.lines.proofs.Performed.{line-meant, line-done, line-told, no-line, small-fits}
 use Rattle.lines.proofs.perform.Statement.{statement}
 use Rattle.lines.proofs.perform.Tie as tie
 
@@ -197,6 +197,14 @@ returns-14 c =
 
 returns-15 : tie.Need-returns-15
 returns-15 c =
+    let r = c .before .before in
+    let s = start (r .before .before) in
+    let a = s .args in
+    line-meant (a .head) (a .columns .now) (a .line .now) (a .«record») (a .out .now) _ _ _ _ _ (r .record12 .given .1) refl
+    (c .grant .ensures (a .columns .now) (a .out .now) (s .pre .asked .holds))
+
+returns-16 : tie.Need-returns-16
+returns-16 c =
     let r = c .before in
     let s = start (r .before .before) in
     let a = s .args in
@@ -245,6 +253,8 @@ perform-spec =
     (λ c κs. search needs)
     (λ c. search needs)
     (λ c κs. search needs)
+    (λ c. search needs)
+    (λ c κs. search needs)
     returns
     (λ c. search needs)
     returns-2
@@ -272,4 +282,5 @@ perform-spec =
     (λ c. search needs)
     returns-13
     returns-14
-    returns-15)
+    returns-15
+    returns-16)

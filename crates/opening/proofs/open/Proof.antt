@@ -15,7 +15,8 @@ use Rattle.desk.specs.Replies.{pass, Effect, silent, newDraft, admission}
 use Rattle.slots.specs.declared.Size.{Size}
 use Rattle.slots.specs.Desks.{deskOf}
 use Rattle.slots.specs.Works.{admittedBy}
-use Rattle.slots.proofs.Steps.{admitted-named, refused-by, refused-job, at-end, done-passed}
+use Rattle.slots.proofs.Held.{slots-eight}
+use Rattle.slots.proofs.Steps.{slot-below, admitted-named, refused-by, refused-job, at-end, done-passed}
 use Rattle.opening.proofs.Drafted.{drafted, slots-untouched, drafted-size, drafted-desk, holds-drafted, draft-empty, open-outside, open-done}
 use Rattle.opening.proofs.open.Statement.{statement}
 use Rattle.opening.proofs.open.Tie as tie
@@ -58,6 +59,11 @@ returns-2 c = λ columns out H.
 slot-number-requires : tie.Need-slot-number-requires
 slot-number-requires c κs = named (c .before .before)
 
+cast-h : tie.Need-cast-h
+cast-h c =
+    let slot = slot-below (start (c .before .before .before) .args .slot) (named (c .before .before .before)) in
+    record { fits = omega (arith, c .slot-number .ensures, slot, slots-eight) }
+
 returns-3 : tie.Need-returns-3
 unfolding kind
 returns-3 c = λ columns out H.
@@ -93,4 +99,5 @@ open-spec =
     returns-2
     (λ c. search needs)
     slot-number-requires
+    cast-h
     returns-3)

@@ -10,8 +10,10 @@ read-all-requires c κs = (c .before .fresh .ensures .0, search needs)
 part-write-out-end : tie.Need-part-write-out-end
 part-write-out-end c =
     let ended = c .before .before .before in
-    let fits = finished-fits _ _ _ _ (ended .before .before .before .before .before .before .before .read-all .ensures .0) (ended .finish .ensures) in
-    search (needs, fits)
+    let read = ended .before .before .before .before .before .before .before in
+    let fits = finished-fits _ _ _ _ (read .read-all .ensures .0) (ended .finish .ensures) in
+    let room = read .before .before .before .before .pre in
+    search (needs, fits, room)
 
 pub run-spec : {M : Type 1} → statement M
 run-spec =

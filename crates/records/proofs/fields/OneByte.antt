@@ -1,5 +1,5 @@
--- Fields of one byte. A form that reads these alone, as those of slots, of n and r and of stations do, reads the byte at a place exactly
--- where `singleThen` or `singleLast` finds such a field there; what is read of the line then goes on behind it, or ends.
+-- Fields of one byte. A form that reads these alone, as those of slots, of n and r, of stations and of rights do, reads the byte at a place
+-- exactly where `singleThen` or `singleLast` finds such a field there; what is read of the line then goes on behind it, or ends.
 use Prim.Native.Nat.{ℕ, zero, suc, _+_, _-_, _<_}
 use mathlib.Core.Path.{_≡_, refl, sym, _∙_, ap, ap₂}
 use mathlib.Core.Logic.{_⊎_, inl, inr}
@@ -14,7 +14,7 @@ use lib.Seq.{drop-drop}
 use Rattle.higman.specs.Bases.{all}
 use Rattle.higman.specs.Text.{Bytes, tab, isNumeral, spelledOut}
 use Rattle.higman.proofs.Tests.{passes, clash, and-left, and-right, so, T-of}
-use Rattle.desk.specs.Records.{Record, Form, slotField, numberField, inFront, fields, field}
+use Rattle.desk.specs.Records.{Right, Record, Form, slotField, numberField, rightNumbered, rightField, inFront, fields, field}
 use Rattle.records.specs.Fields.{singleThen, singleLast, singles}
 use Rattle.records.proofs.fields.Places.{first-byte, one-at, two-at}
 use Rattle.records.proofs.fields.Forms.{field-some, field-none, field-nothing}
@@ -79,6 +79,27 @@ module _ (line : Bytes) (at : ℕ) where
   last-at : singleLast (drop at line) ≡ true → fields (drop at line) ≡ (getD line at 0 ∷ []) ∷ []
   last-at t = last-fields (drop at line) t ∙ ap (λ b. (b ∷ []) ∷ []) (first-byte line at)
 
+-- a byte as a digit, and as a right
+rightOf : Option ℕ → Option Right
+rightOf o = elim o [ none ↦ none | some n ↦ rightNumbered n ]
+
+module _ (b : ℕ) where
+  digit-value : isNumeral b ≡ true → numberField 1 (b ∷ []) ≡ some (b - 48)
+  digit-value d =
+      let value : spelledOut 0 (b ∷ []) ≡ b - 48 = omega arith in
+      number-spelled 1 (b ∷ []) (omega arith) refl (rw (d, all)) ∙ ap some value
+
+  digit-none : isNumeral b ≡ false → numberField 1 (b ∷ []) ≡ none
+  digit-none d = number-other-byte 1 (b ∷ []) (rw (d, all))
+
+  pub right-value : isNumeral b ≡ true → rightField (b ∷ []) ≡ rightNumbered (b - 48)
+  unfolding rightOf
+  right-value d = ap rightOf (digit-value d)
+
+  pub right-none : isNumeral b ≡ false → rightField (b ∷ []) ≡ none
+  unfolding rightOf
+  right-none d = ap rightOf (digit-none d)
+
 -- A slot, and a digit, at a place of a line, with what is made of the fields behind it.
 module _ (line : Bytes) (at : ℕ) (next : ℕ → List Bytes → Option Record) where
   pub slot-then : singleThen (drop at line) ≡ true
@@ -91,13 +112,10 @@ module _ (line : Bytes) (at : ℕ) (next : ℕ → List Bytes → Option Record)
   digit-read : (fs : List Bytes) → isNumeral (getD line at 0) ≡ true
       → field (numberField 1) next ((getD line at 0 ∷ []) ∷ fs) ≡ next (getD line at 0 - 48) fs
   digit-read fs d =
-      let value : spelledOut 0 (getD line at 0 ∷ []) ≡ getD line at 0 - 48 = omega arith in
-      let one = number-spelled 1 (getD line at 0 ∷ []) (omega arith) refl (rw (d, all)) in
-      field-some (numberField 1) next (getD line at 0 ∷ []) fs (getD line at 0 - 48) (one ∙ ap some value)
+      field-some (numberField 1) next (getD line at 0 ∷ []) fs (getD line at 0 - 48) (digit-value (getD line at 0) d)
 
   not-digit : (fs : List Bytes) → isNumeral (getD line at 0) ≡ false → field (numberField 1) next ((getD line at 0 ∷ []) ∷ fs) ≡ none
-  not-digit fs d =
-      field-none (numberField 1) next (getD line at 0 ∷ []) fs (number-other-byte 1 (getD line at 0 ∷ []) (rw (d, all)))
+  not-digit fs d = field-none (numberField 1) next (getD line at 0 ∷ []) fs (digit-none (getD line at 0) d)
 
   pub digit-then : singleThen (drop at line) ≡ true → isNumeral (getD line at 0) ≡ true
       → field (numberField 1) next (fields (drop at line)) ≡ next (getD line at 0 - 48) (fields (drop (at + 2) line))
@@ -115,7 +133,12 @@ module _ (line : Bytes) (at : ℕ) (next : ℕ → List Bytes → Option Record)
       → field (numberField 1) next (fields (drop at line)) ≡ none
   not-digit-last t d = ap (field (numberField 1) next) (last-at line at t) ∙ not-digit [] d
 
--- a field whatever its form, where nothing is made of those behind it
+-- a field whatever its form, that ends the line, ..
+pub form-last : {A : Type 0} (form : Form A) (next : A → List Bytes → Option Record) (line : Bytes) (at : ℕ)
+    → singleLast (drop at line) ≡ true → field form next (fields (drop at line)) ≡ field form next ((getD line at 0 ∷ []) ∷ [])
+form-last form next line at t = ap (field form next) (last-at line at t)
+
+-- .. or where nothing is made of those behind it
 pub then-nothing : {A : Type 0} (form : Form A) (next : A → List Bytes → Option Record) (line : Bytes) (at : ℕ)
     → singleThen (drop at line) ≡ true → ((a : A) → next a (fields (drop (at + 2) line)) ≡ none) → field form next (fields (drop at line)) ≡ none
 then-nothing form next line at t nothing =
@@ -131,6 +154,10 @@ slot-single = record { empty = refl; several = λ b c f. refl }
 
 pub digit-single : SingleForm (numberField 1)
 digit-single = record { empty = refl; several = λ b c f. number-too-long 1 (b ∷ c ∷ f) (omega arith) }
+
+pub right-single : SingleForm rightField
+unfolding rightOf
+right-single = record { empty = refl; several = λ b c f. ap rightOf (number-too-long 1 (b ∷ c ∷ f) (omega arith)) }
 
 -- Where the tests fail: nothing is made of fields whose first one is to be read by such a form, ..
 module _ {A : Type 0} {form : Form A} (single : SingleForm form) (next : A → List Bytes → Option Record) where

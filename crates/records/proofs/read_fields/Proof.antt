@@ -39,7 +39,10 @@ returns-11 : tie.Need-returns-11
 returns-11 c = cc (c .before .match .keys11, c .read-station .ensures)
 
 returns-12 : tie.Need-returns-12
-returns-12 c =
+returns-12 c = cc (c .before .match .keys12, c .read-grant .ensures)
+
+returns-13 : tie.Need-returns-13
+returns-13 c =
     let a = c .before .before .args in
     other-behind (a .letter) other (drop 2 (a .line .now))
   where
@@ -47,23 +50,25 @@ returns-12 c =
     other =
         let r = c .match .rest in
         record {
-          not-P = r .0 .0 .0 .0 .0 .0 .0 .0 .0 .0 .1;
-          not-M = r .0 .0 .0 .0 .0 .0 .0 .0 .0 .1;
-          not-F = r .0 .0 .0 .0 .0 .0 .0 .0 .1;
-          not-I = r .0 .0 .0 .0 .0 .0 .0 .1;
-          not-K = r .0 .0 .0 .0 .0 .0 .1;
-          not-S = r .0 .0 .0 .0 .0 .1;
-          not-W = r .0 .0 .0 .0 .1;
-          not-L = r .0 .0 .0 .1;
-          not-C = r .0 .0 .1;
-          not-X = r .0 .1;
-          not-Z = r .1;
+          not-P = r .0 .0 .0 .0 .0 .0 .0 .0 .0 .0 .0 .1;
+          not-M = r .0 .0 .0 .0 .0 .0 .0 .0 .0 .0 .1;
+          not-F = r .0 .0 .0 .0 .0 .0 .0 .0 .0 .1;
+          not-I = r .0 .0 .0 .0 .0 .0 .0 .0 .1;
+          not-K = r .0 .0 .0 .0 .0 .0 .0 .1;
+          not-S = r .0 .0 .0 .0 .0 .0 .1;
+          not-W = r .0 .0 .0 .0 .0 .1;
+          not-L = r .0 .0 .0 .0 .1;
+          not-C = r .0 .0 .0 .1;
+          not-X = r .0 .0 .1;
+          not-Z = r .0 .1;
+          not-G = r .1;
         }
 
 pub read-fields-spec : {M : Type 1} → statement M
 read-fields-spec =
     tie.close
     (tie.spec
+    (λ c κs. search needs)
     (λ c κs. search needs)
     (λ c κs. search needs)
     (λ c κs. search needs)
@@ -86,4 +91,5 @@ read-fields-spec =
     returns-9
     returns-10
     returns-11
-    returns-12)
+    returns-12
+    returns-13)

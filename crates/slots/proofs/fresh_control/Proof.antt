@@ -1,11 +1,12 @@
 -- `slots::fresh_control` meets its contract.
 use borrow.Author.Needs.{needs}
-use Rattle.desk.specs.Limits.{stationCount}
+use Rattle.higman.specs.Limits.{slotCount}
+use Rattle.desk.specs.Limits.{stationCount, maxRight}
 use Rattle.slots.proofs.fresh_control.Statement.{statement}
 use Rattle.slots.proofs.fresh_control.Tie as tie
 
 returns : tie.Need-returns
-unfolding stationCount
+unfolding slotCount stationCount maxRight
 returns c = search needs
 
 pub fresh-control-spec : {M : Type 1} → statement M

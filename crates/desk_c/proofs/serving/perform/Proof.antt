@@ -10,7 +10,7 @@ use lib.Dec.{eqb}
 use Rattle.higman.specs.Text.{byte}
 use Rattle.higman.specs.Refusals.{noRecord}
 use Rattle.desk.specs.Records.{Record, P, E, F, I, K, S, C, T, X, Z}
-use Rattle.desk.specs.Replies.{Outcome, refuse, pass}
+use Rattle.desk.specs.Replies.{Outcome, refuse, pass, grantBy}
 use mathlib.Core.List.{List}
 use mir.Syntax.{w32}
 use Rattle.operations.proofs.Signs.{read, read-is}
@@ -18,13 +18,19 @@ use Rattle.slots.specs.Works.{Done}
 use Rattle.slots.proofs.Steps.{done-told}
 use Rattle.desk_c.specs.declared.Job.{Job}
 use Rattle.desk_c.specs.Calls.{jobRecord, exerciseRecord}
-use Rattle.desk_c.proofs.Jobs.{job-done, no-job, few-splits, many-splits}
+use Rattle.desk_c.proofs.Jobs.{job-meant, job-done, no-job, few-splits, many-splits}
 use Rattle.desk_c.proofs.serving.perform.Statement.{statement}
 use Rattle.desk_c.proofs.serving.perform.Tie as tie
 
 -- the record of a job, behind the letters that were looked for
+abbrev after11 : Job → Outcome Record
+after11 j = refuse noRecord none
+
+abbrev at10 : Job → Bool → Outcome Record
+at10 j b = elim b [ true ↦ grantBy (j .a) (j .b) (j .c) | false ↦ after11 j ]
+
 abbrev after10 : Job → Outcome Record
-after10 j = refuse noRecord none
+after10 j = at10 j (eqb (j .letter) (byte "G"))
 
 abbrev at9 : Job → Bool → Outcome Record
 at9 j b = elim b [ true ↦ pass (Z (j .a)) | false ↦ after10 j ]
@@ -128,6 +134,12 @@ rest10 : (c : tie.Else11) → let j = c .before .before .before .before .before 
     jobRecord j ≡ after10 j
 rest10 c = let j = c .before .before .before .before .before .before .before .before .before .before .before .args .job in rest9 (c .before)
     ∙ ap (at9 j) (ne-eqb (j .letter) (byte "Z") (c .if11 .left))
+
+rest11 : (c : tie.Else12) → let j = c .before .before .before .before .before .before .before .before .before .before .before .before .args .job in
+    jobRecord j ≡ after11 j
+rest11 c = let j = c .before .before .before .before .before .before .before .before .before .before .before .before .args .job in rest10
+    (c .before)
+    ∙ ap (at10 j) (ne-eqb (j .letter) (byte "G") (c .if12 .left))
 
 returns : tie.Need-returns
 returns c =
@@ -256,10 +268,20 @@ returns-11 c =
 
 returns-12 : tie.Need-returns-12
 returns-12 c =
-    let e = c .before in
-    let s = e .before .before .before .before .before .before .before .before .before .before .before in
+    let t = c .before in
+    let s = t .before .before .before .before .before .before .before .before .before .before .before .before in
     let a = s .args in
-    no-job (a .job) (a .head) (a .columns .now) (s .pre) (c .refused2 .result) (rest10 e) (c .refused2 .ensures)
+    let j = a .job in
+    job-meant j (a .head) (a .columns .now) _ _ (grantBy (j .a) (j .b) (j .c))
+    (rest10 (t .before) ∙ ap (at10 j) (eq-eqb (j .letter) (byte "G") (t .if12 .taken)))
+    (λ out. c .grant .ensures (a .columns .now) out (s .pre))
+
+returns-13 : tie.Need-returns-13
+returns-13 c =
+    let e = c .before in
+    let s = e .before .before .before .before .before .before .before .before .before .before .before .before in
+    let a = s .args in
+    no-job (a .job) (a .head) (a .columns .now) (s .pre) (c .refused2 .result) (rest11 e) (c .refused2 .ensures)
 
 pub perform-spec : {M : Type 1} → statement M
 perform-spec =
@@ -295,4 +317,6 @@ perform-spec =
     (λ c κs. search needs)
     returns-11
     (λ c κs. search needs)
-    returns-12)
+    returns-12
+    (λ c κs. search needs)
+    returns-13)

@@ -1,0 +1,2 @@
+-- The definition that the contract of `grant` cites.
+pub mod Granted
