@@ -3,7 +3,7 @@
  * program may link libplans_c.a beside it and use plans.h too: block i of a desk and its words are a `struct plan`, part by part.
  *
  * A desk has eight slots 'A' to 'H' for plans (plans.h says what a plan is), at most one open plan, and for each of eight stations,
- * 0 to 7, a count of the changes done while that station was named. It is a value of the caller's: the library keeps nothing,
+ * 0 to 7, a count of the changes done while that station was named and its rights on the slots. It is a value of the caller's: the library keeps nothing,
  * allocates nothing and prints nothing. Calls on different desks may run at the same time, calls on one desk may not. A desk may be
  * copied and stored like any other struct. A call needs some 140 KB of stack.
  *
@@ -14,9 +14,13 @@
  *     E  closes it: reduces and keeps it                     K  keeps the power k of a in c
  *     S  whether a and b act alike, 1 or 0                   W  the image of a code under a, or its block
  *     L  lists a as P, M and E records                       C  empties a
- *     T  the count of the named station's changes            U  lists the held slots: slot, n, r, pairs
+ *     T  the count of the named station's changes            U  lists the readable held slots: slot, n, r, pairs
  *     X  makes a plan of n ways and r belts from s splits and a seed, and keeps it in a slot
  *     Z  names a station for the records after it; before the first Z it is station 0
+ *     G  gives a station from 1 to 7 a right on a slot: 0 nothing, 1 read, 2 read and write; station 0 alone may
+ *
+ * Every station starts with the right 2 on every slot, and station 0 always has it. The named station needs 1 on a slot that is read,
+ * and 2 on the slot of P, X or C and on a target; G needs none. U lists the readable slots alone.
  *
  * A block is W's reply to a code that no from-word begins: for each pair whose from-word extends the code, in the order of the
  * from-words, a line of "B", the from-word and the to-word, and last of all "ok" and how many they are.
@@ -33,9 +37,9 @@
  * and changes nothing else. The order behind 15 is
  *
  *     every record: 1, not a record; 2, M or E with no plan open, or any other record while one is open; and then
- *     P: 8, 3      M: 4, 5      E: 6 and 7 of the from column, 6 and 7 of the to column, 16      F: 8, 9, 10, 11, 16
- *     I: 8, 9, 16  C: 8, 9, 16  K: 8, 12, 9, 11, 16      S: 8, 9, 10      L: 8, 9      W: 8, 9, 4      T, U: no more
- *     X: 8, 3, 17, 5, 4, 16, of which 5 and 4 are those of the pairs before they are reduced      Z: 18
+ *     P: 8, 20, 3      M: 4, 5      E: 6 and 7 of the from column, 6 and 7 of the to column, 16      F: 8, 20, 9, 10, 11, 16
+ *     I: 8, 20, 9, 16  C: 8, 20, 9, 16  K: 8, 20, 12, 9, 11, 16    S: 8, 20, 9, 10    L: 8, 20, 9    W: 8, 20, 9, 4    T, U: no more
+ *     X: 8, 20, 3, 17, 5, 4, 16, of which 5 and 4 are those of the pairs before they are reduced      Z: 18      G: 18, 8, 19
  *
  * and last of all, in desk_line, 14.
  */
@@ -64,6 +68,13 @@ enum {
 
 #define DESK_MOST_CHANGES 4000000000u
 
+/* The rights of a station on a slot. */
+enum desk_right {
+    DESK_NO_RIGHT = 0,
+    DESK_READ = 1,
+    DESK_READ_WRITE = 2
+};
+
 /* The shape of a plan and the number of its pairs; all zero for a slot that is empty and where no plan is open. */
 struct desk_block {
     uint8_t arity; /* n, 2 to 9 */
@@ -71,11 +82,13 @@ struct desk_block {
     size_t pairs;  /* 1 to 128, of the open plan 0 to 128 */
 };
 
-/* The named station, and the changes of each station. One that has DESK_MOST_CHANGES is refused further ones with 16; the others are
- * not. */
+/* The named station, the changes of each station, and the rights of stations 1 to 7. A station that has DESK_MOST_CHANGES is refused
+ * further ones with 16; the others are not. The right of station s, from 1 on, on slot 'A' + i is the two bits
+ * `rights[s - 1] >> 2 * i & 3`, and never 3. */
 struct desk_control {
-    uint32_t station;                /* 0 to 7 */
-    uint32_t changes[DESK_STATIONS]; /* 0 to DESK_MOST_CHANGES each; E, F, I, K, X and C raise the named station's by one */
+    uint32_t station;                   /* 0 to 7 */
+    uint32_t changes[DESK_STATIONS];    /* 0 to DESK_MOST_CHANGES each; E, F, I, K, X and C raise the named station's by one */
+    uint16_t rights[DESK_STATIONS - 1]; /* of stations 1 to 7, two bits for each slot; all are 2 at first, which is 0xAAAA */
 };
 
 /*
@@ -119,7 +132,7 @@ struct desk_done {
     uint32_t value;
 };
 
-/* A desk with empty slots and no open plan, station 0 named, and all counts 0. */
+/* A desk with empty slots and no open plan, station 0 named, all counts 0 and all rights 2. */
 struct desk desk_fresh(void);
 
 /* The size of the struct as the library has it. Compare it with sizeof (struct desk) where the two might have been compiled apart. */
@@ -153,9 +166,11 @@ struct desk_written desk_line(struct desk *d, const uint8_t *line, size_t line_l
  *     'X'  a slot, b = n, c = r (numbers), splits up to      value: the pairs kept
  *          99 and seed, which may be any number
  *     'Z'  a = station (a number, not a digit)               value 0
+ *     'G'  a = station (a number), b slot, c = right         value 0
+ *          (a number)
  *
  * Every other letter is refused with 1, those of records with text or a listing (M, W, L, U) too, and so is X with more splits than 99,
- * which no line has digits for: a job that is done does what a line does. No 14 here: nothing is written.
+ * which no line has digits for, and G with a right above 2: a job that is done does what a line does. No 14 here: nothing is written.
  */
 struct desk_done desk_do(struct desk *d, struct desk_job job);
 
