@@ -1,18 +1,18 @@
 //! The desk: eight slots, at most one open plan and the stations with their
-//! counts. It takes the bytes of standard input in any pieces and gives the bytes
-//! of the replies. Every refusal drops an open plan and changes nothing else.
+//! counts and rights. It takes the bytes of standard input in any pieces and gives
+//! the bytes of the replies. Every refusal drops an open plan and changes nothing
+//! else.
 
 use std::cmp::Reverse;
 use std::collections::BTreeMap;
 
+use crate::line::Line;
 use crate::plan::{self, Plan, Routed};
 use crate::records::Record;
 use crate::refusal::Refusal;
-use crate::stations::Stations;
+use crate::rights::Right;
+use crate::stations::{self, Stations};
 use crate::words::{Shape, Word};
-
-/// "Lines hold at most 1,100 bytes, byte 10 not counted".
-pub const LINE_BYTES: usize = 1100;
 
 /// The reply to a record, or the refusal of it.
 pub type Reply = Result<Vec<u8>, Refusal>;
@@ -35,24 +35,6 @@ pub struct OpenPlan {
     pub typed: Vec<(Word, Word)>,
 }
 
-/// The bytes of a line so far. Of a line that is too long only the fact is
-/// kept besides its beginning.
-#[derive(Clone, Debug, Default)]
-struct Line {
-    bytes: Vec<u8>,
-    too_long: bool,
-}
-
-impl Line {
-    fn push(&mut self, byte: u8) {
-        if self.bytes.len() < LINE_BYTES {
-            self.bytes.push(byte);
-        } else {
-            self.too_long = true;
-        }
-    }
-}
-
 /// A whole session from a fresh desk: all replies to this input.
 pub fn session(input: &[u8]) -> Vec<u8> {
     let mut desk = Desk::new();
@@ -63,7 +45,8 @@ pub fn session(input: &[u8]) -> Vec<u8> {
 }
 
 impl Desk {
-    /// "A fresh desk has empty slots and count 0", and station 0 is named.
+    /// "A fresh desk has empty slots and count 0", station 0 is named and everyone
+    /// has all rights.
     pub fn new() -> Desk {
         Desk::default()
     }
@@ -171,6 +154,11 @@ impl Desk {
             Record::Count => Ok(ok_line(self.stations.count())),
             Record::Held => Ok(self.held_slots()),
             Record::Station { station } => self.name_station(station),
+            Record::Grant {
+                station,
+                slot,
+                right,
+            } => self.grant(station, slot, right),
         }
     }
 
@@ -184,8 +172,18 @@ impl Desk {
         }
     }
 
+    /// "8, a slot byte outside A to H", of all slots that a record names, and "right
+    /// after 8" 20: the named station needs 1 on those that are read, and 2 on those
+    /// that are written.
+    fn may(&self, read: &[u8], written: &[u8]) -> Result<(), Refusal> {
+        slots_in_range(&[read, written].concat())?;
+        let needs = |right| move |slot: &u8| self.stations.may(*slot, right);
+        read.iter().try_for_each(needs(Right::Read))?;
+        written.iter().try_for_each(needs(Right::ReadAndWrite))
+    }
+
     fn open(&mut self, slot: u8, shape: Shape) -> Reply {
-        slots_in_range(&[slot])?;
+        self.may(&[], &[slot])?;
         if !shape.in_range() {
             return Err(Refusal::ShapeRange);
         }
@@ -211,35 +209,36 @@ impl Desk {
     }
 
     fn then(&mut self, first: u8, second: u8, target: u8) -> Reply {
-        slots_in_range(&[first, second, target])?;
+        self.may(&[first, second], &[target])?;
         let (first, second) = (self.held(first)?, self.held(second)?);
         let plan = first.then(second)?;
         self.keep(target, plan)
     }
 
     fn inverse(&mut self, operand: u8, target: u8) -> Reply {
-        slots_in_range(&[operand, target])?;
+        self.may(&[operand], &[target])?;
         let plan = self.held(operand)?.inverse();
         self.keep(target, plan)
     }
 
-    /// "K: then 8; 12; 9; 11; 16": the exponent is looked at before the slot.
+    /// "K: then 8; 12; 9; 11; 16", with 20 behind 8: the exponent is looked at before
+    /// what the slot holds.
     fn power(&mut self, operand: u8, k: i64, target: u8) -> Reply {
-        slots_in_range(&[operand, target])?;
+        self.may(&[operand], &[target])?;
         plan::exponent_in_range(k)?;
         let plan = self.held(operand)?.power(k)?;
         self.keep(target, plan)
     }
 
     fn same(&self, first: u8, second: u8) -> Reply {
-        slots_in_range(&[first, second])?;
+        self.may(&[first, second], &[])?;
         let (first, second) = (self.held(first)?, self.held(second)?);
         let alike = first.same(second)?;
         Ok(ok_line(u64::from(alike)))
     }
 
     fn route(&self, operand: u8, code: &[u8]) -> Reply {
-        slots_in_range(&[operand])?;
+        self.may(&[operand], &[])?;
         match self.held(operand)?.route_or_block(code)? {
             Routed::Image(image) => Ok([b"ok\t", image.as_slice(), b"\n"].concat()),
             Routed::Block(pairs) => Ok(block_lines(&pairs)),
@@ -247,29 +246,32 @@ impl Desk {
     }
 
     fn list(&self, operand: u8) -> Reply {
-        slots_in_range(&[operand])?;
+        self.may(&[operand], &[])?;
         Ok(self.held(operand)?.list(operand))
     }
 
+    /// C needs 2 on its slot, as a target does.
     fn clear(&mut self, operand: u8) -> Reply {
-        slots_in_range(&[operand])?;
+        self.may(&[], &[operand])?;
         self.held(operand)?;
         self.stations.count_change()?;
         self.slots.remove(&operand);
         Ok(b"ok\n".to_vec())
     }
 
-    /// X: then 8; 3; 17; 5; 4; 16. It keeps its plan at once and opens none.
+    /// X: then 8; 20; 3; 17; 5; 4; 16. It keeps its plan at once and opens none.
     fn exercise(&mut self, slot: u8, shape: Shape, splits: u8, seed: u64) -> Reply {
-        slots_in_range(&[slot])?;
+        self.may(&[], &[slot])?;
         let plan = Plan::exercise(shape, splits, seed)?;
         self.keep(slot, plan)
     }
 
-    /// U: "the lines now come with the most pairs first, and equal ones by slot
-    /// letter", and then "`ok⇥` and how many".
+    /// U "shows only readable slots": "the lines now come with the most pairs first,
+    /// and equal ones by slot letter", and then "`ok⇥` and how many".
     fn held_slots(&self) -> Vec<u8> {
-        let mut held: Vec<(&u8, &Plan)> = self.slots.iter().collect();
+        let readable = |(slot, _): &(&u8, &Plan)| self.stations.may(**slot, Right::Read).is_ok();
+        let mut held: Vec<(&u8, &Plan)> = self.slots.iter().filter(readable).collect();
+        let shown = held.len() as u64;
         held.sort_by_key(|(slot, plan)| (Reverse(plan.size()), **slot));
         let mut lines = Vec::new();
         for (slot, plan) in held {
@@ -277,13 +279,21 @@ impl Desk {
             lines.push(*slot);
             lines.extend(format!("\t{arity}\t{roots}\t{}\n", plan.size()).bytes());
         }
-        lines.extend(ok_line(self.slots.len() as u64));
+        lines.extend(ok_line(shown));
         lines
     }
 
     /// Z: then 18. "Z counts no change and replies `ok`."
     fn name_station(&mut self, station: u8) -> Reply {
         self.stations.name(station)?;
+        Ok(b"ok\n".to_vec())
+    }
+
+    /// G: then 18; 8; 19. It counts no change, needs no right and replies `ok`.
+    fn grant(&mut self, station: u8, slot: u8, right: Right) -> Reply {
+        stations::in_range(station)?;
+        slots_in_range(&[slot])?;
+        self.stations.give(station, slot, right)?;
         Ok(b"ok\n".to_vec())
     }
 
@@ -301,7 +311,7 @@ impl Desk {
     }
 }
 
-/// "8, a slot byte outside A to H", of all slot fields before anything else.
+/// "8, a slot byte outside A to H".
 fn slots_in_range(slots: &[u8]) -> Result<(), Refusal> {
     if slots.iter().all(|slot| (b'A'..=b'H').contains(slot)) {
         Ok(())

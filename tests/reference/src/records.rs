@@ -2,6 +2,7 @@
 //! fields and field forms. All that can go wrong here is refusal 1.
 
 use crate::refusal::Refusal;
+use crate::rights::Right;
 
 /// A record whose fields have the right forms. Slots may still be any byte,
 /// words and codes any bytes.
@@ -41,6 +42,8 @@ pub enum Record<'a> {
     Held,
     /// Z: names a station.
     Station { station: u8 },
+    /// G: gives a station a right on a slot.
+    Grant { station: u8, slot: u8, right: Right },
 }
 
 impl<'a> Record<'a> {
@@ -113,6 +116,11 @@ impl<'a> Record<'a> {
             [b"Z", station] => Record::Station {
                 station: one_digit(station)?,
             },
+            [b"G", station, slot, right] => Record::Grant {
+                station: one_digit(station)?,
+                slot: one_byte(slot)?,
+                right: one_digit(right).and_then(Right::numbered)?,
+            },
             _ => return None,
         };
         Some(record)
@@ -127,7 +135,8 @@ fn one_byte(field: &[u8]) -> Option<u8> {
     }
 }
 
-/// "n and r one digit 0 to 9", and the station of Z is one digit too.
+/// "n and r one digit 0 to 9", and the stations of Z and G and the right of G are
+/// one digit too.
 fn one_digit(field: &[u8]) -> Option<u8> {
     match field {
         [byte] if byte.is_ascii_digit() => Some(byte - b'0'),

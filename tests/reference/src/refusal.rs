@@ -1,4 +1,4 @@
-//! The refusals of the desk and the numbers that document 01, E3 and E5 give them.
+//! The refusals of the desk and the numbers that document 01, E3, E5 and E6 give them.
 //! Numbers 14 and 15 belong to library calls with lent buffers and lent plans;
 //! nothing of that kind is lent here, so they don't occur. 13 is the library's
 //! alone too, since W has a block instead, but a route needs nothing lent.
@@ -39,10 +39,14 @@ pub enum Refusal {
     SeedRange,
     /// 18, "a digit above 7", which is no station.
     StationRange,
+    /// 19, "G from another station or for station 0".
+    NoGiver,
+    /// 20, "a missing right" on a slot that is named.
+    MissingRight,
 }
 
 impl Refusal {
-    /// The number of document 01, or of E3 for 17 and of E5 for 18.
+    /// The number of document 01, or of E3 for 17, of E5 for 18 and of E6 for 19 and 20.
     pub fn number(self) -> u8 {
         match self {
             Refusal::Form => 1,
@@ -60,6 +64,8 @@ impl Refusal {
             Refusal::CountLimit => 16,
             Refusal::SeedRange => 17,
             Refusal::StationRange => 18,
+            Refusal::NoGiver => 19,
+            Refusal::MissingRight => 20,
         }
     }
 

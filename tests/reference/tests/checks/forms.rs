@@ -6,7 +6,8 @@ use crate::prepared::{check, check_on, prepared};
 
 /// Letters that no record has; the first two lines have an empty one.
 const UNKNOWN_LETTERS: &[&str] = &[
-    "", " ", "Y", "p A 2 1", "PP A 2 1", "\r", "T\r", "\0", "tt", "z 1", "ZZ 1",
+    "", " ", "Y", "p A 2 1", "PP A 2 1", "\r", "T\r", "\0", "tt", "z 1", "ZZ 1", "g 1 A 1",
+    "GG 1 A 1",
 ];
 
 /// Records with a field too few or too many.
@@ -41,12 +42,17 @@ const WRONG_NUMBERS_OF_FIELDS: &[&str] = &[
     "Z",
     "Z 1 ",
     "Z 1 1",
+    "G",
+    "G 1",
+    "G 1 A",
+    "G 1 A 1 ",
+    "G 1 A 1 1",
 ];
 
 /// Slot fields of no byte or of two.
 const WRONG_SLOTS: &[&str] = &[
     "P  2 1", "P AB 2 1", "F A A ", "F AA A A", "I A ", "K AA 1 C", "K A 1 ", "S  A", "W  1",
-    "W AA 1", "L ", "C ", "C AA",
+    "W AA 1", "L ", "C ", "C AA", "G 1  1", "G 1 AA 1",
 ];
 
 /// Fields for n or r that are not one digit.
@@ -58,10 +64,16 @@ const WRONG_POWERS: &[&str] = &[
     "", "-", "+1", "00", "01", "-0", "-01", "10000", "-10000", "1x", "--1",
 ];
 
-/// Fields for the station of Z that are not one digit.
+/// Fields for the station of Z and of G that are not one digit.
 const WRONG_STATIONS: &[&str] = &[
     "", "00", "01", "10", "70", "-0", "-1", "+1", "1x", "x", "A", "-", "1\0", "1\r", "\0", ".",
     "/", ":", "\u{661}",
+];
+
+/// Fields for the right of G that are not one digit 0 to 2.
+const WRONG_RIGHTS: &[&str] = &[
+    "", "3", "4", "9", "00", "01", "02", "10", "12", "20", "22", "-0", "-1", "+1", "1x", "x", "A",
+    "1\0", "1\r", "\0", "\u{1}", "\u{2}", "/", ":", "\u{662}",
 ];
 
 #[test]
@@ -80,6 +92,13 @@ fn forms() {
     }
     for station in WRONG_STATIONS {
         check(&format!("Z {station}"), "no 1");
+        check(&format!("G {station} A 1"), "no 1");
+    }
+    for right in WRONG_RIGHTS {
+        for station in [0, 1, 9] {
+            check(&format!("G {station} A {right}"), "no 1");
+            check(&format!("G {station} z {right}"), "no 1");
+        }
     }
 }
 
@@ -105,6 +124,8 @@ fn slot_bytes() {
         "W z 0",
         "L z",
         "C z",
+        "G 1 z 1",
+        "G 0 I 1",
     ] {
         check(record, "no 8");
     }

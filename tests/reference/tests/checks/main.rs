@@ -1,7 +1,7 @@
 //! The checks of the second implementation: the paper's own cases, every
 //! refusal in its order, the mathematics on random plans of all shapes and on
 //! tables of any size, the order of U's lines, the plans of X, the counts of the
-//! stations, and the reading of input in pieces.
+//! stations, their rights, and the reading of input in pieces.
 
 mod bases;
 mod blocks;
@@ -16,6 +16,7 @@ mod powers;
 mod prepared;
 mod random;
 mod refusals;
+mod rights;
 mod routes;
 mod stations;
 mod stream;

@@ -8,7 +8,7 @@ use crate::prepared::{check, check_on, prepared, typed_by};
 use crate::random::Random;
 
 /// Asserts the replies to some records.
-fn replies(desk: &mut Desk, records: &str, replies: &str) {
+pub fn replies(desk: &mut Desk, records: &str, replies: &str) {
     let mut out = Vec::new();
     desk.feed(&lines(records), &mut out);
     let got = String::from_utf8(out).expect("replies are text");
