@@ -8,6 +8,7 @@ mod case;
 mod exercises;
 mod lines;
 mod plans;
+mod rights;
 mod surveys;
 
 use case::Case;
@@ -35,6 +36,9 @@ fn all() -> Vec<Case> {
         exercises::of_every_shape(),
         exercises::of_every_s(),
         exercises::at_the_limits(),
+        rights::of_following(),
+        rights::of_each_record(),
+        rights::of_every_station(),
     ]
 }
 
