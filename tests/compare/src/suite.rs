@@ -8,7 +8,7 @@ use crate::judge::{expected, judge, lines, Step};
 use crate::program::{Feeding, Program, Trouble};
 use crate::report::{block, manner, Fault};
 use crate::shrink::{shortest_prefix, shrink, Effort};
-use sessions::{tally, Tally, EXERCISES, NAMINGS};
+use sessions::{tally, Tally, EXERCISES, GRANTS, NAMINGS, RIGHTS};
 use std::collections::BTreeMap;
 use std::fs;
 use std::io::{self, Write};
@@ -92,7 +92,20 @@ fn find_fault(program: &Program, steps: &[Step], feeding: Feeding) -> Option<Fau
 type Replies = BTreeMap<char, Tally>;
 
 /// The replies that the records of one letter have to meet.
-const OWN: [(char, &[&str]); 2] = [('X', EXERCISES), ('Z', NAMINGS)];
+const OWN: [(char, &[&str]); 12] = [
+    ('X', EXERCISES),
+    ('Z', NAMINGS),
+    ('G', GRANTS),
+    ('P', RIGHTS),
+    ('X', RIGHTS),
+    ('F', RIGHTS),
+    ('I', RIGHTS),
+    ('K', RIGHTS),
+    ('S', RIGHTS),
+    ('W', RIGHTS),
+    ('L', RIGHTS),
+    ('C', RIGHTS),
+];
 
 /// What the replies of a range of seeds come to: those that never came up, if any,
 /// from any record or from one that has its own, and whether that is a failure.
@@ -311,7 +324,7 @@ fn operation(record: &[u8]) -> char {
     let body = record.strip_suffix(b"\n").unwrap_or(record);
     let letter = body.split(|&byte| byte == b'\t').next();
     match letter {
-        Some([letter]) if b"PMEFIKSWLCTUXZ".contains(letter) => *letter as char,
+        Some([letter]) if b"PMEFIKSWLCTUXZG".contains(letter) => *letter as char,
         _ => '?',
     }
 }
@@ -330,6 +343,7 @@ mod tests {
         assert!(fails && missing.contains("no 12") && !missing.contains("no 1,"));
         assert!(missing.contains("no 1 to X") && !missing.contains("no 17"));
         assert!(missing.contains("ok to Z") && missing.contains("no 18 to Z"));
+        assert!(missing.contains("no 19 to G") && missing.contains("no 20 to S"));
         assert!(!verdict(&few, FULL_RANGE - 1).unwrap().0);
     }
 
@@ -351,7 +365,8 @@ mod tests {
             for kind in kinds {
                 assert!(own.count(kind) > 15, "{kind} to {letter}: {}", own.line());
             }
-            assert!(own.count(kinds[0]) > 800, "to {letter}: {}", own.line());
+            let least = if kinds == RIGHTS { 25 } else { 800 };
+            assert!(own.count(kinds[0]) > least, "to {letter}: {}", own.line());
         }
     }
 
@@ -377,6 +392,7 @@ mod tests {
         assert_eq!(operation(b"\n"), '?');
         assert_eq!(operation(b"X\t1\n"), 'X');
         assert_eq!(operation(b"Z\t1\n"), 'Z');
+        assert_eq!(operation(b"G\t1\n"), 'G');
         assert_eq!(operation(b"Y\t1\n"), '?');
     }
 }

@@ -2,8 +2,9 @@
 //! kinds that a long run of sessions has to have met. Refusals 13, 14 and 15
 //! are given by library calls alone, and 16 needs four thousand million
 //! changes, so no session meets them. Of U not only the lines are counted but
-//! also the replies that show something of their order, and X and Z have to meet
-//! their own refusals, some of which other records have too.
+//! also the replies that show something of their order; X, Z and G have to meet
+//! their own refusals, some of which other records have too, and each record that
+//! names slots has to lack a right now and then.
 
 use std::collections::BTreeMap;
 use std::fmt;
@@ -11,7 +12,7 @@ use std::fmt;
 /// The refusals that sessions can meet, in the form of the tally.
 const REFUSALS: &[&str] = &[
     "no 1", "no 2", "no 3", "no 4", "no 5", "no 6 F", "no 6 T", "no 7 F", "no 7 T", "no 8", "no 9",
-    "no 10", "no 11", "no 12", "no 17", "no 18",
+    "no 10", "no 11", "no 12", "no 17", "no 18", "no 19", "no 20",
 ];
 
 /// The other replies that sessions can meet.
@@ -30,6 +31,12 @@ pub const EXERCISES: &[&str] = &[
 
 /// The replies that Z alone has to meet.
 pub const NAMINGS: &[&str] = &["ok", "no 1", "no 2", "no 18"];
+
+/// The replies that G alone has to meet.
+pub const GRANTS: &[&str] = &["ok", "no 1", "no 2", "no 8", "no 18", "no 19"];
+
+/// The reply that each record has to meet which names a slot and needs a right.
+pub const RIGHTS: &[&str] = &["no 20"];
 
 /// How often each kind of reply came up.
 #[derive(Default, Clone, PartialEq, Eq, Debug)]
@@ -180,6 +187,13 @@ mod tests {
         assert!(tally.missing_of(NAMINGS).is_empty());
         tally.counts.remove("no 18");
         assert_eq!(tally.missing_of(NAMINGS), ["no 18"]);
+        assert_eq!(tally.missing_of(GRANTS), ["no 18"]);
+        assert!(tally.missing_of(RIGHTS).is_empty());
+        for kind in ["no 19", "no 20"] {
+            tally.counts.remove(kind);
+        }
+        assert_eq!(tally.missing_of(GRANTS), ["no 18", "no 19"]);
+        assert_eq!(tally.missing_of(RIGHTS), ["no 20"]);
     }
 
     /// A reply to U is closed by its number, so that two of them aren't one.

@@ -21,7 +21,7 @@ fn some_record(session: &mut Session) -> Vec<Vec<u8>> {
     let a = name(session.held_slot());
     let b = name(session.held_slot());
     let c = name(session.some_slot());
-    let fields: Vec<&[u8]> = match session.rng.below(14) {
+    let fields: Vec<&[u8]> = match session.rng.below(15) {
         0 => vec![b"P", a, b"2", b"1"],
         1 => vec![b"M", b"11", b"12"],
         2 => vec![b"E"],
@@ -35,6 +35,7 @@ fn some_record(session: &mut Session) -> Vec<Vec<u8>> {
         10 => vec![b"T"],
         11 => vec![b"X", c, b"2", b"1", b"3", b"7"],
         12 => vec![b"Z", b"1"],
+        13 => vec![b"G", b"1", c, b"2"],
         _ => vec![b"U"],
     };
     fields.into_iter().map(<[u8]>::to_vec).collect()
@@ -84,7 +85,7 @@ pub fn wrong_form(session: &mut Session) {
         9 => session.record(&[b"X", letter, b"2", bad, b"3", b"0"]),
         10 => session.record(&[b"X", wide, b"2", b"1", b"99", b"5"]),
         _ => {
-            let unknown = *session.rng.pick(b"ABDGHJNOQRVYptuxz0 ");
+            let unknown = *session.rng.pick(b"ABDHJNOQRVYgptuxz0 ");
             session.record(&[&[unknown], letter]);
         }
     }

@@ -2,7 +2,7 @@
 //! word and of a code, the power, and the bytes of a line.
 
 use crate::plans::{self, Word, MOST_PAIRS};
-use crate::session::{name, Held, Session, SLOTS};
+use crate::session::{name, Session, SLOTS};
 
 /// The limits that can be passed by one: pairs, digits of a word, digits of
 /// a code, and the power.
@@ -29,7 +29,7 @@ fn full_plan(session: &mut Session) {
         }
     }
     session.load(slot, shape, &rows);
-    session.slots[slot] = Some(Held { shape, rows });
+    session.enter(slot, shape, rows);
 }
 
 /// 129 pairs; the last one sometimes has a wrong word, which is refused first.

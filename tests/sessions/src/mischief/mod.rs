@@ -2,11 +2,12 @@
 //! and records in the middle of an open plan stand here, the limits and the
 //! first value beyond each in `limits`, wrong forms of records in `forms`,
 //! wrong values of a right form in `values`, what is wrong with an X in
-//! `exercises`, and with a Z in `stations`.
+//! `exercises`, with a Z in `stations`, and with a G or without a right in `rights`.
 
 mod exercises;
 mod forms;
 mod limits;
+mod rights;
 mod stations;
 mod values;
 
@@ -20,7 +21,7 @@ const BAD_SLOTS: &[&[u8]] = &[
 
 /// One record or a few that are wrong in some way.
 pub fn step(session: &mut Session) {
-    match session.rng.below(18) {
+    match session.rng.below(23) {
         0..=2 => interrupted_plan(session),
         3 => limits::boundary(session),
         4 => limits::long_line(session),
@@ -32,6 +33,7 @@ pub fn step(session: &mut Session) {
         11 => values::empty_slots(session),
         12..=14 => exercises::step(session),
         15 | 16 => stations::step(session),
+        17..=21 => rights::step(session),
         _ => values::wrong_opening(session),
     }
 }
@@ -77,7 +79,7 @@ fn short_plan(session: &mut Session, shape: Shape) -> Vec<Row> {
 
 fn interruption(session: &mut Session, slot: usize) {
     let letter = name(slot);
-    match session.rng.below(20) {
+    match session.rng.below(24) {
         0 => session.record(&[b"T"]),
         1 => session.record(&[b"U"]),
         2 => session.record(&[b"L", letter]),
@@ -93,6 +95,7 @@ fn interruption(session: &mut Session, slot: usize) {
         12 => session.record(&[b""]),
         13 | 14 => exercises::interrupting(session, letter),
         15..=18 => stations::interrupting(session),
+        19..=22 => rights::interrupting(session, letter),
         _ => forms::wrong_form(session),
     }
 }

@@ -32,11 +32,11 @@ pub fn interrupting(session: &mut Session) {
         0 => wrong_form(session),
         1 | 2 => {
             let digit = session.rng.between(8, 9);
-            session.name_station(digit);
+            session.naming(digit);
         }
         _ => {
             let digit = session.rng.below(8);
-            session.name_station(digit);
+            session.naming(digit);
         }
     }
 }

@@ -1,6 +1,7 @@
-//! The book of a session: what the slots are thought to hold, and the choice
-//! of slots by it. What the desk replies is not known here; where the book is
-//! wrong about a slot, the session is only a little less to the point.
+//! The book of a session: what the slots are thought to hold and what rights the
+//! stations are thought to have, and the choice of slots by it. What the desk replies
+//! is not known here; where the book is wrong about a slot, the session is only a
+//! little less to the point.
 
 use super::Session;
 use crate::plans::{Row, Shape};
@@ -30,9 +31,32 @@ impl Session {
         }
     }
 
-    /// A slot that a plan may be written to.
+    /// A slot that a plan may be written to, mostly by the named station too.
     pub fn some_slot(&mut self) -> usize {
-        *self.rng.pick(&self.in_play)
+        let in_play = self.in_play.clone();
+        self.within_rights(in_play, 2)
+    }
+
+    /// One of these slots, mostly one on which the named station has this right.
+    fn within_rights(&mut self, slots: Vec<usize>, right: usize) -> usize {
+        let has = |slot: &usize| self.rights[self.named][*slot] >= right;
+        let granted: Vec<usize> = slots.iter().copied().filter(has).collect();
+        match granted.is_empty() || self.rng.chance(12) {
+            true => *self.rng.pick(&slots),
+            false => *self.rng.pick(&granted),
+        }
+    }
+
+    /// A station that lacks a right and the slot, by the book.
+    pub fn lacking(&mut self) -> Option<(usize, usize)> {
+        let all =
+            (1..self.rights.len()).flat_map(|station| (0..8).map(move |slot| (station, slot)));
+        let lacks = |(station, slot): &(usize, usize)| self.rights[*station][*slot] < 2;
+        let lacking: Vec<(usize, usize)> = all.filter(lacks).collect();
+        match lacking.is_empty() {
+            true => None,
+            false => Some(*self.rng.pick(&lacking)),
+        }
     }
 
     /// A slot thought to be empty, where there is one.
@@ -50,7 +74,7 @@ impl Session {
         if held.is_empty() || self.rng.chance(3) {
             self.empty_slot()
         } else {
-            *self.rng.pick(&held)
+            self.within_rights(held, 1)
         }
     }
 
@@ -63,26 +87,36 @@ impl Session {
         if self.rng.chance(12) {
             self.some_slot()
         } else {
-            *self.rng.pick(&mates)
+            self.within_rights(mates, 1)
         }
     }
 
     /// Where a result goes: more often over a plan of the same shape, so
     /// that the book stays right when the result is refused.
     pub(super) fn target(&mut self, source: usize) -> usize {
-        if self.rng.chance(70) {
-            self.mate(source)
+        let mate = self.mate(source);
+        if self.rng.chance(70) && self.rights[self.named][mate] > 1 {
+            mate
         } else {
             self.some_slot()
         }
     }
 
-    /// Enters in the book that `target` now holds a plan of `source`'s shape.
+    /// Enters in the book that a slot now holds a plan, where the named station may
+    /// have written it.
+    pub fn enter(&mut self, slot: usize, shape: Shape, rows: Vec<Row>) {
+        if self.rights[self.named][slot] > 1 {
+            self.slots[slot] = Some(Held { shape, rows });
+        }
+    }
+
+    /// Enters in the book that `target` now holds a plan of `source`'s shape, where
+    /// the named station may have it so.
     pub(super) fn enter_result(&mut self, source: usize, target: usize) {
-        if let Some(held) = &self.slots[source] {
-            let shape = held.shape;
-            let rows = Vec::new();
-            self.slots[target] = Some(Held { shape, rows });
+        let readable = self.rights[self.named][source] > 0;
+        let shape = self.slots[source].as_ref().map(|held| held.shape);
+        if let (true, Some(shape)) = (readable, shape) {
+            self.enter(target, shape, Vec::new());
         }
     }
 }

@@ -1,7 +1,7 @@
 //! The steps that have X make a plan, and use it: they list, route, invert, raise
 //! and follow it, and make it again from the same fields or from another seed.
 
-use super::{name, Held, Session};
+use super::{name, Session};
 use crate::plans::{self, Shape, MOST_EXERCISED};
 
 /// The largest seed.
@@ -18,8 +18,7 @@ impl Session {
     /// X into a slot, entered in the book; a plan of X is hardly ever refused here.
     fn keep_exercise(&mut self, slot: usize, shape: Shape, splits: usize, seed: usize) {
         self.exercise_record(name(slot), shape, splits, seed);
-        let rows = Vec::new();
-        self.slots[slot] = Some(Held { shape, rows });
+        self.enter(slot, shape, Vec::new());
     }
 
     /// A plan of X and a record or a few on it.

@@ -2,7 +2,7 @@
 //! every kind, and plans that turn back or round together with the F or K
 //! that shows it.
 
-use super::{name, Held, Session};
+use super::{name, Session};
 use crate::plans::{self, Row, Shape};
 
 impl Session {
@@ -31,7 +31,7 @@ impl Session {
         let shape = self.some_shape();
         let rows = self.plan_to_load(shape);
         self.load(slot, shape, &rows);
-        self.slots[slot] = Some(Held { shape, rows });
+        self.enter(slot, shape, rows);
     }
 
     /// Loads a plan with long from-words and says where.
@@ -40,7 +40,7 @@ impl Session {
         let shape = self.some_shape();
         let rows = plans::deep_plan(&mut self.rng, shape);
         self.load(slot, shape, &rows);
-        self.slots[slot] = Some(Held { shape, rows });
+        self.enter(slot, shape, rows);
         slot
     }
 
@@ -51,7 +51,7 @@ impl Session {
             let slot = self.some_slot();
             let rows = plans::permutation(&mut self.rng, &shape.belts());
             self.load(slot, shape, &rows);
-            self.slots[slot] = Some(Held { shape, rows });
+            self.enter(slot, shape, rows);
         }
     }
 
@@ -90,7 +90,7 @@ impl Session {
         for slot in [a, b] {
             let rows = self.blocks.plan(&mut self.rng);
             self.load(slot, shape, &rows);
-            self.slots[slot] = Some(Held { shape, rows });
+            self.enter(slot, shape, rows);
         }
         self.record(&[b"F", name(a), name(b), name(c)]);
         self.enter_result(a, c);
@@ -106,7 +106,7 @@ impl Session {
         let turning = plans::turning_plan(&mut self.rng, shape, splits);
         let rows = turning.rows;
         self.load(a, shape, &rows);
-        self.slots[a] = Some(Held { shape, rows });
+        self.enter(a, shape, rows);
         let k = turning.period - 1 + self.rng.below(3);
         let sign = *self.rng.pick(&["", "-"]);
         let k = format!("{sign}{k}");

@@ -1,23 +1,25 @@
 //! The course of a session: it loads a few plans and then takes steps, chosen
 //! by weight, that load plans (`loading`) or have X make them (`exercises`), work
 //! on them and ask about them (`operations`), name the stations that do it
-//! (`stations`), or bring what a desk has to refuse (`mischief`). A book (`book`)
-//! says what the slots are thought to hold.
+//! (`stations`), give them rights (`rights`), or bring what a desk has to refuse
+//! (`mischief`). A book (`book`) says what the slots are thought to hold and who may
+//! touch them.
 
 mod book;
 mod exercises;
 mod loading;
 mod operations;
+mod rights;
 mod stations;
 #[cfg(test)]
 mod tests;
 
 pub use book::{name, Held, SLOTS};
+pub use stations::STATIONS;
 
 use crate::mischief;
 use crate::plans::{self, Blocks, Shape, Word};
 use crate::rng::Rng;
-use stations::STATIONS;
 
 /// A session while it is being written.
 pub struct Session {
@@ -35,7 +37,12 @@ pub struct Session {
     in_play: Vec<usize>,
     /// The stations that type; the others are hardly ever named.
     stations: Vec<usize>,
+    /// In how many of a hundred gifts a right is less than 2.
+    strictness: usize,
     pub slots: [Option<Held>; 8],
+    /// The station that is thought to be named, and the rights of all.
+    named: usize,
+    rights: [[usize; 8]; STATIONS],
 }
 
 /// The session of a seed, as the bytes of the desk program's input.
@@ -44,7 +51,7 @@ pub fn session(seed: u64) -> Vec<u8> {
     for _ in 0..session.rng.between(2, 5) {
         session.load_some_plan();
     }
-    for _ in 0..session.rng.between(32, 98) {
+    for _ in 0..session.rng.between(38, 114) {
         session.step();
     }
     session.end()
@@ -75,6 +82,7 @@ impl Session {
         let mut stations: Vec<usize> = (0..STATIONS).collect();
         rng.shuffle(&mut stations);
         stations.truncate(rng.between(2, STATIONS));
+        let strictness = rights::some_strictness(&mut rng);
         Session {
             rng,
             bytes: Vec::new(),
@@ -83,7 +91,10 @@ impl Session {
             blocks,
             in_play,
             stations,
+            strictness,
             slots: Default::default(),
+            named: 0,
+            rights: [[2; 8]; STATIONS],
         }
     }
 
@@ -95,7 +106,7 @@ impl Session {
 
     /// One step of the session, chosen by weight.
     fn step(&mut self) {
-        match self.rng.below(117) {
+        match self.rng.below(136) {
             0..=12 => self.load_some_plan(),
             13..=20 => mischief::load_near_miss(self),
             21..=34 => self.follow(),
@@ -113,6 +124,9 @@ impl Session {
             79..=84 => self.exercise(),
             85..=91 => self.next_station(),
             92 => self.every_count(),
+            93..=98 => self.give_rights(),
+            99 => self.give_all_rights(),
+            100..=104 => self.try_rights(),
             _ => mischief::step(self),
         }
     }

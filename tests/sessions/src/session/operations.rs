@@ -65,7 +65,9 @@ impl Session {
     pub(super) fn clear(&mut self) {
         let a = self.held_slot();
         self.record(&[b"C", name(a)]);
-        self.slots[a] = None;
+        if self.rights[self.named][a] > 1 {
+            self.slots[a] = None;
+        }
     }
 
     /// U a few times, mostly behind records that change its lines: a plan kept

@@ -8,8 +8,16 @@ use crate::plans;
 pub const STATIONS: usize = 8;
 
 impl Session {
-    /// Z with this digit.
+    /// Z with this digit where no plan is open.
     pub fn name_station(&mut self, digit: usize) {
+        self.naming(digit);
+        if digit < STATIONS {
+            self.named = digit;
+        }
+    }
+
+    /// Z with this digit as a record, whatever comes of it.
+    pub fn naming(&mut self, digit: usize) {
         self.record(&[b"Z", &[plans::digit(digit)]]);
     }
 

@@ -23,7 +23,7 @@ fn a_seed_decides_its_session() {
 #[test]
 fn every_operation_and_every_shape_comes_up() {
     let lines = all_lines(0..72);
-    for letter in b"PMEFIKSWLCTUXZ" {
+    for letter in b"PMEFIKSWLCTUXZG" {
         let found = lines.iter().any(|line| line.first() == Some(letter));
         assert!(found, "no record {}", *letter as char);
     }
@@ -71,7 +71,7 @@ fn every_boundary_comes_up() {
 /// A front of so many digits is one that the next W has a digit more of.
 #[test]
 fn fronts_of_every_length_come_up() {
-    let lines = all_lines(0..200);
+    let lines = all_lines(0..300);
     for digits in 1..16 {
         let longer = |pair: &&[Vec<u8>]| {
             let code = pair[0].strip_prefix(b"W\t");
@@ -151,6 +151,38 @@ fn stations_come_up() {
     }
     assert!(times(b"Z") > 0);
     for (first, second, least) in [(b'Z', b'T', 1000), (b'P', b'Z', 10), (b'M', b'Z', 30)] {
+        let starts = |line: &[u8], letter| line.first() == Some(&letter);
+        let behind = |pair: &&[Vec<u8>]| starts(&pair[0], first) && starts(&pair[1], second);
+        let found = lines.windows(2).filter(behind).count();
+        let [first, second] = [first, second].map(char::from);
+        assert!(found > least, "{found} times {second} behind {first}");
+    }
+}
+
+/// G with every station and right and with all that is wrong, and in open plans.
+#[test]
+fn rights_come_up() {
+    let lines = all_lines(0..600);
+    let times = |line: &[u8]| lines.iter().filter(|other| *other == line).count();
+    for (station, right) in (1..8).flat_map(|station| (0..3).map(move |right| (station, right))) {
+        let given = |slot: char| times(format!("G\t{station}\t{slot}\t{right}").as_bytes());
+        let found: usize = ('A'..='H').map(given).sum();
+        assert!(found > 30, "{found} of G {station} {right}");
+    }
+    let starting = |front: &[u8]| lines.iter().filter(|line| line.starts_with(front)).count();
+    for (front, least) in [("G\t0\t", 50), ("G\t8\t", 40), ("G\t9\t", 20), ("G\t\t", 0)] {
+        let found = starting(front.as_bytes());
+        assert!(found > least, "{found} of {front}");
+    }
+    for right in ["3", "4", "9", "", "00", "02", "10", "-1", "x"] {
+        let end = format!("\t{right}").into_bytes();
+        let wrong = |line: &&Vec<u8>| {
+            let fields = line.split(|&byte| byte == b'\t').count();
+            line.starts_with(b"G\t") && line.ends_with(&end) && fields == 4
+        };
+        assert!(lines.iter().any(|line| wrong(&line)), "no right {right}");
+    }
+    for (first, second, least) in [(b'P', b'G', 10), (b'M', b'G', 30), (b'G', b'Z', 300)] {
         let starts = |line: &[u8], letter| line.first() == Some(&letter);
         let behind = |pair: &&[Vec<u8>]| starts(&pair[0], first) && starts(&pair[1], second);
         let found = lines.windows(2).filter(behind).count();

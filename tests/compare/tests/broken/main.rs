@@ -1,111 +1,14 @@
 //! The comparison tried out: on the reference program as it is, where nothing
 //! may fail, and on copies of it with one place spoiled, each of which has to
-//! be found. The edits are in `broken/`: what is spoiled, the file, the old
-//! text, which has to be there exactly once, and the new text.
+//! be found. The edits are in `broken/` beside this folder's: what is spoiled, the
+//! file, the old text, which has to be there exactly once, and the new text.
+
+mod copies;
+mod rights;
 
 use std::fs;
-use std::path::{Path, PathBuf};
-use std::process::{Command, Output};
 
-fn here() -> PathBuf {
-    PathBuf::from(env!("CARGO_MANIFEST_DIR"))
-}
-
-/// The part of an edit from one heading to the next.
-fn part<'a>(edit: &'a str, heading: &str) -> &'a str {
-    let heading = format!("--- {heading}\n");
-    let start = edit.find(&heading).expect("the heading is there") + heading.len();
-    let rest = &edit[start..];
-    let end = rest.find("--- ").unwrap_or(rest.len());
-    rest[..end].trim_end_matches('\n')
-}
-
-/// Copies the sources of the reference, as a workspace of their own.
-fn copy_reference(target: &Path) {
-    let source = here().join("../reference");
-    let _ = fs::remove_dir_all(target.join("src"));
-    fs::create_dir_all(target.join("src")).unwrap();
-    let manifest = fs::read_to_string(source.join("Cargo.toml")).unwrap();
-    fs::write(target.join("Cargo.toml"), manifest + "\n[workspace]\n").unwrap();
-    for entry in fs::read_dir(source.join("src")).unwrap() {
-        let path = entry.unwrap().path();
-        fs::copy(&path, target.join("src").join(path.file_name().unwrap())).unwrap();
-    }
-}
-
-fn apply(edit: &str, target: &Path) {
-    let file = target.join(part(edit, "file"));
-    let text = fs::read_to_string(&file).unwrap();
-    let (old, new) = (part(edit, "old"), part(edit, "new"));
-    let times = text.matches(old).count();
-    assert_eq!(times, 1, "the old text is there {times} times: {old}");
-    fs::write(&file, text.replacen(old, new, 1)).unwrap();
-}
-
-/// Builds a copy of the reference, spoiled by the edit of this name if it is
-/// to be, and gives the path of its program. Here a fast build is worth more
-/// than a fast program, so it is not optimised; and an edit may leave a
-/// function without a use, so a warning is no error.
-fn build(name: &str, edited: bool) -> PathBuf {
-    let target = PathBuf::from(env!("CARGO_TARGET_TMPDIR")).join(name);
-    copy_reference(&target);
-    if edited {
-        let edit = here().join("broken").join(format!("{name}.edit"));
-        apply(&fs::read_to_string(edit).unwrap(), &target);
-    }
-    let built = Command::new(env!("CARGO"))
-        .args(["build", "--offline", "--quiet"])
-        .arg("--target-dir")
-        .arg(target.join("target"))
-        .env_remove("RUSTFLAGS")
-        .current_dir(&target)
-        .output()
-        .unwrap();
-    let said = String::from_utf8_lossy(&built.stderr);
-    assert!(built.status.success(), "{said}");
-    target.join("target/debug/reference")
-}
-
-/// Runs the program `compare` on a desk program.
-fn compare(arguments: &[&str], desk: &[&str]) -> Output {
-    Command::new(env!("CARGO_BIN_EXE_compare"))
-        .args(arguments)
-        .arg("--")
-        .args(desk)
-        .output()
-        .unwrap()
-}
-
-fn cases() -> String {
-    here().join("../cases").to_str().unwrap().to_string()
-}
-
-/// The numbers of the last line, after a look at the exit status.
-fn counts(output: &Output) -> (usize, usize) {
-    let text = String::from_utf8_lossy(&output.stdout).to_string();
-    let last = text.lines().last().expect("a last line");
-    let numbers = last.strip_suffix(" failed").expect("the last line");
-    let (passed, failed) = numbers.split_once(" passed, ").expect("the last line");
-    let counts = (passed.parse().unwrap(), failed.parse().unwrap());
-    assert_eq!(output.status.success(), counts.1 == 0, "{text}");
-    counts
-}
-
-/// The failures on the cases, and those on a few sessions.
-fn failures(desk: &Path) -> (usize, usize) {
-    let desk = [desk.to_str().unwrap()];
-    // Making the faults small takes its time, and their number is enough.
-    let on_cases = compare(&["--details", "0", "--cases", &cases()], &desk);
-    let on_seeds = compare(&["--details", "0", "--seeds", "0..24"], &desk);
-    let (on_cases, on_seeds) = (counts(&on_cases), counts(&on_seeds));
-    (on_cases.1, on_seeds.1)
-}
-
-fn is_found(name: &str) {
-    let (on_cases, on_seeds) = failures(&build(name, true));
-    assert!(on_cases > 0, "{name} is not found by the cases");
-    assert!(on_seeds > 0, "{name} is not found by the sessions");
-}
+use copies::{build, cases, compare, counts, failures, is_found, one_case};
 
 #[test]
 fn the_reference_itself_passes() {
@@ -362,18 +265,6 @@ fn a_station_named_for_one_change_is_found() {
 #[test]
 fn a_naming_that_replies_a_number_is_found() {
     is_found("z-number-told");
-}
-
-/// A directory with this one case in it, and nothing else.
-fn one_case(directory: &str, name: &str) -> PathBuf {
-    let target = PathBuf::from(env!("CARGO_TARGET_TMPDIR")).join(directory);
-    let _ = fs::remove_dir_all(&target);
-    fs::create_dir_all(&target).unwrap();
-    for end in ["in", "out"] {
-        let file = format!("{name}.{end}");
-        fs::copy(Path::new(&cases()).join(&file), target.join(&file)).unwrap();
-    }
-    target
 }
 
 /// K on an empty slot with k out of range is record 14 of the case, and needs
