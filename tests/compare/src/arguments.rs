@@ -10,6 +10,8 @@ use std::time::Duration;
 pub struct Arguments {
     pub cases: Option<PathBuf>,
     pub seeds: Range<u64>,
+    /// The seeds of pairs of sessions.
+    pub pairs: Range<u64>,
     pub timeout: Duration,
     /// How many faults are made small; the others get one line each.
     pub details: usize,
@@ -18,8 +20,8 @@ pub struct Arguments {
     pub command: Vec<String>,
 }
 
-pub const USAGE: &str = "usage: compare [--cases DIR] [--seeds FROM..TO] [--timeout SECONDS] \
-                         [--details NUMBER] [--save DIR] -- COMMAND [ARGUMENT..]";
+pub const USAGE: &str = "usage: compare [--cases DIR] [--seeds FROM..TO] [--pairs FROM..TO] \
+                         [--timeout SECONDS] [--details NUMBER] [--save DIR] -- COMMAND [ARGUMENT..]";
 
 /// The time for a run where none is given.
 const TIMEOUT: Duration = Duration::from_secs(20);
@@ -31,6 +33,7 @@ impl Arguments {
         let mut arguments = Arguments {
             cases: None,
             seeds: 0..0,
+            pairs: 0..0,
             timeout: TIMEOUT,
             details: DETAILS,
             save: None,
@@ -48,7 +51,8 @@ impl Arguments {
         if arguments.command.is_empty() {
             return Err("the command of a desk program is missing".into());
         }
-        if arguments.cases.is_none() && arguments.seeds.is_empty() {
+        let seeds = [&arguments.seeds, &arguments.pairs];
+        if arguments.cases.is_none() && seeds.iter().all(|seeds| seeds.is_empty()) {
             return Err("there is nothing to do without cases and seeds".into());
         }
         Ok(arguments)
@@ -58,6 +62,7 @@ impl Arguments {
         match name {
             "--cases" => self.cases = Some(value.into()),
             "--seeds" => self.seeds = seeds(value).ok_or(format!("not seeds: {value}"))?,
+            "--pairs" => self.pairs = seeds(value).ok_or(format!("not seeds: {value}"))?,
             "--timeout" => {
                 let seconds = value.parse().map_err(|_| format!("not seconds: {value}"))?;
                 self.timeout = Duration::from_secs(seconds);
@@ -91,10 +96,12 @@ mod tests {
 
     #[test]
     fn everything_can_be_given() {
-        let line = "--cases c --seeds 3..9 --timeout 7 --details 0 --save s -- desk --cases x";
+        let line = "--cases c --seeds 3..9 --pairs 2..5 --timeout 7 --details 0 --save s \
+                    -- desk --cases x";
         let expected = Arguments {
             cases: Some("c".into()),
             seeds: 3..9,
+            pairs: 2..5,
             timeout: Duration::from_secs(7),
             details: 0,
             save: Some("s".into()),
@@ -111,6 +118,8 @@ mod tests {
             "-- desk",
             "--seeds 3 -- desk",
             "--seeds 5..5 -- desk",
+            "--seeds 5..5 --pairs 1..1 -- desk",
+            "--pairs 3 -- desk",
             "--timeout soon --cases c -- desk",
             "--speed 3 --cases c -- desk",
             "--cases",

@@ -1,5 +1,6 @@
 //! Compares a desk program with the second implementation, on cases from a
-//! directory and on sessions from a range of seeds. The last line says how
+//! directory and on sessions from a range of seeds, and with itself on pairs of
+//! sessions that one station can't tell apart. The last line says how
 //! many passed and failed; the exit status is 0 only if none failed.
 
 use compare::arguments::{Arguments, USAGE};

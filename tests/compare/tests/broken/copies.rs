@@ -99,10 +99,32 @@ pub fn failures(desk: &Path) -> (usize, usize) {
     (on_cases.1, on_seeds.1)
 }
 
-pub fn is_found(name: &str) {
-    let (on_cases, on_seeds) = failures(&build(name, true));
+/// Builds a copy that has to be found by the cases and by the sessions.
+pub fn is_found(name: &str) -> PathBuf {
+    let desk = build(name, true);
+    let (on_cases, on_seeds) = failures(&desk);
     assert!(on_cases > 0, "{name} is not found by the cases");
     assert!(on_seeds > 0, "{name} is not found by the sessions");
+    desk
+}
+
+/// The pairs of sessions in which a station can tell the sides apart.
+fn leaking_pairs(desk: &Path) -> usize {
+    let arguments = ["--details", "0", "--pairs", "0..40"];
+    counts(&compare(&arguments, &[desk.to_str().unwrap()])).1
+}
+
+/// The same of a copy that lets a station see what it may not read.
+pub fn leaks(name: &str) {
+    let leaking = leaking_pairs(&is_found(name));
+    assert!(leaking > 0, "{name} is not found by the pairs");
+}
+
+/// The same of a copy that is wrong and yet keeps what a station may not read to
+/// itself: the pairs have to pass.
+pub fn keeps_quiet(name: &str) {
+    let leaking = leaking_pairs(&is_found(name));
+    assert_eq!(leaking, 0, "{name} is found by the pairs");
 }
 
 /// A directory with this one case in it, and nothing else.
