@@ -6,7 +6,7 @@ use crate::values::{Desk, Done, Job, Written};
 
 /// Each call answers for every value: a refusal is an answer too.
 pub trait Calls {
-    /// A desk with empty slots, station 0 named and all counts 0.
+    /// A desk with empty slots, station 0 named, all counts 0 and all rights 2.
     fn fresh(&self) -> Desk;
 
     /// The size of a desk in bytes.

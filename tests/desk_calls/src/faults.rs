@@ -5,8 +5,9 @@ use library::misread::{Step, STEPS};
 
 use crate::calls::Calls;
 use crate::checks::{
-    buffers, bytes, damage, jobs, lines, paper, refusals, sessions, stations, tables,
+    buffers, bytes, damage, jobs, lines, paper, refusals, rights, sessions, stations, tables,
 };
+use crate::misgiven::{Giving, GIVINGS};
 use crate::mislisted::{Listing, LISTINGS};
 use crate::misnamed::{Naming, NAMINGS};
 use crate::misread::{Text, TEXTS};
@@ -242,6 +243,36 @@ pub fn misnamings() -> Vec<(Naming, [Check; 2])> {
             _ => [paper::stations::naming, stations::of_every_number],
         };
         (naming, checks)
+    });
+    checks.into()
+}
+
+/// Each mistake about rights (E6), and the checks that have to see it: one by the
+/// words of E6 alone, and one beside the second implementation.
+pub fn misgivings() -> Vec<(Giving, [Check; 2])> {
+    let checks = GIVINGS.map(|giving| {
+        let checks: [Check; 2] = match giving {
+            Giving::Counted | Giving::RightAsValue | Giving::JobRefused => {
+                [paper::rights::giving, rights::beside_lines]
+            }
+            Giving::OnAllSlots | Giving::ToAllStations | Giving::BitsTogether => {
+                [paper::rights::giving, rights::of_every_number]
+            }
+            Giving::SlotsTurned => [paper::rights::needed, rights::of_every_record],
+            Giving::GivenByShortBuffer => [paper::rights::refused_gifts, buffers::of_every_length],
+            Giving::Forgotten => [paper::rights::needed, rights::in_chains],
+            Giving::NotLookedAt | Giving::OfTheNext | Giving::OneIsEnough => {
+                [paper::rights::needed, rights::of_every_record]
+            }
+            Giving::EndTested => [paper::rights::shown, rights::of_every_record],
+            Giving::ThreeUnseen
+            | Giving::LastSlotUnseen
+            | Giving::LastStationUnseen
+            | Giving::OthersUnseen
+            | Giving::MendedByNoDesk => [paper::rights::damage, rights::damaged],
+            _ => [paper::rights::refused_gifts, rights::of_every_number],
+        };
+        (giving, checks)
     });
     checks.into()
 }

@@ -2,8 +2,8 @@
 //! `bindings` are the C interface, `second` answers the same calls by the
 //! reference, `broken` answers them wrongly with one of `faults`, of which those
 //! of digits are in `misread`, those of listings in `mislisted` and those of splits
-//! in `missplit`, `misnamed` does so with stations, `random` makes desks, and `checks`
-//! compares any offer of the calls with the second implementation. `tests/` runs the
+//! in `missplit`, `misnamed` does so with stations and `misgiven` with rights, `random`
+//! makes desks, and `checks` compares any offer of the calls with the second implementation. `tests/` runs the
 //! checks on the proved desk, and shows that they tell every broken offer from a sound
 //! one.
 
@@ -12,6 +12,7 @@ pub mod broken;
 pub mod calls;
 pub mod checks;
 pub mod faults;
+pub mod misgiven;
 pub mod mislisted;
 pub mod misnamed;
 pub mod misread;

@@ -124,7 +124,9 @@ impl Misnamed {
     /// The desk as the faulty test of desks sees it.
     fn seen(&self, desk: &Desk) -> Desk {
         let mut seen = *desk;
-        let Control { station, changes } = &mut seen.control;
+        let Control {
+            station, changes, ..
+        } = &mut seen.control;
         let named = *station as usize;
         for (counted, count) in changes.iter_mut().enumerate() {
             let unseen = self.is(Naming::OthersUnseen) && counted != named
@@ -218,6 +220,7 @@ impl Misnamed {
 /// added to what they had, and the station stays where another was put in its place.
 fn merged(before: Control, met: Control, after: Control) -> Control {
     let mut merged = before;
+    merged.rights = after.rights;
     if met.station == before.station {
         merged.station = after.station;
     }

@@ -7,10 +7,12 @@ use std::cell::RefCell;
 use std::collections::BTreeMap;
 
 use library::packed;
-use reference::{OpenPlan, Record, Refusal, Side, Stations, COUNT_LIMIT, LINE_BYTES};
+use reference::{OpenPlan, Record, Refusal, Right, Rights, Side, Stations};
+use reference::{COUNT_LIMIT, LINE_BYTES};
 
 use crate::calls::Calls;
-use crate::values::{Control, Desk, Done, Job, Written, OPEN, SLOTS, STATIONS};
+use crate::values::{places_of_rights, Control, Desk, Done, Job, Written};
+use crate::values::{OPEN, SLOTS, STATIONS};
 
 /// "The lent buffer is shorter than the output."
 const SHORT_BUFFER: u8 = 14;
@@ -117,14 +119,27 @@ impl Second {
 }
 
 /// The stations of a value; none if the named one is no station, or any of them has
-/// more changes than it may.
+/// more changes than it may, or a right that there isn't.
 fn stations(desk: &Desk) -> Option<Stations> {
-    let Control { station, changes } = desk.control;
+    let Control {
+        station, changes, ..
+    } = desk.control;
     let counts = changes.map(u64::from);
     let within = counts.iter().all(|count| *count <= COUNT_LIMIT);
     let named = u8::try_from(station).ok()?;
     let sound = within && usize::from(named) < STATIONS;
-    sound.then(|| Stations::new(named, counts))
+    let rights = rights(&desk.control)?;
+    sound.then(|| Stations::new(named, counts).with_rights(rights))
+}
+
+/// The rights of a value; none if one of them is 3.
+fn rights(control: &Control) -> Option<Rights> {
+    let mut rights = Rights::default();
+    for (station, slot) in places_of_rights() {
+        let right = Right::numbered(control.right(station, slot))?;
+        rights.give(station as u8, letter(slot), right);
+    }
+    Some(rights)
 }
 
 /// The open plan of a value, or none; nothing at all if the value is no desk
@@ -143,10 +158,12 @@ fn open_plan(desk: &Desk) -> Option<Option<OpenPlan>> {
 fn pack(held: &reference::Desk) -> Desk {
     let mut desk = Desk::FRESH;
     let (named, counts) = (held.stations().named(), held.stations().counts());
-    desk.control = Control {
-        station: named.into(),
-        changes: counts.map(|count| count.try_into().expect("a count has a limit")),
-    };
+    desk.control.station = named.into();
+    desk.control.changes = counts.map(|count| count.try_into().expect("a count has a limit"));
+    for (station, slot) in places_of_rights() {
+        let right = held.stations().rights().of(station as u8, letter(slot));
+        desk.control.put_right(station, slot, right.number());
+    }
     for slot in 0..SLOTS {
         if let Some(plan) = held.plan(letter(slot)) {
             desk.put(slot, &packed::plan_value(plan));
@@ -165,7 +182,8 @@ pub fn letter(slot: usize) -> u8 {
 }
 
 /// The record of a job; none for a letter that has text or a listing, or that
-/// no record has, and none for X with more splits than these.
+/// no record has, none for X with more splits than these, and none for G with a
+/// right above 2.
 fn record(most_splits: u8, job: Job) -> Option<Record<'static>> {
     let Job { a, b, c, .. } = job;
     let record = match job.letter {
@@ -203,6 +221,11 @@ fn record(most_splits: u8, job: Job) -> Option<Record<'static>> {
         },
         b'T' => Record::Count,
         b'Z' => Record::Station { station: a },
+        b'G' => Record::Grant {
+            station: a,
+            slot: b,
+            right: Right::numbered(c)?,
+        },
         _ => return None,
     };
     Some(record)
@@ -237,6 +260,8 @@ mod tests {
         assert_eq!(desk, Desk::FRESH);
         let mut out = [0; 100];
         for line in [
+            "G\t6\tA\t0",
+            "G\t7\tH\t1",
             "Z\t6",
             "P\tC\t2\t1",
             "M\t12\t11",
@@ -250,6 +275,7 @@ mod tests {
         }
         assert_eq!((desk.opened, desk.control.station), (b'A', 5));
         assert_eq!(desk.control.changes, [0, 0, 0, 0, 0, 0, 1, 0]);
+        assert_eq!(desk.control.rights[5..], [0xAAA8, 0x6AAA]);
         assert_eq!(desk.columns[512..514], [0x11, 0x12]);
         assert_eq!(desk.columns[640..642], [0x12, 0x11]);
         assert_eq!((desk.columns[2048], desk.columns[2176]), (0x13, 0x2));

@@ -12,7 +12,7 @@ pub const SLOTS: usize = 8;
 pub const OPEN: usize = SLOTS;
 pub const BLOCKS: usize = SLOTS + 1;
 
-/// The stations, each with a count.
+/// The stations, each with a count and, but for station 0, with rights.
 pub const STATIONS: usize = 8;
 
 /// Two columns of words for each block.
@@ -27,12 +27,41 @@ pub struct Block {
     pub pairs: usize,
 }
 
-/// The named station, and the changes of each.
+/// The named station, the changes of each, and the rights of stations 1 to 7, which
+/// have two bits for each slot. How they are laid out is known here alone.
 #[repr(C)]
-#[derive(Clone, Copy, Debug, Default, PartialEq, Eq)]
+#[derive(Clone, Copy, Debug, PartialEq, Eq)]
 pub struct Control {
     pub station: u32,
     pub changes: [u32; STATIONS],
+    pub rights: [u16; STATIONS - 1],
+}
+
+impl Control {
+    /// The right 2 on every slot.
+    pub const ALL_RIGHTS: [u16; STATIONS - 1] = [0xAAAA; STATIONS - 1];
+
+    pub const FRESH: Control = Control {
+        station: 0,
+        changes: [0; STATIONS],
+        rights: Control::ALL_RIGHTS,
+    };
+
+    /// The number in the place of the right of a station from 1 on, 3 too.
+    pub fn right(&self, station: usize, slot: usize) -> u8 {
+        (self.rights[station - 1] >> (2 * slot) & 3) as u8
+    }
+
+    /// Puts a number up to 3 into that place.
+    pub fn put_right(&mut self, station: usize, slot: usize, right: u8) {
+        let word = &mut self.rights[station - 1];
+        *word = *word & !(3 << (2 * slot)) | u16::from(right & 3) << (2 * slot);
+    }
+}
+
+/// Every place of a right, by station and slot.
+pub fn places_of_rights() -> impl Iterator<Item = (usize, usize)> {
+    (1..STATIONS).flat_map(|station| (0..SLOTS).map(move |slot| (station, slot)))
 }
 
 /// What is handed to the calls as a desk. Any bytes may stand in it; which
@@ -47,7 +76,8 @@ pub struct Desk {
 }
 
 impl Desk {
-    /// "A fresh desk has empty slots and count 0", and station 0 is named.
+    /// "A fresh desk has empty slots and count 0", station 0 is named and everyone has
+    /// all rights.
     pub const FRESH: Desk = Desk {
         blocks: [Block {
             arity: 0,
@@ -55,10 +85,7 @@ impl Desk {
             pairs: 0,
         }; BLOCKS],
         opened: 0,
-        control: Control {
-            station: 0,
-            changes: [0; STATIONS],
-        },
+        control: Control::FRESH,
         columns: [0; WORDS],
     };
 
@@ -124,8 +151,15 @@ impl Desk {
 /// The head, and the blocks that aren't all zeros.
 impl fmt::Debug for Desk {
     fn fmt(&self, f: &mut fmt::Formatter) -> fmt::Result {
-        let Control { station, changes } = self.control;
+        let Control {
+            station,
+            changes,
+            rights,
+        } = self.control;
         write!(f, "open {}, station {station} of {changes:?}", self.opened)?;
+        if rights != Control::ALL_RIGHTS {
+            write!(f, ", rights {rights:04x?}")?;
+        }
         for block in (0..BLOCKS).filter(|block| !self.is_empty(*block)) {
             write!(f, "\n  block {block}: {:?}", self.value(block))?;
         }
@@ -204,7 +238,7 @@ impl Done {
 
 #[cfg(test)]
 mod tests {
-    use super::{Control, Desk, Job};
+    use super::{places_of_rights, Control, Desk, Job};
     use std::mem::{offset_of, size_of};
 
     /// The members of a job stand where include/desk.h has them.
@@ -232,9 +266,28 @@ mod tests {
             offset_of!(Desk, control),
             offset_of!(Desk, columns),
         ];
-        assert_eq!(offsets, [0, 144, 148, 184]);
-        assert_eq!(size_of::<Desk>(), 18_616);
+        assert_eq!(offsets, [0, 144, 148, 200]);
+        assert_eq!(size_of::<Desk>(), 18_632);
         assert_eq!(offset_of!(Control, changes), 4);
-        assert_eq!(size_of::<Control>(), 36);
+        assert_eq!(offset_of!(Control, rights), 36);
+        assert_eq!(size_of::<Control>(), 52);
+    }
+
+    /// The right of station s on slot 'A' + i is `rights[s - 1] >> 2 * i & 3`.
+    #[test]
+    fn the_places_of_rights() {
+        let mut control = Control::FRESH;
+        assert!(places_of_rights().all(|(station, slot)| control.right(station, slot) == 2));
+        control.put_right(1, 0, 0);
+        control.put_right(1, 7, 1);
+        control.put_right(7, 1, 3);
+        assert_eq!(
+            control.rights,
+            [0x6AA8, 0xAAAA, 0xAAAA, 0xAAAA, 0xAAAA, 0xAAAA, 0xAAAE]
+        );
+        assert_eq!(
+            [(1, 0), (1, 7), (7, 1)].map(|(s, i)| control.right(s, i)),
+            [0, 1, 3]
+        );
     }
 }

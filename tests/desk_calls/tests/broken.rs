@@ -5,7 +5,8 @@ use std::panic::{catch_unwind, AssertUnwindSafe};
 
 use desk_calls::broken::Broken;
 use desk_calls::checks::ALL;
-use desk_calls::faults::{mislistings, misnamings, misreadings, missplits, FAULTS};
+use desk_calls::faults::{misgivings, mislistings, misnamings, misreadings, missplits, FAULTS};
+use desk_calls::misgiven::Misgiven;
 use desk_calls::misnamed::Misnamed;
 use desk_calls::{Calls, Second};
 
@@ -19,7 +20,11 @@ fn failure(check: fn(&dyn Calls), calls: &dyn Calls) -> Option<String> {
 #[test]
 fn sound_copies_pass() {
     for (name, check) in ALL {
-        let sound: [&dyn Calls; 2] = [&Second::default(), &Misnamed::new(None)];
+        let sound: [&dyn Calls; 3] = [
+            &Second::default(),
+            &Misnamed::new(None),
+            &Misgiven::new(None),
+        ];
         for copy in sound {
             assert_eq!(failure(check, copy), None, "{name}");
         }
@@ -51,6 +56,16 @@ fn mistakes_about_stations_are_caught() {
         for check in checks {
             let misnamed = Misnamed::new(Some(naming));
             assert_caught(&format!("{naming:?}"), check, &misnamed);
+        }
+    }
+}
+
+#[test]
+fn mistakes_about_rights_are_caught() {
+    for (giving, checks) in misgivings() {
+        for check in checks {
+            let misgiven = Misgiven::new(Some(giving));
+            assert_caught(&format!("{giving:?}"), check, &misgiven);
         }
     }
 }

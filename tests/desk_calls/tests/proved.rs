@@ -2,7 +2,7 @@
 //! implementation.
 
 use desk_calls::checks::{
-    buffers, bytes, damage, jobs, lines, paper, refusals, sessions, stations, tables,
+    buffers, bytes, damage, jobs, lines, paper, refusals, rights, sessions, stations, tables,
 };
 use desk_calls::Library;
 
@@ -154,6 +154,56 @@ fn stations_at_their_limits() {
 #[test]
 fn stations_with_every_damage() {
     stations::damaged(&Library);
+}
+
+#[test]
+fn rights_given_as_in_the_paper() {
+    paper::rights::giving(&Library);
+}
+
+#[test]
+fn gifts_refused_as_in_the_paper() {
+    paper::rights::refused_gifts(&Library);
+}
+
+#[test]
+fn rights_needed_as_in_the_paper() {
+    paper::rights::needed(&Library);
+}
+
+#[test]
+fn slots_shown_as_in_the_paper() {
+    paper::rights::shown(&Library);
+}
+
+#[test]
+fn rights_that_are_none() {
+    paper::rights::damage(&Library);
+}
+
+#[test]
+fn rights_of_every_number() {
+    rights::of_every_number(&Library);
+}
+
+#[test]
+fn rights_in_lines_and_in_jobs() {
+    rights::beside_lines(&Library);
+}
+
+#[test]
+fn rights_of_every_record() {
+    rights::of_every_record(&Library);
+}
+
+#[test]
+fn rights_in_chains() {
+    rights::in_chains(&Library);
+}
+
+#[test]
+fn rights_with_every_damage() {
+    rights::damaged(&Library);
 }
 
 #[test]

@@ -10,7 +10,7 @@ use crate::second::Second;
 use crate::values::Desk;
 
 /// Records on the prepared desk.
-const LINES: [&[u8]; 21] = [
+const LINES: [&[u8]; 22] = [
     b"F\tA\tB\tC",
     b"I\tE\tF",
     b"K\tA\t14\tA",
@@ -32,6 +32,7 @@ const LINES: [&[u8]; 21] = [
     b"X\tF\t9\t8\t15\t1",
     b"Z\t7",
     b"Z\t8",
+    b"G\t1\tA\t0",
 ];
 
 pub fn of_every_length(calls: &dyn Calls) {
@@ -42,7 +43,8 @@ pub fn of_every_length(calls: &dyn Calls) {
     let lines = LINES.into_iter().chain([&deep_image[..]]);
     let of_closed = lines.map(|line| (prepared(), line));
     let of_open = on_open.iter().map(|line| (open, *line));
-    let of_fresh = [(Desk::FRESH, &b"U"[..]), (Desk::FRESH, b"T")];
+    let of_fresh: [&[u8]; 4] = [b"U", b"T", b"G\t1\tA\t0", b"G\t7\tH\t1"];
+    let of_fresh = of_fresh.map(|line| (Desk::FRESH, line));
     for (desk, line) in of_closed.chain(of_open).chain(of_fresh) {
         both.start(&desk);
         let length = both.line(line).length;

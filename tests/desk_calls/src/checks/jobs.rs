@@ -189,11 +189,15 @@ pub fn of_every_splits(calls: &dyn Calls) {
 
 /// The letters that have no splits, so that any number does.
 fn splits_of_others(both: &mut SideBySide, desk: &Desk, splits: u8) {
-    for letter in *b"PEFIKSCTZ" {
-        let [b, c] = if letter == b'P' { [2, 1] } else { *b"BG" };
+    for letter in *b"PEFIKSCTZG" {
+        let [b, c] = match letter {
+            b'P' => [2, 1],
+            b'G' => [b'B', 1],
+            _ => *b"BG",
+        };
         let job = Job {
             letter,
-            a: if letter == b'Z' { 3 } else { b'A' },
+            a: if b"ZG".contains(&letter) { 3 } else { b'A' },
             b,
             c,
             k: 2,

@@ -109,11 +109,13 @@ fn filled(start: &[u8], byte: u8, length: usize) -> Vec<u8> {
     line
 }
 
-/// Each byte in each place of a slot and in that of a station, on a desk with all
-/// slots and none open.
+/// Each byte in each place of a slot and in those of a station and of a right, on a
+/// desk with all slots and none open.
 pub fn for_every_slot(calls: &dyn Calls) {
     let mut both = SideBySide::new(calls, &Desk::FRESH);
     let desk = prepared();
+    let mut of_station_0 = desk;
+    of_station_0.control.station = 0;
     for byte in 0..=255 {
         let lines: [&[u8]; 15] = [
             &[b'C', 9, byte],
@@ -136,11 +138,22 @@ pub fn for_every_slot(calls: &dyn Calls) {
             both.start(&desk);
             both.line(line);
         }
+        let gifts: [&[u8]; 3] = [
+            &[b'G', 9, byte, 9, b'A', 9, b'0'],
+            &[b'G', 9, b'1', 9, byte, 9, b'0'],
+            &[b'G', 9, b'1', 9, b'A', 9, byte],
+        ];
+        for line in gifts {
+            both.start(&desk);
+            both.line(line);
+            both.start(&of_station_0);
+            both.line(line);
+        }
         both.start(&desk);
         both.line(&[b'P', 9, byte, 9, b'2', 9, b'1']);
         both.line(b"M\t1\t1");
         both.line(b"E");
     }
     both.tally.demand(2, &["0", "8", "9", "10", "1", "2", "18"]);
-    both.tally.demand(8, &["Z 0"]);
+    both.tally.demand(8, &["Z 0", "G 0", "G 1", "G 8", "G 19"]);
 }

@@ -9,6 +9,7 @@ pub mod jobs;
 pub mod lines;
 pub mod paper;
 pub mod refusals;
+pub mod rights;
 pub mod sessions;
 pub mod side_by_side;
 pub mod stations;
@@ -20,7 +21,7 @@ use crate::calls::Calls;
 pub type Check = (&'static str, fn(&dyn Calls));
 
 /// Every check, those that take long behind the others.
-pub const ALL: [Check; 37] = [
+pub const ALL: [Check; 47] = [
     ("paper::session", paper::session),
     ("paper::session_in_jobs", paper::session_in_jobs),
     ("paper::block_without_room", paper::block_without_room),
@@ -31,6 +32,11 @@ pub const ALL: [Check; 37] = [
     ("paper::stations::naming", paper::stations::naming),
     ("paper::stations::limits", paper::stations::limits),
     ("paper::stations::damage", paper::stations::damage),
+    ("paper::rights::giving", paper::rights::giving),
+    ("paper::rights::refused_gifts", paper::rights::refused_gifts),
+    ("paper::rights::needed", paper::rights::needed),
+    ("paper::rights::shown", paper::rights::shown),
+    ("paper::rights::damage", paper::rights::damage),
     ("paper::refusals_of_calls", paper::refusals_of_calls),
     ("lines::of_any_bytes", lines::of_any_bytes),
     ("lines::at_the_limit", lines::at_the_limit),
@@ -46,6 +52,11 @@ pub const ALL: [Check; 37] = [
     ("stations::beside_lines", stations::beside_lines),
     ("stations::at_their_limits", stations::at_their_limits),
     ("stations::damaged", stations::damaged),
+    ("rights::of_every_number", rights::of_every_number),
+    ("rights::beside_lines", rights::beside_lines),
+    ("rights::of_every_record", rights::of_every_record),
+    ("rights::in_chains", rights::in_chains),
+    ("rights::damaged", rights::damaged),
     ("buffers::of_every_length", buffers::of_every_length),
     ("buffers::of_every_line", buffers::of_every_line),
     ("refusals::one_after_another", refusals::one_after_another),

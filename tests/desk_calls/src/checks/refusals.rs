@@ -1,5 +1,5 @@
 //! Each refusal, and then what the desk does after it: an open plan is gone, and
-//! the slots, the station and the counts are as they were.
+//! the slots, the station, the counts and the rights are as they were.
 
 use reference::COUNT_LIMIT;
 
@@ -9,7 +9,7 @@ use crate::random::desks::{prepared, with_psi_open};
 use crate::values::{Desk, Job};
 
 /// Refused on the prepared desk, or with a plan open there.
-const LINES: [&[u8]; 46] = [
+const LINES: [&[u8]; 52] = [
     b"",
     b"Y",
     b"X",
@@ -56,6 +56,12 @@ const LINES: [&[u8]; 46] = [
     b"Z\t8",
     b"Z\t9",
     b"Z\t10",
+    b"G",
+    b"G\t1\tA\t0",
+    b"G\t1\tA\t3",
+    b"G\t0\tA\t2",
+    b"G\t8\tI\t0",
+    b"G\t1\tI\t0",
 ];
 
 pub fn one_after_another(calls: &dyn Calls) {
@@ -86,6 +92,7 @@ pub fn one_after_another(calls: &dyn Calls) {
         &[
             "0", "1", "2", "3", "4", "5", "6F", "7F", "8", "9", "10", "11", "12", "16", "17",
             "X 1", "X 2", "X 3", "X 4", "X 5", "X 8", "X 16", "X 17", "18", "Z 1", "Z 2", "Z 18",
+            "G 1", "G 2", "G 8", "G 18", "G 19",
         ],
     );
 }

@@ -132,9 +132,10 @@ impl<'a> SideBySide<'a> {
         answer
     }
 
-    /// Counts an answer to X or Z by itself: most of its numbers others have too.
+    /// Counts an answer to X, Z or G by itself: most of its numbers others have too.
     fn count_own(&mut self, record: &[u8], number: u8) {
-        if let [letter @ (b'X' | b'Z')] | [letter @ (b'X' | b'Z'), b'\t', ..] = record {
+        let (letter, rest) = record.split_first().unwrap_or((&0, &[]));
+        if b"XZG".contains(letter) && matches!(rest, [] | [b'\t', ..]) {
             let letter = char::from(*letter);
             self.tally.count(format!("{letter} {number}"));
         }
@@ -187,6 +188,7 @@ fn placed(desk: &Desk, padding: u8) -> Box<Desk> {
         placed.opened = desk.opened;
         placed.control.station = desk.control.station;
         placed.control.changes = desk.control.changes;
+        placed.control.rights = desk.control.rights;
         placed.columns = desk.columns;
         Box::from_raw(Box::into_raw(place).cast())
     }

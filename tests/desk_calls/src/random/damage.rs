@@ -181,8 +181,29 @@ pub const OF_STATIONS: [Named; 3] = [
     }),
 ];
 
+/// What is done to the rights: 3 is none.
+pub const OF_RIGHTS: [Named; 4] = [
+    ("a right of 3", |rng, desk| {
+        let station = rng.between(1, STATIONS - 1);
+        let slot = rng.below(SLOTS);
+        desk.control.put_right(station, slot, 3);
+    }),
+    ("a right of 3 on the last slot", |rng, desk| {
+        let station = rng.between(1, STATIONS - 1);
+        desk.control.put_right(station, SLOTS - 1, 3);
+    }),
+    ("a right of 3 of the last station", |rng, desk| {
+        let slot = rng.below(SLOTS);
+        desk.control.put_right(STATIONS - 1, slot, 3);
+    }),
+    ("rights of 3 of one station", |rng, desk| {
+        let station = rng.between(1, STATIONS - 1);
+        (0..SLOTS).for_each(|slot| desk.control.put_right(station, slot, 3));
+    }),
+];
+
 pub fn all() -> Vec<Named> {
-    [&OF_HELD[..], &OF_EMPTY, &OF_OPEN, &OF_STATIONS].concat()
+    [&OF_HELD[..], &OF_EMPTY, &OF_OPEN, &OF_STATIONS, &OF_RIGHTS].concat()
 }
 
 /// The desk with this damage, done where the desk has room for it.

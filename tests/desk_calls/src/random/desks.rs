@@ -1,5 +1,6 @@
 //! Sound desks: one with plans that bring up every refusal, and random ones with
-//! held and empty slots, any station and any counts, with and without an open plan.
+//! held and empty slots, any station, any counts and any rights, with and without an
+//! open plan.
 //! The pairs of an open plan may be anything that M takes.
 
 use library::packed::{plan_value, value, Row};
@@ -9,7 +10,7 @@ use reference::{Shape, COUNT_LIMIT};
 
 use super::Rng;
 use crate::second::letter;
-use crate::values::{Control, Desk, OPEN, SLOTS, STATIONS};
+use crate::values::{places_of_rights, Control, Desk, OPEN, SLOTS, STATIONS};
 
 /// ψ in A, φ in B, an exchange of two belts in C (shape 3, 2), the fourteenth
 /// power of ψ in D, which has words of 16 digits, and 128 pairs in E; the other
@@ -30,6 +31,7 @@ pub fn prepared() -> Desk {
     desk.control = Control {
         station: 2,
         changes: [COUNT_LIMIT as u32, 1, 5, 0, 7, 8, 9, COUNT_LIMIT as u32 - 1],
+        ..Control::FRESH
     };
     desk
 }
@@ -59,7 +61,11 @@ pub fn some_desk(rng: &mut Rng) -> Desk {
     desk.control = Control {
         station: rng.below(STATIONS) as u32,
         changes: [(); STATIONS].map(|()| some_count(rng)),
+        ..Control::FRESH
     };
+    if rng.chance(50) {
+        restrict(rng, &mut desk);
+    }
     // A plan that grows, whose pairs can be split, reordered and cut short.
     desk.put(slots[0], &value(shape, &families::shift(shape)));
     for slot in &slots[1..] {
@@ -101,6 +107,16 @@ fn some_count(rng: &mut Rng) -> u32 {
         2 => 0,
         3 => rng.number() as u32 % (limit + 1),
         _ => rng.below(1000) as u32,
+    }
+}
+
+/// Takes rights from the stations, more or less.
+pub fn restrict(rng: &mut Rng, desk: &mut Desk) {
+    let strict = *rng.pick(&[5, 20, 60]);
+    for (station, slot) in places_of_rights() {
+        if rng.chance(strict) {
+            desk.control.put_right(station, slot, rng.below(3) as u8);
+        }
     }
 }
 

@@ -50,7 +50,7 @@ pub const SEEDS: [u64; 16] = [
 /// A job of a letter that has jobs, its slots mostly slots and its station mostly
 /// one or nearly.
 pub fn some_job(rng: &mut Rng) -> Job {
-    let letter = *rng.pick(b"PEEFFFIKKSSCTTXXZZ");
+    let letter = *rng.pick(b"PEEFFFIKKSSCTTXXZZGG");
     let mut job = Job {
         letter,
         a: some_slot(rng),
@@ -64,8 +64,11 @@ pub fn some_job(rng: &mut Rng) -> Job {
         job.b = rng.between(1, 10) as u8;
         job.c = rng.between(0, 10) as u8;
     }
-    if letter == b'Z' && rng.chance(90) {
+    if matches!(letter, b'Z' | b'G') && rng.chance(90) {
         job.a = rng.between(0, 9) as u8;
+    }
+    if letter == b'G' && rng.chance(90) {
+        job.c = rng.between(0, 3) as u8;
     }
     job
 }

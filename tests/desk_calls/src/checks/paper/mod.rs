@@ -1,9 +1,10 @@
 //! The session of document 01 in full, with the replies that it and E1 give, in
 //! lines and as far as that goes in jobs; the slots of U in the order of E2; two
 //! plans of X (E3) that were worked by hand, in tests/cases/README.md; what only calls
-//! refuse, in so many words; and in `stations` those of E5. Nothing here asks the second
-//! implementation.
+//! refuse, in so many words; in `stations` those of E5 and in `rights` those of E6.
+//! Nothing here asks the second implementation.
 
+pub mod rights;
 pub mod stations;
 
 use crate::calls::Calls;
@@ -30,7 +31,7 @@ fn reply(calls: &dyn Calls, desk: &mut Desk, line: &str, reply: &str) {
 
 pub fn session(calls: &dyn Calls) {
     assert_eq!(calls.size(), std::mem::size_of::<Desk>());
-    assert_eq!(calls.size(), 18_616);
+    assert_eq!(calls.size(), 18_632);
     let mut desk = calls.fresh();
     assert_eq!(desk, Desk::FRESH);
     for line in PLAN {

@@ -55,6 +55,7 @@ fn used(calls: &dyn Calls) -> Desk {
     let control = Control {
         station: 5,
         changes: [1, 0, 0, 0, 0, 2, 0, 1],
+        ..Control::FRESH
     };
     assert_eq!(desk.control, control);
     desk
