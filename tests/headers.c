@@ -193,7 +193,8 @@ static bool same_desks(const struct desk *a, const struct desk *b)
             return false;
     }
     return a->opened == b->opened && a->control.station == b->control.station
-        && !memcmp(a->control.changes, b->control.changes, sizeof a->control.changes) && !memcmp(a->columns, b->columns, sizeof a->columns);
+        && !memcmp(a->control.changes, b->control.changes, sizeof a->control.changes)
+        && !memcmp(a->control.rights, b->control.rights, sizeof a->control.rights) && !memcmp(a->columns, b->columns, sizeof a->columns);
 }
 
 /* Whether a copy of the first desk refuses the job with this number and is the second one then. */
@@ -324,6 +325,104 @@ static void check_stations(void)
     check("desk_line names no station without room for its reply", written.number == REFUSED_BUFFER && has_counts(&d, 0, counts));
 }
 
+/* The right of a station from 1 on, on slot 'A' + slot, as desk.h has it. */
+static unsigned right_of(const struct desk *d, int station, int slot)
+{
+    return d->control.rights[station - 1] >> 2 * slot & 3;
+}
+
+static void put_right(struct desk *d, int station, int slot, unsigned right)
+{
+    uint16_t *rights = &d->control.rights[station - 1];
+    *rights = (uint16_t)((*rights & ~(3u << 2 * slot)) | right << 2 * slot);
+}
+
+/* Rights by lines and by number, what they keep a station from, and what is no desk. */
+static void check_rights(void)
+{
+    static const char *const session[][2] = {
+        {"X\tA\t2\t1\t2\t1", "ok\t2\n"},
+        {"G\t1\tA\t0", "ok\n"},
+        {"G\t2\tA\t1", "ok\n"},
+        {"G\t7\tH\t0", "ok\n"},
+        {"T", "ok\t1\n"},
+        {"Z\t1", "ok\n"},
+        {"U", "ok\t0\n"},
+        {"Z\t2", "ok\n"},
+        {"U", "A\t2\t1\t2\nok\t1\n"},
+        {"W\tA\t112", "ok\t122\n"},
+    };
+    static const struct {
+        struct desk_job job;
+        uint8_t number;
+    } refused[] = {
+        {{'G', 1, 'A', 3, 0, 0, 0}, REFUSED_FORM},
+        {{'G', 9, '@', 255, 0, 0, 0}, REFUSED_FORM},
+        {{'G', 8, '@', 2, 0, 0, 0}, REFUSED_STATION},
+        {{'G', 0, '@', 2, 0, 0, 0}, REFUSED_SLOT},
+        {{'G', 1, 'A', 2, 0, 0, 0}, REFUSED_GRANT},
+        {{'I', 'A', 'A', 0, 0, 0, 0}, REFUSED_RIGHT},
+        {{'C', 'A', 0, 0, 0, 0, 0}, REFUSED_RIGHT},
+        {{'S', 'A', '@', 0, 0, 0, 0}, REFUSED_SLOT},
+        {{'P', 'A', 0, 0, 0, 0, 0}, REFUSED_RIGHT},
+        {{'X', 'A', 9, 9, 0, 0, 99}, REFUSED_RIGHT},
+    };
+    uint8_t out[DESK_LONGEST_REPLY];
+    char what[64];
+    bool told = true, all = true, given = true, left = true, sound = true;
+    struct desk d = desk_fresh(), other, after;
+    struct desk_job gift = {'G', 0, 'A', 0, 0, 0, 0}, telling = {'T', 0, 0, 0, 0, 0, 0};
+    struct desk_written written;
+    struct desk_done done;
+    size_t i;
+    int station, slot;
+    unsigned right;
+
+    for (station = 1; station < DESK_STATIONS; station++)
+        for (slot = 0; slot < DESK_SLOTS; slot++)
+            all = all && right_of(&d, station, slot) == DESK_READ_WRITE;
+    check("desk_fresh gives everyone all rights", all);
+    for (i = 0; i < sizeof session / sizeof session[0]; i++) {
+        written = say(&d, session[i][0], out, sizeof out);
+        told = told && written.number == 0 && holds_text(out, sizeof out, session[i][1]);
+    }
+    check("desk_line gives rights and goes by them", told && right_of(&d, 1, 0) == DESK_NO_RIGHT && right_of(&d, 2, 0) == DESK_READ
+                                                         && right_of(&d, 7, 7) == DESK_NO_RIGHT && right_of(&d, 7, 0) == DESK_READ_WRITE);
+    for (i = 0; i < sizeof refused / sizeof refused[0]; i++) {
+        snprintf(what, sizeof what, "desk_do refuses for rights with %d", refused[i].number);
+        check(what, refuses(d, refused[i].job, refused[i].number, &d));
+    }
+    other = d;
+    other.control.station = 0;
+    for (station = 1; station < DESK_STATIONS; station++)
+        for (slot = 0; slot < DESK_SLOTS; slot++)
+            for (right = 0; right <= 3; right++) {
+                struct desk changed = other;
+                after = other;
+                put_right(&after, station, slot, right);
+                if (right > DESK_READ_WRITE) {
+                    left = left && !desk_is_desk(after) && refuses(after, telling, REFUSED_VALUE, &after);
+                    left = left && refuses(after, gift, REFUSED_VALUE, &after);
+                    continue;
+                }
+                sound = sound && desk_is_desk(after);
+                gift.a = (uint8_t)station;
+                gift.b = (uint8_t)('A' + slot);
+                gift.c = (uint8_t)right;
+                done = desk_do(&changed, gift);
+                given = given && done.number == 0 && done.value == 0 && same_desks(&changed, &after);
+            }
+    check("desk_do gives each right in its own place", given);
+    check("a right of 0, 1 or 2 in any place makes a desk", sound);
+    check("a right of 3 in any place makes no desk", left);
+    written = say(&other, "G\t1\tA\t2", out, 2);
+    check("desk_line gives no right without room for its reply", written.number == REFUSED_BUFFER && right_of(&other, 1, 0) == 0);
+    written = say(&other, "G\t1\tA\t3", out, sizeof out);
+    check("desk_line refuses a right above 2", written.number == REFUSED_FORM && right_of(&other, 1, 0) == 0);
+    written = say(&other, "G\t0\tA\t2", out, sizeof out);
+    check("desk_line refuses a right for station 0", written.number == REFUSED_GRANT);
+}
+
 static void check_desk(void)
 {
     static const char block[] = "B\t111\t11\nB\t112\t121\nok\t2\n";
@@ -349,7 +448,7 @@ static void check_desk(void)
     static const uint32_t none[DESK_STATIONS] = {0};
     size_t i;
 
-    check("desk_size", desk_size() == sizeof(struct desk) && desk_size() == 18616);
+    check("desk_size", desk_size() == sizeof(struct desk) && desk_size() == 18632);
     check("desk_fresh", d.opened == 0 && d.blocks[0].pairs == 0 && has_counts(&d, 0, none) && desk_is_desk(d));
     for (i = 0; i < sizeof session / sizeof session[0]; i++) {
         written = say(&d, session[i][0], out, sizeof out);
@@ -390,11 +489,14 @@ int main(void)
 {
     check("refusal_reason", !strcmp(refusal_reason(REFUSED_EMPTY), "the slot is empty")
                                 && !strcmp(refusal_reason(REFUSED_STATION), "no such station") && refusal_reason(99) != NULL);
-    check("refusal_reason beyond the last", !strcmp(refusal_reason(REFUSED_STATION + 1), refusal_reason(99)));
+    check("refusal_reason of rights", !strcmp(refusal_reason(REFUSED_GRANT), "station 0 alone gives rights, and only to others")
+                                          && !strcmp(refusal_reason(REFUSED_RIGHT), "the station has no such right on the slot"));
+    check("refusal_reason beyond the last", !strcmp(refusal_reason(REFUSED_RIGHT + 1), refusal_reason(99)));
     check_plans();
     check_desk();
     check_exercises();
     check_splits();
     check_stations();
+    check_rights();
     return failures ? EXIT_FAILURE : EXIT_SUCCESS;
 }

@@ -18,7 +18,7 @@ const BEGINNING: usize = 150;
 
 /// The letters of the records, and D, which the libraries' harnesses take for
 /// damage.
-const LETTERS: &[u8] = b"PMEFIKSWLCTUXZD";
+const LETTERS: &[u8] = b"PMEFIKSWLCTUXZGD";
 
 /// Changes the input that stands at the front of the room, and gives its length.
 pub fn mutate(room: &mut [u8], length: usize, seed: u64) -> usize {
@@ -118,6 +118,7 @@ fn record(rng: &mut Rng) -> Vec<u8> {
             seed(rng),
         ],
         b'Z' => vec![digits(rng, 1)],
+        b'G' => vec![digits(rng, 1), slot(rng), right(rng)],
         b'D' => {
             let place = vec![b'A' + rng.below(9) as u8];
             vec![place, (0..3).map(|_| rng.number() as u8).collect()]
@@ -131,6 +132,11 @@ fn record(rng: &mut Rng) -> Vec<u8> {
     }
     record.push(b'\n');
     record
+}
+
+/// A right, mostly one that there is.
+fn right(rng: &mut Rng) -> Vec<u8> {
+    vec![b'0' + rng.below(if rng.chance(90) { 3 } else { 10 }) as u8]
 }
 
 /// A slot, mostly one of the first, so that records meet.

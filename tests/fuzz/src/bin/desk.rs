@@ -28,7 +28,7 @@ fn tried(input: &[u8]) {
 /// Whether a line is handed over as a job: one in four of those that have one.
 /// Of the others few are, since a job that is refused drops the open plan.
 fn is_job(line: &[u8], chance: usize) -> bool {
-    let has_job = matches!(line, [letter, ..] if b"PEFIKSCTXZ".contains(letter));
+    let has_job = matches!(line, [letter, ..] if b"PEFIKSCTXZG".contains(letter));
     chance % if has_job { 4 } else { 256 } == 0
 }
 
@@ -50,7 +50,7 @@ fn room(rehearsal: &Second, both: &SideBySide, line: &[u8], chance: usize) -> us
 }
 
 /// The job that a line says, whatever it says: its letter, and the first byte of
-/// each field, of the numbers of P, X and Z their value.
+/// each field, of the numbers of P, X, Z and G their value.
 fn job(line: &[u8]) -> Job {
     let fields: Vec<&[u8]> = line.split(|byte| *byte == b'\t').collect();
     let field = |place: usize| fields.get(place).copied().unwrap_or(b"");
@@ -60,6 +60,7 @@ fn job(line: &[u8]) -> Job {
         b'P' | b'X' => (a, digit(b), digit(c), 0),
         b'K' => (a, c, 0, exponent(field(2))),
         b'Z' => (digit(a), b, c, 0),
+        b'G' => (digit(a), b, digit(c), 0),
         _ => (a, b, c, 0),
     };
     let number = |field: &[u8]| -> u64 {
@@ -97,7 +98,7 @@ fn damage(both: &mut SideBySide, letter: u8, edits: &[u8]) {
 fn change(desk: &mut Desk, block: usize, what: u8, place: usize, how: u8) {
     let digit = u64::from(how & 15) << (how >> 4 << 2);
     let head = &mut desk.blocks[block];
-    match what % 11 {
+    match what % 12 {
         0 => head.arity = how,
         1 => head.roots = how,
         2 => head.pairs = usize::from(how),
@@ -108,6 +109,7 @@ fn change(desk: &mut Desk, block: usize, what: u8, place: usize, how: u8) {
         7 => desk.words(block).swap(place, usize::from(how)),
         8 => desk.control.station = u32::from(how % 16),
         9 => desk.control.station ^= 1 << (how % 32),
+        10 => desk.control.put_right(1 + place % 7, usize::from(how >> 2) % 8, how & 3),
         _ => *desk = desk.without_open(),
     }
 }
