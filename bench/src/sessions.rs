@@ -73,6 +73,20 @@ pub fn sessions() -> Vec<Session> {
     all.push(session("Z", 1_000_000, &mut |_| {
         format!("Z\t{}\n", letter(rng, b'0', 8))
     }));
+    all.push(session("G", 1_000_000, &mut |_| {
+        let (station, slot) = (letter(rng, b'1', 7), letter(rng, b'A', 8));
+        format!("G\t{station}\t{slot}\t{}\n", letter(rng, b'0', 3))
+    }));
+    let limited = "G\t1\tE\t1\nG\t1\tF\t0\nG\t2\tA\t0\nZ\t1\n";
+    all.push(session(
+        "W, 12 to 40 digits, of station 1",
+        1_000_000,
+        &mut |place| {
+            let length = rng.between(12, 40);
+            let before = if place == 0 { limited } else { "" };
+            before.to_string() + &route_in(rng, &words, length, 4)
+        },
+    ));
     all
 }
 
@@ -140,9 +154,14 @@ fn front(rng: &mut Rng, words: &[Word]) -> String {
 /// A record that routes a code of this many digits, or of as many as the word
 /// of the basis has that it begins with.
 fn route(rng: &mut Rng, words: &[Word], length: usize) -> String {
+    route_in(rng, words, length, 8)
+}
+
+/// The same in one of the first slots.
+fn route_in(rng: &mut Rng, words: &[Word], length: usize, slots: usize) -> String {
     let mut code = digits(rng.pick(words));
     while code.len() < length {
         code.push(if rng.chance(50) { '1' } else { '2' });
     }
-    format!("W\t{}\t{code}\n", letter(rng, b'A', 8))
+    format!("W\t{}\t{code}\n", letter(rng, b'A', slots))
 }

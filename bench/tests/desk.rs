@@ -1,6 +1,7 @@
 //! The desk on arrays held to the second implementation, on random sessions
 //! without the records that it doesn't know, whole and cut into pieces; and on
-//! the blocks, the plans of X, the counts and the stations that are measured.
+//! the blocks, the plans of X, the counts, the stations and the rights that are
+//! measured.
 
 use bench::arrays::desk::Desk;
 
@@ -61,7 +62,7 @@ fn measured_exercises() {
 #[test]
 fn measured_counts_and_stations() {
     let sessions = bench::sessions::sessions();
-    for (name, last) in [("T", &b"ok\t8\n"[..]), ("Z", b"ok\n")] {
+    for (name, last) in [("T", &b"ok\t8\n"[..]), ("Z", b"ok\n"), ("G", b"ok\n")] {
         let mut measured = sessions.iter().filter(|session| session.name == name);
         let input = measured.next().expect("it is measured").input.as_bytes();
         let (mut expected, mut replies) = (Vec::new(), Vec::new());
@@ -71,6 +72,18 @@ fn measured_counts_and_stations() {
         assert!(replies == expected, "{name}");
         assert!(replies.ends_with(&last.repeat(1_000_000)), "{name}");
     }
+}
+
+#[test]
+fn measured_codes_of_a_limited_station() {
+    let sessions = bench::sessions::sessions();
+    let mut measured = sessions.iter().filter(|s| s.name.ends_with("of station 1"));
+    let input = measured.next().expect("it is measured").input.as_bytes();
+    let (mut expected, mut replies) = (Vec::new(), Vec::new());
+    reference::Desk::new().feed(input, &mut expected);
+    Desk::default().feed(input, &mut replies);
+    assert!(replies == expected);
+    assert!(!replies.windows(3).any(|bytes| bytes == b"no\t"));
 }
 
 /// The lines that don't begin with an unknown letter, each with its byte 10.

@@ -1,5 +1,5 @@
-//! A desk on arrays, for the records that are measured: P, M, E, F, I, K, W, X, T and
-//! Z, from the bytes of a line to those of its reply. What stands in a slot is known
+//! A desk on arrays, for the records that are measured: P, M, E, F, I, K, W, X, T, Z
+//! and G, from the bytes of a line to those of its reply. What stands in a slot is known
 //! to be a plan and isn't checked again. Any other record is refused with 1.
 
 use std::io::Write;
@@ -20,6 +20,8 @@ const TOO_MANY_PAIRS: u8 = 5;
 const EMPTY_SLOT: u8 = 9;
 const COUNT_AT_LIMIT: u8 = 16;
 const NO_STATION: u8 = 18;
+const NO_GIVER: u8 = 19;
+const NO_RIGHT: u8 = 20;
 
 /// The most bytes of a line.
 const LINE_BYTES: usize = 1100;
@@ -27,6 +29,10 @@ const LINE_BYTES: usize = 1100;
 /// The stations, and the most changes of each.
 const STATIONS: usize = 8;
 const MOST_CHANGES: u32 = 4_000_000_000;
+
+/// The rights to read a slot and to write it.
+const READ: u8 = 1;
+const WRITE: u8 = 2;
 
 /// The number of a refusal, with the letter of a column or 0.
 struct Refusal(u8, u8);
@@ -37,14 +43,15 @@ fn no<T>(number: u8) -> Result<T, Refusal> {
     Err(Refusal(number, 0))
 }
 
-/// Eight plans, the pairs of an open one, the counts of the stations with the one that
-/// is named, and the beginning of a line.
+/// Eight plans, the pairs of an open one, the counts and rights of the stations with the
+/// one that is named, and the beginning of a line.
 pub struct Desk {
     slots: [Plan; 8],
     draft: Plan,
     open: Option<usize>,
     station: usize,
     changes: [u32; STATIONS],
+    rights: [[u8; 8]; STATIONS],
     begun: Vec<u8>,
 }
 
@@ -56,6 +63,7 @@ impl Default for Desk {
             open: None,
             station: 0,
             changes: [0; STATIONS],
+            rights: [[WRITE; 8]; STATIONS],
             begun: Vec::new(),
         }
     }
@@ -110,6 +118,9 @@ impl Desk {
             [b"E"] => self.close(out),
             [b"T"] => self.tell(out),
             [b"Z", &[digit @ b'0'..=b'9']] => self.name(digit - b'0', out),
+            [b"G", &[station @ b'0'..=b'9'], &[slot], &[right @ b'0'..=b'2']] => {
+                self.give(station - b'0', slot, right - b'0', out)
+            }
             [b"F", &[a], &[b], &[c]] => self.follow([a, b, c], out),
             [b"I", &[a], &[c]] => self.invert([a, c], out),
             [b"K", &[a], k, &[c]] => self.raise([a, c], numeral(k)?, out),
@@ -122,17 +133,32 @@ impl Desk {
     }
 
     fn tell(&self, out: &mut Vec<u8>) -> Done {
-        self.places([])?;
+        self.in_turn()?;
         writeln!(out, "ok\t{}", self.changes[self.station]).expect("a vector takes all");
         Ok(())
     }
 
     fn name(&mut self, station: u8, out: &mut Vec<u8>) -> Done {
-        self.places([])?;
+        self.in_turn()?;
         if usize::from(station) >= STATIONS {
             return no(NO_STATION);
         }
         self.station = station.into();
+        out.extend_from_slice(b"ok\n");
+        Ok(())
+    }
+
+    fn give(&mut self, station: u8, slot: u8, right: u8, out: &mut Vec<u8>) -> Done {
+        self.in_turn()?;
+        let station = usize::from(station);
+        if station >= STATIONS {
+            return no(NO_STATION);
+        }
+        let slot = place(slot)?;
+        if self.station != 0 || station == 0 {
+            return no(NO_GIVER);
+        }
+        self.rights[station][slot] = right;
         out.extend_from_slice(b"ok\n");
         Ok(())
     }
@@ -144,7 +170,7 @@ impl Desk {
         (splits, seed): (usize, u64),
         out: &mut Vec<u8>,
     ) -> Done {
-        let [slot] = self.places([slot])?;
+        let [slot] = self.places([(slot, WRITE)])?;
         in_range(arity, roots)?;
         match exercise(Shape { arity, roots }, splits, seed) {
             Err(number) => no(number),
@@ -153,7 +179,7 @@ impl Desk {
     }
 
     fn start(&mut self, slot: u8, arity: u8, roots: u8) -> Done {
-        let [slot] = self.places([slot])?;
+        let [slot] = self.places([(slot, WRITE)])?;
         in_range(arity, roots)?;
         self.open = Some(slot);
         self.draft = Plan {
@@ -198,8 +224,8 @@ impl Desk {
         self.keep(slot, plan, out)
     }
 
-    fn follow(&mut self, letters: [u8; 3], out: &mut Vec<u8>) -> Done {
-        let [a, b, c] = self.places(letters)?;
+    fn follow(&mut self, [a, b, c]: [u8; 3], out: &mut Vec<u8>) -> Done {
+        let [a, b, c] = self.places([(a, READ), (b, READ), (c, WRITE)])?;
         let (a, b) = (self.held(a)?, self.held(b)?);
         if shape(a) != shape(b) {
             return no(SHAPES_DIFFER);
@@ -211,14 +237,14 @@ impl Desk {
         }
     }
 
-    fn invert(&mut self, letters: [u8; 2], out: &mut Vec<u8>) -> Done {
-        let [a, c] = self.places(letters)?;
+    fn invert(&mut self, [a, c]: [u8; 2], out: &mut Vec<u8>) -> Done {
+        let [a, c] = self.places([(a, READ), (c, WRITE)])?;
         let plan = inverse(self.held(a)?);
         self.keep(c, plan, out)
     }
 
-    fn raise(&mut self, letters: [u8; 2], k: i32, out: &mut Vec<u8>) -> Done {
-        let [a, c] = self.places(letters)?;
+    fn raise(&mut self, [a, c]: [u8; 2], k: i32, out: &mut Vec<u8>) -> Done {
+        let [a, c] = self.places([(a, READ), (c, WRITE)])?;
         if !(-1000..=1000).contains(&k) {
             return no(WRONG_EXPONENT);
         }
@@ -231,7 +257,7 @@ impl Desk {
     }
 
     fn route(&mut self, letter: u8, code: &[u8], out: &mut Vec<u8>) -> Done {
-        let [a] = self.places([letter])?;
+        let [a] = self.places([(letter, READ)])?;
         let plan = self.held(a)?;
         if !words::is_code(shape(plan), code) {
             return no(WRONG_CODE);
@@ -249,15 +275,28 @@ impl Desk {
         Ok(())
     }
 
-    /// The slots of letters, for a record that comes while no plan is open.
-    fn places<const N: usize>(&self, letters: [u8; N]) -> Result<[usize; N], Refusal> {
+    /// Refusal 2 for a record that comes while a plan is open.
+    fn in_turn(&self) -> Done {
         if self.open.is_some() {
             return no(OUT_OF_TURN);
         }
-        if !letters.iter().all(|letter| (b'A'..=b'H').contains(letter)) {
-            return no(WRONG_SLOT);
+        Ok(())
+    }
+
+    /// The slots of letters on which the named station has these rights, for a record
+    /// that comes while no plan is open.
+    fn places<const N: usize>(&self, letters: [(u8, u8); N]) -> Result<[usize; N], Refusal> {
+        self.in_turn()?;
+        let mut places = [0; N];
+        for (place_of, (letter, _)) in places.iter_mut().zip(letters) {
+            *place_of = place(letter)?;
         }
-        Ok(letters.map(|letter| usize::from(letter - b'A')))
+        let rights = &self.rights[self.station];
+        let mut needs = places.iter().zip(letters);
+        if needs.any(|(slot, (_, right))| rights[*slot] < right) {
+            return no(NO_RIGHT);
+        }
+        Ok(places)
     }
 
     fn held(&self, slot: usize) -> Result<&Plan, Refusal> {
@@ -278,6 +317,14 @@ impl Desk {
         writeln!(out, "ok\t{}", plan.pairs).expect("a vector takes all");
         Ok(())
     }
+}
+
+/// The place of a slot, refusal 8 for a byte that is none.
+fn place(letter: u8) -> Result<usize, Refusal> {
+    if !(b'A'..=b'H').contains(&letter) {
+        return no(WRONG_SLOT);
+    }
+    Ok(usize::from(letter - b'A'))
 }
 
 /// Refusal 3, "n or r outside its range".
