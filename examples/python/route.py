@@ -33,6 +33,8 @@ REASONS = [
     "the count of changes is at its limit",
     "the seed is out of range",
     "no such station",
+    "station 0 alone gives rights, and only to others",
+    "the station has no such right on the slot",
 ]
 
 LONGEST_REPLY = 4618  # DESK_LONGEST_REPLY of include/desk.h
@@ -47,7 +49,7 @@ class Block(ctypes.Structure):
 class Control(ctypes.Structure):
     """struct desk_control"""
 
-    _fields_ = [("station", ctypes.c_uint32), ("changes", ctypes.c_uint32 * 8)]
+    _fields_ = [("station", ctypes.c_uint32), ("changes", ctypes.c_uint32 * 8), ("rights", ctypes.c_uint16 * 7)]
 
 
 class Desk(ctypes.Structure):

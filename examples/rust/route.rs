@@ -11,7 +11,7 @@ use std::process::ExitCode;
 const PLAN: [&str; 5] = ["P\tA\t2\t1", "M\t111\t11", "M\t112\t121", "M\t12\t122", "E"];
 
 /// The reasons of include/refusals.h, by their numbers.
-const REASONS: [&str; 19] = [
+const REASONS: [&str; 21] = [
     "done",
     "not a record",
     "no plan is open, or one is",
@@ -31,6 +31,8 @@ const REASONS: [&str; 19] = [
     "the count of changes is at its limit",
     "the seed is out of range",
     "no such station",
+    "station 0 alone gives rights, and only to others",
+    "the station has no such right on the slot",
 ];
 
 /// `struct desk_block` of include/desk.h. All fields stand here for the layout,
@@ -49,6 +51,7 @@ struct Block {
 struct Control {
     station: u32,
     changes: [u32; 8],
+    rights: [u16; 7],
 }
 
 /// `struct desk`.

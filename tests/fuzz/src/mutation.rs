@@ -136,7 +136,8 @@ fn record(rng: &mut Rng) -> Vec<u8> {
 
 /// A right, mostly one that there is.
 fn right(rng: &mut Rng) -> Vec<u8> {
-    vec![b'0' + rng.below(if rng.chance(90) { 3 } else { 10 }) as u8]
+    let rights = if rng.chance(90) { 3 } else { 10 };
+    vec![b'0' + rng.below(rights) as u8]
 }
 
 /// A slot, mostly one of the first, so that records meet.

@@ -109,7 +109,9 @@ fn change(desk: &mut Desk, block: usize, what: u8, place: usize, how: u8) {
         7 => desk.words(block).swap(place, usize::from(how)),
         8 => desk.control.station = u32::from(how % 16),
         9 => desk.control.station ^= 1 << (how % 32),
-        10 => desk.control.put_right(1 + place % 7, usize::from(how >> 2) % 8, how & 3),
+        10 => desk
+            .control
+            .put_right(1 + place % 7, usize::from(how >> 2) % 8, how & 3),
         _ => *desk = desk.without_open(),
     }
 }
