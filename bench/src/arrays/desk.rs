@@ -8,6 +8,7 @@ use library::{Plan, PLACES};
 
 use super::columns::{verdict, Column};
 use super::exercise::exercise;
+use super::numerals::{number, numeral};
 use super::table::product;
 use super::words::{self, digits, Shape, ROW_BYTES};
 use super::{extending, inverse, kept, matching, power};
@@ -123,9 +124,9 @@ impl Desk {
             }
             [b"F", &[a], &[b], &[c]] => self.follow([a, b, c], out),
             [b"I", &[a], &[c]] => self.invert([a, c], out),
-            [b"K", &[a], k, &[c]] => self.raise([a, c], numeral(k)?, out),
+            [b"K", &[a], k, &[c]] => self.raise([a, c], form(numeral(k))?, out),
             [b"X", &[slot], &[n @ b'0'..=b'9'], &[r @ b'0'..=b'9'], s, seed] => {
-                let numbers = (number(s, 2)? as usize, number(seed, 10)?);
+                let numbers = (form(number(s, 2))? as usize, form(number(seed, 10))?);
                 self.exercise(slot, [n - b'0', r - b'0'], numbers, out)
             }
             _ => no(NO_RECORD),
@@ -319,6 +320,11 @@ impl Desk {
     }
 }
 
+/// What a field says, refusal 1 where it has a wrong form.
+fn form<T>(field: Option<T>) -> Result<T, Refusal> {
+    field.ok_or(Refusal(NO_RECORD, 0))
+}
+
 /// The place of a slot, refusal 8 for a byte that is none.
 fn place(letter: u8) -> Result<usize, Refusal> {
     if !(b'A'..=b'H').contains(&letter) {
@@ -356,24 +362,4 @@ fn write_block(plan: &Plan, code: &[u8], out: &mut Vec<u8>) {
 fn packed(word: &[u8]) -> u64 {
     word.iter()
         .fold(0, |packed, byte| packed << 4 | u64::from(byte - b'0'))
-}
-
-/// "k an optional minus and one to four digits, no leading zero and no minus
-/// zero".
-fn numeral(field: &[u8]) -> Result<i32, Refusal> {
-    match field {
-        b"-0" => no(NO_RECORD),
-        [b'-', size @ ..] => Ok(-(number(size, 4)? as i32)),
-        size => Ok(number(size, 4)? as i32),
-    }
-}
-
-/// One digit up to so many, without "a leading zero but for 0 itself".
-fn number(field: &[u8], most: usize) -> Result<u64, Refusal> {
-    let digits = (1..=most).contains(&field.len()) && field.iter().all(u8::is_ascii_digit);
-    if !digits || field[0] == b'0' && field.len() > 1 {
-        return no(NO_RECORD);
-    }
-    let number = |number, digit: &u8| number * 10 + u64::from(digit - b'0');
-    Ok(field.iter().fold(0, number))
 }

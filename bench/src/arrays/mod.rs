@@ -5,6 +5,7 @@
 mod columns;
 pub mod desk;
 mod exercise;
+mod numerals;
 mod table;
 mod words;
 
