@@ -22,8 +22,9 @@
  * Every station starts with the right 2 on every slot, and station 0 always has it. The named station needs 1 on a slot that is read,
  * and 2 on the slot of P, X or C and on a target; G needs none. U lists the readable slots alone.
  *
- * A block is W's reply to a code that no from-word begins: for each pair whose from-word extends the code, in the order of the
- * from-words, a line of "B", the from-word and the to-word, and last of all "ok" and how many they are.
+ * W's reply to a code that a from-word begins is "ok", the image and the place of that pair in the listing, counted from 1: the place-th
+ * M line of L is the pair's. A block is W's reply to any other code: for each pair whose from-word extends the code, in the order of
+ * the from-words, a line of "B", the from-word, the to-word and the place, and last of all "ok" and how many they are.
  *
  * U's lines come with the most pairs first, and equal ones by slot letter; last of all comes "ok" and how many they are.
  *
@@ -63,7 +64,7 @@ enum {
     DESK_PLACES = 128,        /* the places of a column */
     DESK_WORDS = 2304,        /* two columns for each block */
     DESK_LONGEST_LINE = 1100, /* the bytes of a line; a longer one is refused with 1 */
-    DESK_LONGEST_REPLY = 4618 /* no reply has more bytes: a listing of 128 lines with two words of 16 digits each, and two lines */
+    DESK_LONGEST_REPLY = 5127 /* no reply has more bytes: a block of 128 lines with two words of 16 digits and a place each, and a line */
 };
 
 #define DESK_MOST_CHANGES 4000000000u

@@ -81,6 +81,22 @@ struct plan_written {
     size_t length;
 };
 
+/*
+ * The match of a code: how many of its digits are left, and the place of the pair whose from-word begins it. Places are counted from
+ * 1 in the order of the listing: the words of the pair are from[place - 1] and to[place - 1], and its M line is the place-th.
+ */
+struct plan_matched {
+    size_t tail;
+    size_t place; /* 0 where there is no match */
+};
+
+/* How many digits were written to the front of the lent buffer, and the place of the pair, where the number is 0; else both are 0. */
+struct plan_routed {
+    uint8_t number;
+    size_t length;
+    size_t place;
+};
+
 /* Whether a draft can be kept. Refused: 15, no draft; 6 and 7 of the from column; 6 and 7 of the to column. */
 struct plan_verdict plans_verdict(struct plan draft);
 
@@ -106,16 +122,17 @@ struct plan_made plans_power(struct plan a, int32_t k);
 struct plan_compared plans_same(struct plan a, struct plan b);
 
 /*
- * How many digits of the code are left behind the from-word that begins it. The whole length where no from-word does, where p is no
- * plan, and where the code is empty, over 1,024 digits or has a wrong digit.
+ * How many digits of the code are left behind the from-word that begins it, and the place of its pair. The whole length and place 0
+ * where no from-word does, where p is no plan, and where the code is empty, over 1,024 digits or has a wrong digit.
  */
-size_t plans_unmatched(struct plan p, const uint8_t *code, size_t code_length);
+struct plan_matched plans_unmatched(struct plan p, const uint8_t *code, size_t code_length);
 
 /*
- * Writes the image of a code, digits '1' to '9' as bytes. PLANS_LONGEST_IMAGE bytes are enough for every image.
+ * Writes the image of a code, digits '1' to '9' as bytes, and answers with the place of the pair that routed it. PLANS_LONGEST_IMAGE
+ * bytes are enough for every image.
  * Refused: 15; 4, the code is empty, over 1,024 digits or has a wrong one; 13, it is too short for the plan; 14.
  */
-struct plan_written plans_route(struct plan p, const uint8_t *code, size_t code_length, uint8_t *out, size_t out_length);
+struct plan_routed plans_route(struct plan p, const uint8_t *code, size_t code_length, uint8_t *out, size_t out_length);
 
 /*
  * Writes the plan as lines that a desk reads, for this slot: P, one M a pair, E, fields parted by tabs, each line ended by byte 10.

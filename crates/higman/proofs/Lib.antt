@@ -1,7 +1,7 @@
 -- The arguments, each file after those it leans on. The terms of the statements of specs/Theorems.antt and specs/Cases.antt are in
 -- Columns (bases), Results (what is reduced), MinimalExpansion, Statements (normal form, group, answers), Demand3, Listing, Decimals and
 -- Cases; that of specs/Text.antt is in Text; those of specs/Figures.antt in Figures; that of
--- specs/Reasons.antt in Reasons; that of specs/Fronts.antt in Fronts; that of
+-- specs/Reasons.antt in Reasons; that of specs/Fronts.antt in Fronts; that of specs/Places.antt in Places; that of
 -- specs/Exercises.antt in Exercises, and the files from Draws on lead to it; that of specs/Shortest.antt in Shortest; that of
 -- specs/Automorphisms.antt is in Automorphisms, and the files from Codes on lead to it.
 pub mod Tests
@@ -37,6 +37,7 @@ pub mod Reached
 pub mod Demand3
 pub mod Statements
 pub mod Fronts
+pub mod Places
 pub mod Draws
 pub mod Splits
 pub mod Shuffles

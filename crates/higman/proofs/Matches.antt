@@ -34,6 +34,16 @@ module _ {A : Type 0} (word : A → Word) (default : A) where
         found = λ h. f .found (omega arith);
       }
 
+  -- behind a thing whose word doesn't begin w, the place is one further on
+  pub first-behind : (x : A) (l : List A) (w : Word) (r : ℕ) → begins (word x) w ≡ false → FirstAt word default l w r
+      → FirstAt word default (x ∷ l) w (suc r)
+  first-behind x l w r e f =
+      record { within = omega (arith, f .within); earlier = earlier; found = λ h. f .found (omega arith) }
+    where
+      earlier : (j : ℕ) → j < suc r → begins (word (getD (x ∷ l) j default)) w ≡ false
+      earlier zero h = e
+      earlier (suc j) h = f .earlier j (omega arith)
+
   pub first-place : (l : List A) (w : Word) → (r : ℕ) × FirstAt word default l w r
   first-place [] w =
       (0, record { within = omega arith; earlier = λ j h. absurd (omega arith); found = λ h. absurd (omega arith) })
@@ -43,12 +53,7 @@ module _ {A : Type 0} (word : A → Word) (default : A) where
           → (r : ℕ) × FirstAt word default (x ∷ l) w r
       by-first (inl t) rest =
           (0, record { within = omega arith; earlier = λ j h. absurd (omega arith); found = λ h. t })
-      by-first (inr f) (r, p) =
-          (suc r, record { within = omega (arith, p .within); earlier = earlier; found = λ h. p .found (omega arith) })
-        where
-          earlier : (j : ℕ) → j < suc r → begins (word (getD (x ∷ l) j default)) w ≡ false
-          earlier zero h = f
-          earlier (suc j) h = p .earlier j (omega arith)
+      by-first (inr f) (r, p) = (suc r, first-behind x l w r f p)
 
   module _ {B : Type 0} where
     pub match-found : (make : ℕ → A → Word → B) (l : List A) (w : Word) (r : ℕ) → FirstAt word default l w r → r < length l

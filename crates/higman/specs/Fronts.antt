@@ -1,7 +1,7 @@
 -- Fronts of codes (change request E1): a code that no from-word begins has no image of its own, but in document 004 it has the images of
 -- its parts. These are given by its block, the pairs whose from-words extend it. The block of every front under a kept plan, and under *a
 -- then b*, is stated in `FrontsExact`, for every arity and every number of roots. `block` need not be believed: `FrontsExact` fixes it.
--- Read Exercises.antt next.
+-- Read Places.antt next.
 use Prim.Native.Nat.{_≤_}
 use mathlib.Core.Path.{_≡_, refl, subst}
 use mathlib.Core.Logic.{_↔_, _⊎_, inl, inr}
