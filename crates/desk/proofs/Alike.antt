@@ -11,7 +11,6 @@ use borrow.Author.Tests.{not-false}
 use lib.ListN.{length}
 use Rattle.higman.specs.Words.{given, Shape}
 use Rattle.higman.specs.Answers.{verdict, followed, inverted, powered, same, routed}
-use Rattle.higman.specs.Fronts.{block}
 use Rattle.higman.specs.Text.{wordOf}
 use Rattle.higman.specs.Exercises.{exercise}
 use Rattle.higman.specs.Bases.{all}
@@ -172,7 +171,7 @@ module _ (d c : Desk) (h : Alike d c) where
       same-then (ofComparison (same p q)) _ refl (λ y. asks (okNumber (bit y)))))
   job-agrees (W a code) e t =
       same-then (planIn d a) (planIn c a) (read-same (W a code) t a (List·Memᴰ·head refl)) (λ p.
-      same-then (ofRoute (block (p .rows) (wordOf code)) (routed p (wordOf code))) _ refl (λ y. asks y))
+      same-then (ofRoute p (wordOf code) (routed p (wordOf code))) _ refl (λ y. asks y))
   job-agrees (L a) e t = same-then (planIn d a) (planIn c a) (read-same (L a) t a (List·Memᴰ·head refl)) (λ p. asks (lists a p))
   job-agrees (C a) e t =
       same-then (planIn d a) (planIn c a) (plan-same (C a) t a target (omega arith) (List·Memᴰ·head refl))

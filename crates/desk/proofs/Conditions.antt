@@ -14,7 +14,6 @@ use Rattle.higman.specs.Tables.{froms, tos}
 use Rattle.higman.specs.Normal.{compose, power}
 use Rattle.higman.specs.Limits.{shapeInRange, seedInRange, granted, pairFits, isCode, maxPairs, maxPower, isPlanWord}
 use Rattle.higman.specs.Answers.{sameShape}
-use Rattle.higman.specs.Fronts.{block}
 use Rattle.higman.specs.Exercises.{exercised}
 use Rattle.higman.specs.Refusals.{shapeOutside, pairsFull, powerOutside, countFull, slotOutside, wrongState, badWord, wordsOverlap}
 use Rattle.higman.specs.Refusals.{rootUncovered, slotEmpty, shapesDiffer, limitBroken, seedOutside, stationOutside}
@@ -90,7 +89,7 @@ own-says d D (K a k c) o =
     (λ _ h. plan-then d a (λ p e. rw (e, ofPlan) (powered-then p (D .kept (slotNumber a) p e) k (not-false _ h) (λ r. done))))
 own-says d D (S a b) o = plans-then d a b (λ p q e f. same-says d a b p q e f (λ b. done))
 own-says d D (W a code) o =
-    plan-then d a (λ p e. rw (e, ofPlan) (routed-then (block (p .rows) (wordOf code)) p (wordOf code) (λ reply. done)))
+    plan-then d a (λ p e. rw (e, ofPlan) (routed-then p (wordOf code) (λ reply. done)))
 own-says d D (L a) o = plan-then d a (λ p e. done)
 own-says d D (C a) o = plan-then d a (λ p e. done)
 own-says d D Tᴿ o = done

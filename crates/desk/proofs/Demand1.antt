@@ -14,7 +14,6 @@ use lib.ListN.{length}
 use borrow.Author.Tests.{eq-eqb}
 use Rattle.higman.specs.Words.{Word, spelled}
 use Rattle.higman.specs.Text.{tab, lineEnd, digitByte, wordBytes, Bytes, bytes, decimal, wordOf}
-use Rattle.higman.specs.Tables.{Table}
 use Rattle.higman.specs.Limits.{Plan, shapeInRange, isPlanWord, maxPairs, maxPower}
 use Rattle.higman.specs.Refusals.{noRecord, wrongState, shapeOutside, badWord, pairsFull, slotOutside, slotEmpty, powerOutside, countFull}
 use Rattle.higman.specs.Refusals.{stationOutside, Letter, rightMissing, stationRefused}
@@ -121,10 +120,10 @@ numbered-comparison : (c : Comparison) → Numbered (ofComparison c)
 numbered-comparison (Alike b) = no-refusal
 numbered-comparison (NotCompared r) = numbered-refusal (refusal-among r)
 
-numbered-route : (inside : Table) (r : Route) → Numbered (ofRoute inside r)
-numbered-route inside (Image w) = no-refusal
-numbered-route inside TooShort = no-refusal
-numbered-route inside (NotRouted r) = numbered-refusal (refusal-among r)
+numbered-route : (p : Plan) (w : Word) (r : Route) → Numbered (ofRoute p w r)
+numbered-route p w (Image v) = no-refusal
+numbered-route p w TooShort = no-refusal
+numbered-route p w (NotRouted r) = numbered-refusal (refusal-among r)
 
 job-numbered : (d : Desk) (r : Record) → Numbered (job d r)
 unfolding job among operationNumbers
@@ -141,7 +140,7 @@ job-numbered d (K a k c) =
     numbered-then (numbered-test powerOutside (not (leb (natAbs k) maxPower)) tt) (λ _. numbered-then (numbered-plan d a) (λ p. numbered-then (numbered-answer (powered p k)) (λ _. no-refusal)))
 job-numbered d (S a b) =
     numbered-then (numbered-plan d a) (λ p. numbered-then (numbered-plan d b) (λ q. numbered-then (numbered-comparison (same p q)) (λ _. no-refusal)))
-job-numbered d (W a code) = numbered-then (numbered-plan d a) (λ p. numbered-then (numbered-route _ (routed p (wordOf code))) (λ _. no-refusal))
+job-numbered d (W a code) = numbered-then (numbered-plan d a) (λ p. numbered-then (numbered-route p (wordOf code) (routed p (wordOf code))) (λ _. no-refusal))
 job-numbered d (L a) = numbered-then (numbered-plan d a) (λ _. no-refusal)
 job-numbered d (C a) = numbered-then (numbered-plan d a) (λ _. no-refusal)
 job-numbered d Tᴿ = no-refusal

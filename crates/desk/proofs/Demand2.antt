@@ -4,34 +4,36 @@ use Prim.Native.Nat.{ℕ, _<_}
 use mathlib.Core.Path.{_≡_, refl, sym, _∙_, ap, subst}
 use mathlib.Core.Logic.{_⊎_, inl, inr, _↔_}
 use mathlib.Core.Bool.{Bool, true, false}
-use mathlib.Core.List.{List·Memᴰ·head, List·Memᴰ·tail}
+use mathlib.Core.List.{List·Memᴰ·head, List·Memᴰ·tail, List, List·Memᴰ}
 use mathlib.Core.Option.{some, Option·some-injective}
 use native.Mathlib.Omega.{arith}
 use lib.Dec.{T}
 use lib.IntN.{ℤ}
 use borrow.Author.Tests.{lt-leb}
-use Rattle.higman.specs.Words.{Word, isWord}
-use Rattle.higman.specs.Tables.{Table, image, sameTable}
+use Rattle.higman.specs.Words.{Word, isWord, begins}
+use Rattle.higman.specs.Tables.{image, sameTable, froms, Pair}
 use Rattle.higman.specs.Normal.{andThen, power}
 use Rattle.higman.specs.Limits.{Plan, Bases, Kept, slotCount}
 use Rattle.higman.specs.Answers.{Accepted, verdict, Granted, followed, inverted, powered, Comparison, Alike, NotCompared}
 use Rattle.higman.specs.Answers.{same, sameShape, Route, Image, TooShort, NotRouted, ShapesDiffer, routed}
 use Rattle.higman.specs.Theorems.{ActAlike}
-use Rattle.higman.specs.Fronts.{block, BlockOf, SendsInTurn}
+use Rattle.higman.specs.Fronts.{BlockOf, SendsInTurn}
+use Rattle.higman.specs.Places.{placeOf, Placed, placedBlock, pairsOf, AtPlace, RoutesAt}
 use Rattle.higman.proofs.Tests.{T-of}
 use Rattle.higman.proofs.KeptPlans.{arity-of-range}
 use Rattle.higman.proofs.Answers.{followed-cases, inverted-cases, shape-path, image-of-route, none-of-short}
 use Rattle.higman.proofs.Demand3.{demand3}
 use Rattle.higman.proofs.Statements.{normal-form, followed-acts, group-acts, answers-exact}
 use Rattle.higman.proofs.Fronts.{fronts-exact}
+use Rattle.higman.proofs.Places.{places-exact}
 use Rattle.higman.specs.Text.{Bytes, wordOf}
 use Rattle.desk.specs.Limits.{maxChanges}
 use Rattle.desk.specs.Desk.{Draft, Desk, countOf, held, IsDesk}
 use Rattle.desk.specs.Records.{E, F, I, K, S, W, writing, kind}
 use Rattle.higman.specs.Listing.{slotNumber}
-use Rattle.desk.specs.Replies.{pass, Effect, Reply, silent, ok, okNumber, okWord, okBlock, lists, surveys, refuses, bit}
+use Rattle.desk.specs.Replies.{pass, Effect, Reply, silent, ok, okNumber, okImage, okBlock, lists, surveys, refuses, bit}
 use Rattle.desk.specs.Replies.{ofComparison, ofRoute, keepIn, closed, job, operation}
-use Rattle.desk.specs.Theorems.{BlockReplied}
+use Rattle.desk.specs.Theorems.{BlockReplied, PlacesReplied}
 use Rattle.desk.specs.Demands.{KeptAsTyped, KeptIn, RoutedBy, Demand2}
 use Rattle.desk.proofs.ReadBack.{typed-in, listing-read-back}
 use Rattle.desk.proofs.TypedLines.{accepted-from-lines}
@@ -51,13 +53,15 @@ comparison-made (Alike b) = passes refl
 comparison-made (NotCompared r) = stops
 
 -- an image, or the block
-abbrev RouteMade : Table → Route → Reply → Type 0
-RouteMade inside r reply = ((v : Word) × (r ≡ Image v) × (reply ≡ okWord v)) ⊎ ((r ≡ TooShort) × (reply ≡ okBlock inside))
+abbrev RouteMade : Plan → Word → Route → Reply → Type 0
+RouteMade p w r reply =
+    ((v : Word) × (r ≡ Image v) × (reply ≡ okImage v (placeOf (froms (p .rows)) w)))
+    ⊎ ((r ≡ TooShort) × (reply ≡ okBlock (placedBlock (p .rows) w)))
 
-route-made : (inside : Table) (r : Route) → Passes (RouteMade inside r) (ofRoute inside r)
-route-made inside (Image v) = passes (inl (v, refl, refl))
-route-made inside TooShort = passes (inr (refl, refl))
-route-made inside (NotRouted r) = stops
+route-made : (p : Plan) (w : Word) (r : Route) → Passes (RouteMade p w r) (ofRoute p w r)
+route-made p w (Image v) = passes (inl (v, refl, refl))
+route-made p w TooShort = passes (inr (refl, refl))
+route-made p w (NotRouted r) = stops
 
 -- E
 one-draft : (d : Desk) (o o′ : Draft) → d .draft ≡ some o → d .draft ≡ some o′ → o′ ≡ o
@@ -167,39 +171,79 @@ repeats d a c k e h o =
 abbrev Routes : Desk → ℕ → Bytes → Effect → Type 0
 Routes d a code e =
     (p : Plan) × (reply : Reply) × (held d (slotNumber a) ≡ some p)
-    × RouteMade (block (p .rows) (wordOf code)) (routed p (wordOf code)) reply × (e ≡ (d, reply))
+    × RouteMade p (wordOf code) (routed p (wordOf code)) reply × (e ≡ (d, reply))
 
 route-steps : (d : Desk) (a : ℕ) (code : Bytes) → Passes (Routes d a code) (operation d (W a code))
 unfolding job
 route-steps d a code =
-    passes-operation d (W a code) (λ _. passes-then (plan-held d a) (λ p x. passes-then (route-made _ (routed p (wordOf code)))
+    passes-operation d (W a code) (λ _. passes-then (plan-held d a) (λ p x. passes-then (route-made p (wordOf code) (routed p (wordOf code)))
     (λ reply r. passes (p, reply, x, r, refl))))
 
 routes : (d : Desk) (a : ℕ) (code : Bytes) (e : Effect) → operation d (W a code) ≡ pass e
     → (p : Plan) × (held d (slotNumber a) ≡ some p) × RoutedBy p (wordOf code) d e
 routes d a code e o = let (p, reply, x, r, f) = passed (route-steps d a code) e o in (p, x, by-route p reply f r)
   where
-    by-route : (p : Plan) (reply : Reply) → e ≡ (d, reply) → RouteMade (block (p .rows) (wordOf code)) (routed p (wordOf code)) reply
+    by-route : (p : Plan) (reply : Reply) → e ≡ (d, reply) → RouteMade p (wordOf code) (routed p (wordOf code)) reply
         → RoutedBy p (wordOf code) d e
     by-route p reply f (inl (v, r, g)) = inl (v, image-of-route p (wordOf code) v r .1, f ∙ ap (λ x. (d, x)) g)
     by-route p reply f (inr (r, g)) = inr (none-of-short p (wordOf code) r .1, f ∙ ap (λ x. (d, x)) g)
 
+-- a block that is replied is that of a code too short for the plan in the slot
+block-made : (d : Desk) (c : ℕ) (code : Bytes) (lines : List Placed) → operation d (W c code) ≡ pass (d, okBlock lines)
+    → (p : Plan) × (held d (slotNumber c) ≡ some p) × (routed p (wordOf code) ≡ TooShort) × (lines ≡ placedBlock (p .rows) (wordOf code))
+block-made d c code lines o =
+    let (p, reply, x, r, f) = passed (route-steps d c code) (d, okBlock lines) o in
+    let (short, made) = by-route p reply (ap (λ e. e .1) f) r in
+    (p, x, short, made)
+  where
+    by-route : (p : Plan) (reply : Reply) → okBlock lines ≡ reply → RouteMade p (wordOf code) (routed p (wordOf code)) reply
+        → (routed p (wordOf code) ≡ TooShort) × (lines ≡ placedBlock (p .rows) (wordOf code))
+    by-route p reply f (inl (v, r, g)) = let z : _≡_ {A = ℕ} 0 1 = cc in absurd (omega arith)
+    by-route p reply f (inr (r, g)) = (r, cc)
+
 block-replied : BlockReplied
 block-replied d D c code lines o =
-    let (p, reply, x, r, f) = passed (route-steps d c code) (d, okBlock lines) o in
-    let (short, same) = by-route p reply (ap (λ e. e .1) f) r in
+    let (p, x, short, made) = block-made d c code lines o in
+    let same = ap pairsOf made ∙ places-exact .pairs (p .rows) (wordOf code) in
     let kept = D .kept (slotNumber c) p x in (
       p,
       x,
       subst (BlockOf p (wordOf code)) (sym same) (fronts-exact .kept-plan p kept (wordOf code) short),
       λ a b A B g. subst (SendsInTurn a b (wordOf code)) (sym same) (fronts-exact .composed a b p A B g (wordOf code) short .1),
     )
+
+image-made : (d : Desk) (c : ℕ) (code : Bytes) (v : Word) (k : ℕ) → operation d (W c code) ≡ pass (d, okImage v k)
+    → (p : Plan) × (held d (slotNumber c) ≡ some p) × (routed p (wordOf code) ≡ Image v) × (k ≡ placeOf (froms (p .rows)) (wordOf code))
+image-made d c code v k o =
+    let (p, reply, x, r, f) = passed (route-steps d c code) (d, okImage v k) o in
+    let (routed-there, made) = by-route p reply (ap (λ e. e .1) f) r in
+    (p, x, routed-there, made)
   where
-    by-route : (p : Plan) (reply : Reply) → okBlock lines ≡ reply
-        → RouteMade (block (p .rows) (wordOf code)) (routed p (wordOf code)) reply
-        → (routed p (wordOf code) ≡ TooShort) × (lines ≡ block (p .rows) (wordOf code))
-    by-route p reply f (inl (v, r, g)) = let z : _≡_ {A = ℕ} 0 1 = cc in absurd (omega arith)
-    by-route p reply f (inr (r, g)) = (r, cc)
+    by-route : (p : Plan) (reply : Reply) → okImage v k ≡ reply → RouteMade p (wordOf code) (routed p (wordOf code)) reply
+        → (routed p (wordOf code) ≡ Image v) × (k ≡ placeOf (froms (p .rows)) (wordOf code))
+    by-route p reply f (inl (u, r, g)) = (cc, cc)
+    by-route p reply f (inr (r, g)) = let z : _≡_ {A = ℕ} 0 1 = cc in absurd (omega arith)
+
+places-replied : PlacesReplied
+places-replied = record { image = image; lines = lines }
+  where
+    image : (d : Desk) → IsDesk d → (c : ℕ) (code : Bytes) (v : Word) (k : ℕ) → operation d (W c code) ≡ pass (d, okImage v k)
+        → (r : Plan) × (held d (slotNumber c) ≡ some r) × RoutesAt (r .rows) (wordOf code) v k
+        × ((j : ℕ) (p : Pair) → AtPlace (r .rows) j p → T (begins (p .from) (wordOf code)) → j ≡ k)
+    image d D c code v k o =
+        let (r, x, f, e) = image-made d c code v k o in
+        let w = wordOf code in (
+          r,
+          x,
+          subst (RoutesAt (r .rows) w v) (sym e) (places-exact .routes (r .rows) w v (image-of-route r w v f .1)),
+          λ j p y b. places-exact .only r (D .kept (slotNumber c) r x) w j p y b ∙ sym e,
+        )
+
+    lines : (d : Desk) (c : ℕ) (code : Bytes) (ls : List Placed) → operation d (W c code) ≡ pass (d, okBlock ls)
+        → (r : Plan) × (held d (slotNumber c) ≡ some r) × ((l : Placed) → List·Memᴰ l ls → AtPlace (r .rows) (l .place) (l .pair))
+    lines d c code ls o =
+        let (r, x, short, made) = block-made d c code ls o in
+        (r, x, λ l m. places-exact .places (r .rows) (wordOf code) l (subst (List·Memᴰ l) made m))
 
 -- S
 abbrev Compares : Desk → ℕ → ℕ → Effect → Type 0
@@ -234,8 +278,8 @@ abbrev numberOf : Reply → ℕ
 numberOf silent = 0
 numberOf ok = 0
 numberOf (okNumber n) = n
-numberOf (okWord w) = 0
-numberOf (okBlock t) = 0
+numberOf (okImage w k) = 0
+numberOf (okBlock ls) = 0
 numberOf (lists b p) = 0
 numberOf (surveys hs) = 0
 numberOf (refuses n c) = 0
@@ -274,6 +318,7 @@ demand2 =
       repeats = repeats;
       routes = routes;
       blocks = block-replied;
+      places = places-replied;
       exercises = exercises;
       exercises-fixed = exercises-fixed;
       compares = compares;

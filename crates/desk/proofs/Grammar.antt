@@ -13,9 +13,9 @@ use lib.ListN.{length, length-map}
 use borrow.Author.Tests.{eqb-true, ne-eqb}
 use Rattle.higman.specs.Words.{spelled}
 use Rattle.higman.specs.Bases.{all}
-use Rattle.higman.specs.Tables.{Pair, Table}
 use Rattle.higman.specs.Text.{Bytes, bytes, tab, wordBytes, decimal}
 use Rattle.higman.specs.Listing.{slotByte, joinLines}
+use Rattle.higman.specs.Places.{Placed}
 use Rattle.higman.proofs.Tests.{passes, and-left, and-right, and-intro, all-cons}
 use Rattle.desk.specs.Limits.{maxNumeral, maxSplitsNumeral, maxSeedNumeral}
 use Rattle.desk.specs.Records.{Record, P, M, E, F, I, K, S, W, L, C, T as Tᴿ, U, X, Z, G, Form, slotField, anyField}
@@ -274,22 +274,24 @@ held-line h =
     let numbers = all-cons noTab n (r ∷ m ∷ []) (decimal-no-tab (h .plan .shape .arity)) roots in
     line-of slot (n ∷ r ∷ m ∷ []) (all-cons noTab slot (n ∷ r ∷ m ∷ []) plain numbers)
 
-part-line : (p : Pair) → LineOf (lineOf (partFields p)) (partFields p)
-part-line p =
-    let from = wordBytes (p .from) in
-    let to = wordBytes (p .to) in
-    line-of (bytes "B") (from ∷ to ∷ [])
-    (all-cons noTab from (to ∷ []) (word-no-tab (p .from)) (all-cons noTab to [] (word-no-tab (p .to)) tt))
+part-line : (l : Placed) → LineOf (lineOf (partFields l)) (partFields l)
+part-line l =
+    let from = wordBytes (l .pair .from) in
+    let to = wordBytes (l .pair .to) in
+    let place = decimal (l .place) in
+    line-of (bytes "B") (from ∷ to ∷ place ∷ [])
+    (all-cons noTab from (to ∷ place ∷ []) (word-no-tab (l .pair .from))
+    (all-cons noTab to (place ∷ []) (word-no-tab (l .pair .to)) (all-cons noTab place [] (decimal-no-tab (l .place)) tt)))
 
 -- lines of fields, each made of something, and how many
 counted-lines : {A : Type 0} (f : A → List Bytes) (l : List A)
     → counted (map f l) ≡ joinLines (map (λ x. lineOf (f x)) l) ++ okLine (decimal (length l) ∷ [])
 counted-lines f l = ap₂ (λ ls n. joinLines ls ++ okLine (decimal n ∷ [])) (map-map lineOf f l) (length-map l f)
 
-block-lines : (t : Table)
-    → replyBytes (okBlock t) ≡ joinLines (map (λ p. lineOf (partFields p)) t) ++ okLine (decimal (length t) ∷ [])
+block-lines : (ls : List Placed)
+    → replyBytes (okBlock ls) ≡ joinLines (map (λ l. lineOf (partFields l)) ls) ++ okLine (decimal (length ls) ∷ [])
 unfolding replyBytes
-block-lines t = counted-lines partFields t
+block-lines ls = counted-lines partFields ls
 
 survey-lines : (hs : List Held)
     → replyBytes (surveys hs) ≡ joinLines (map (λ h. lineOf (heldFields h)) hs) ++ okLine (decimal (length hs) ∷ [])
@@ -306,7 +308,8 @@ replies-written =
       nothing = refl;
       done = line-of (bytes "ok") [] tt;
       number = λ n. numbered-line (bytes "ok") n [] tt tt;
-      word = λ w. line-of (bytes "ok") (wordBytes w ∷ []) (all-cons noTab (wordBytes w) [] (word-no-tab w) tt);
+      image = λ w k. line-of (bytes "ok") (wordBytes w ∷ decimal k ∷ [])
+          (all-cons noTab (wordBytes w) (decimal k ∷ []) (word-no-tab w) (all-cons noTab (decimal k) [] (decimal-no-tab k) tt));
       part = part-line;
       block = block-lines;
       plan = λ b p. refl;

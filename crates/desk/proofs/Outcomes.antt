@@ -5,18 +5,17 @@ use mathlib.Core.Path.{_≡_, refl, sym, ap, subst}
 use mathlib.Core.Bool.{Bool, true, false, _&&_, not}
 use mathlib.Core.Option.{Option, none, some}
 use lib.Dec.{T}
-use Rattle.higman.specs.Tables.{Table}
 use Rattle.higman.specs.Limits.{Plan}
 use Rattle.higman.specs.Bases.{all}
 use Rattle.higman.specs.Answers.{Route, Image, TooShort, NotRouted, routed}
-use Rattle.higman.specs.Fronts.{block}
 use Rattle.higman.specs.Refusals.{wrongState, slotOutside, slotEmpty, countFull, stationOutside, rightMissing, Letter}
 use Rattle.higman.specs.Text.{Bytes, wordOf}
 use Rattle.desk.specs.Desk.{Draft, Desk, held, dropped, isStation}
 use Rattle.desk.specs.Records.{Record, P, M, E, F, I, K, S, W, L, C, T as Tᴿ, U, X, Z, G, stationsNamed, slotsNamed}
 use Rattle.desk.specs.Records.{isChange}
 use Rattle.higman.specs.Listing.{slotNumber, isSlot}
-use Rattle.desk.specs.Replies.{Reply, silent, ok, okNumber, okWord, okBlock, lists, surveys, refuses, Outcome, refuse, pass, _>>=_}
+use Rattle.higman.specs.Words.{Word}
+use Rattle.desk.specs.Replies.{Reply, silent, ok, okNumber, okImage, okBlock, lists, surveys, refuses, Outcome, refuse, pass, _>>=_}
 use Rattle.desk.specs.Replies.{openAmiss, openPlan, planIn, mayUse, atLimit, ofRoute, job}
 use Rattle.desk.specs.Replies.{Effect, settle, operation, admission, lineOperation, respondLine}
 use Rattle.desk.specs.Replies.{_when_}
@@ -134,16 +133,16 @@ abbrev pub NoRefusal : Reply → Type 0
 NoRefusal silent = Unit {0}
 NoRefusal ok = Unit {0}
 NoRefusal (okNumber n) = Unit {0}
-NoRefusal (okWord w) = Unit {0}
-NoRefusal (okBlock t) = Unit {0}
+NoRefusal (okImage w k) = Unit {0}
+NoRefusal (okBlock ls) = Unit {0}
 NoRefusal (lists b p) = Unit {0}
 NoRefusal (surveys hs) = Unit {0}
 NoRefusal (refuses n c) = ⊥
 
-route-answers : (inside : Table) (r : Route) → Passes NoRefusal (ofRoute inside r)
-route-answers inside (Image v) = passes tt
-route-answers inside TooShort = passes tt
-route-answers inside (NotRouted r) = stops
+route-answers : (p : Plan) (w : Word) (r : Route) → Passes NoRefusal (ofRoute p w r)
+route-answers p w (Image v) = passes tt
+route-answers p w TooShort = passes tt
+route-answers p w (NotRouted r) = stops
 
 abbrev pub Answered : Effect → Type 0
 Answered e = NoRefusal (e .1)
@@ -159,7 +158,7 @@ job-answers d (K a k c) = any-then _ (λ _. any-then _ (λ _. any-then _ (λ _. 
 job-answers d (S a b) = any-then _ (λ _. any-then _ (λ _. any-then _ (λ _. passes tt)))
 job-answers d (W a code) =
     any-then _ (λ p. passes-then
-    (route-answers (block (p .rows) (wordOf code)) (routed p (wordOf code))) (λ reply h. passes {a = (d, reply)} h))
+    (route-answers p (wordOf code) (routed p (wordOf code))) (λ reply h. passes {a = (d, reply)} h))
 job-answers d (L a) = any-then _ (λ _. passes tt)
 job-answers d (C a) = any-then _ (λ _. passes tt)
 job-answers d Tᴿ = passes tt

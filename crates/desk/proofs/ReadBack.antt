@@ -16,7 +16,7 @@ use Rattle.higman.specs.Limits.{shapeInRange, granted, fits, pairFits, maxPairs
 use Rattle.higman.specs.Normal.{keep}
 use Rattle.higman.specs.Answers.{Accepted, verdict}
 use Rattle.higman.specs.Text.{tab, lineEnd, digitByte, wordBytes, Bytes, bytes, decimal, wordOf}
-use Rattle.higman.specs.Listing.{pairRecord, pairRecords, joinLines, closeRecord, slotNumber, slotByte, isSlot}
+use Rattle.higman.specs.Listing.{pairFields, pairRecord, pairRecords, joinLines, closeRecord, slotNumber, slotByte, isSlot}
 use Rattle.higman.proofs.Tests.{so, and-left, and-right, and-intro, all-cons, all-head, all-tail, pair-path}
 use Rattle.higman.proofs.Statements.{table-of, test-table, normal-form, answers-exact}
 use Rattle.higman.proofs.Columns.{column-is-basis}
@@ -54,7 +54,7 @@ abbrev pub openLine : ℕ → Shape → Bytes
 openLine b s = 80 ∷ tab ∷ b ∷ tab ∷ digitByte (s .arity) ∷ tab ∷ digitByte (s .roots) ∷ []
 
 abbrev pub pairLine : Pair → Bytes
-pairLine p = 77 ∷ tab ∷ (wordBytes (p .from) ++ tab ∷ wordBytes (p .to))
+pairLine p = pairFields 77 p
 
 one-digit : (a : ℕ) → a ≤ 9 → T (hasDigits 1 a)
 one-digit a h = subst (λ l. T (leb (length l) 1)) (sym (decimal-digit a (omega arith))) tt

@@ -28,7 +28,8 @@ use Rattle.higman.proofs.Statements.{answers-exact}
 use Rattle.desk.specs.Desk.{Draft, Desk, held}
 use Rattle.desk.specs.Records.{F}
 use Rattle.higman.specs.Listing.{slotNumber}
-use Rattle.desk.specs.Replies.{Reply, okWord, okBlock, Outcome, refuse, pass, _>>=_, isOpen}
+use Rattle.higman.specs.Places.{placeOf, placedBlock}
+use Rattle.desk.specs.Replies.{Reply, okImage, okBlock, Outcome, refuse, pass, _>>=_, isOpen}
 use Rattle.desk.specs.Replies.{openPlan, planIn, ofVerdict, ofAnswer, ofComparison, ofRoute, _when_}
 use Rattle.desk.specs.Conditions.{Condition, inColumn, isEmpty, ofPlan, ofBoth, firstOf, refusalOf, _if_}
 
@@ -255,17 +256,17 @@ same-then p q {f} h = go (sameShape (p .shape) (q .shape))
     go true = record { says = h _ .says }
 
 -- W: the code
-pub routed-then : {A : Type 0} (inside : Table) (p : Plan) (c : Word) {f : Reply → Outcome A} → ((reply : Reply) → Says (f reply) [])
-    → Says (ofRoute inside (routed p c) >>= f) ((badWord if not (isCode (p .shape) c)) ∷ [])
+pub routed-then : {A : Type 0} (p : Plan) (c : Word) {f : Reply → Outcome A} → ((reply : Reply) → Says (f reply) [])
+    → Says (ofRoute p c (routed p c) >>= f) ((badWord if not (isCode (p .shape) c)) ∷ [])
 unfolding _>>=_ routed
-routed-then inside p c {f} h = by-code (isCode (p .shape) c) (image (p .rows) c)
+routed-then p c {f} h = by-code (isCode (p .shape) c) (image (p .rows) c)
   where
     by-code : (a : Bool) (o : Option Word)
-        → Says (ofRoute inside (elim a as (λ _. Route) [ true ↦ elim o [ some v ↦ Image v | none ↦ TooShort ] | false ↦ NotRouted BadCode ]) >>= f)
+        → Says (ofRoute p c (elim a as (λ _. Route) [ true ↦ elim o [ some v ↦ Image v | none ↦ TooShort ] | false ↦ NotRouted BadCode ]) >>= f)
         ((badWord if not a) ∷ [])
     by-code false o = record { says = refl }
-    by-code true none = record { says = h (okBlock inside) .says }
-    by-code true (some v) = record { says = h (okWord v) .says }
+    by-code true none = record { says = h (okBlock (placedBlock (p .rows) c)) .says }
+    by-code true (some v) = record { says = h (okImage v (placeOf (froms (p .rows)) c)) .says }
 
 -- X: the seed, the pairs and then the words
 pub exercise-then : {A : Type 0} (s : Shape) (k seed : ℕ) {f : Plan → Outcome A} → ((p : Plan) → Says (f p) [])

@@ -5,13 +5,14 @@ use mathlib.Core.List.{List, [], _∷_, _++_, map}
 use mathlib.Core.Option.{Option, none, some}
 use lib.ListN.{length}
 use Rattle.higman.specs.Words.{spell}
-use Rattle.higman.specs.Tables.{Pair, row}
+use Rattle.higman.specs.Tables.{row}
 use Rattle.higman.specs.Limits.{Plan}
 use Rattle.higman.specs.Text.{lineEnd, wordBytes, Bytes, bytes, decimal}
 use Rattle.higman.specs.Listing.{joinLines, listing, slotByte}
+use Rattle.higman.specs.Places.{Placed, placedFrom}
 use Rattle.higman.specs.Refusals.{Letter, letterByte}
 use Rattle.desk.specs.Records.{parted}
-use Rattle.desk.specs.Replies.{Held, pairsIn, Reply, silent, ok, okNumber, okWord, okBlock, lists, surveys, refuses}
+use Rattle.desk.specs.Replies.{Held, pairsIn, Reply, silent, ok, okNumber, okImage, okBlock, lists, surveys, refuses}
 
 -- a line of fields: tabs between them, byte 10 behind
 abbrev pub lineOf : List Bytes → Bytes
@@ -33,9 +34,9 @@ columnField (some c) = (letterByte c ∷ []) ∷ []
 abbrev pub counted : List (List Bytes) → Bytes
 counted ls = joinLines (map lineOf ls) ++ okLine (decimal (length ls) ∷ [])
 
--- W: "one line `B⇥from⇥to` for every pair" of a block (change request E1)
-abbrev pub partFields : Pair → List Bytes
-partFields p = bytes "B" ∷ wordBytes (p .from) ∷ wordBytes (p .to) ∷ []
+-- W: "one line `B⇥from⇥to` for every pair" of a block (change request E1), and "the same field", its place (change request E7)
+abbrev pub partFields : Placed → List Bytes
+partFields l = bytes "B" ∷ wordBytes (l .pair .from) ∷ wordBytes (l .pair .to) ∷ decimal (l .place) ∷ []
 
 -- U: "`slot⇥n⇥r⇥pairs` for each held slot"
 abbrev pub heldFields : Held → List Bytes
@@ -46,19 +47,19 @@ unfoldable pub replyBytes : Reply → Bytes
 replyBytes silent = []
 replyBytes ok = okLine []
 replyBytes (okNumber n) = okLine (decimal n ∷ [])
-replyBytes (okWord w) = okLine (wordBytes w ∷ [])
-replyBytes (okBlock t) = counted (map partFields t)
+replyBytes (okImage w k) = okLine (wordBytes w ∷ decimal k ∷ [])
+replyBytes (okBlock ls) = counted (map partFields ls)
 replyBytes (lists slot p) = listing slot p
 replyBytes (surveys hs) = counted (map heldFields hs)
 replyBytes (refuses n c) = noLine (decimal n ∷ columnField c)
 
-replyBytes-example : map replyBytes (silent ∷ ok ∷ okNumber 3 ∷ okWord (spell 1212) ∷ refuses 12 none ∷ refuses 7 (some Letter.T) ∷ [])
-    ≡ bytes "" ∷ bytes "ok\n" ∷ bytes "ok\t3\n" ∷ bytes "ok\t1212\n" ∷ bytes "no\t12\n" ∷ bytes "no\t7\tT\n" ∷ []
+replyBytes-example : map replyBytes (silent ∷ ok ∷ okNumber 3 ∷ okImage (spell 1212) 2 ∷ refuses 12 none ∷ refuses 7 (some Letter.T) ∷ [])
+    ≡ bytes "" ∷ bytes "ok\n" ∷ bytes "ok\t3\n" ∷ bytes "ok\t1212\t2\n" ∷ bytes "no\t12\n" ∷ bytes "no\t7\tT\n" ∷ []
 unfolding replyBytes
 replyBytes-example = refl
 
--- "`B⇥111⇥11`, `B⇥112⇥121`, `ok⇥2`"
-block-example : replyBytes (okBlock (row 111 11 ∷ row 112 121 ∷ [])) ≡ bytes "B\t111\t11\nB\t112\t121\nok\t2\n"
+-- "`B⇥111⇥11⇥1`, `B⇥112⇥121⇥2`, closed by `ok⇥2`"
+block-example : replyBytes (okBlock (placedFrom 1 (row 111 11 ∷ row 112 121 ∷ []))) ≡ bytes "B\t111\t11\t1\nB\t112\t121\t2\nok\t2\n"
 unfolding replyBytes
 block-example = refl
 

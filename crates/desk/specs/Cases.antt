@@ -48,7 +48,7 @@ starSessions =
     -- "ψ then its inverse: 1→1."
     (typeψ ++ ("I\tA\tB" ∷ "F\tA\tB\tC" ∷ "L\tC" ∷ "T" ∷ []) gives ("ok\t3" ∷ "ok\t3" ∷ "ok\t1" ∷ "P\tC\t2\t1" ∷ "M\t1\t1" ∷ "E" ∷ "ok\t3" ∷ [])) ∷
     -- "ψ on 12 gives 122; on 11 gives 13": now the block of 11 (change request E1), and 13 is the library's alone
-    (typeψ ++ ("W\tA\t12" ∷ "W\tA\t11" ∷ []) gives ("ok\t3" ∷ "ok\t122" ∷ "B\t111\t11" ∷ "B\t112\t121" ∷ "ok\t2" ∷ [])) ∷
+    (typeψ ++ ("W\tA\t12" ∷ "W\tA\t11" ∷ []) gives ("ok\t3" ∷ "ok\t122\t3" ∷ "B\t111\t11\t1" ∷ "B\t112\t121\t2" ∷ "ok\t2" ∷ [])) ∷
     []
 
 unfoldable pub otherSessions : List Case

@@ -18,7 +18,7 @@ use Rattle.higman.specs.Text.{lineEnd, Bytes, wordOf}
 use Rattle.higman.specs.Theorems.{ActAlike, ResultsReduced, MinimalExpansion, Demand3}
 use Rattle.higman.specs.Figures.{PlanLimitsExact, NumbersNamed}
 use Rattle.higman.specs.Reasons.{Overlapping, OnlyOpen, ReasonsExact}
-use Rattle.higman.specs.Fronts.{block}
+use Rattle.higman.specs.Places.{placeOf, placedBlock}
 use Rattle.higman.specs.Exercises.{exercised, exercisePlan, ExercisesExact}
 use Rattle.higman.specs.Automorphisms.{PlansAreAutomorphisms}
 use Rattle.higman.specs.Refusals.{noRecord, wrongState, shapeOutside, badWord, pairsFull, wordsOverlap, rootUncovered, slotOutside}
@@ -30,12 +30,12 @@ use Rattle.desk.specs.Desk.{dropped, atStation, isStation, ownRight}
 use Rattle.desk.specs.Records.{Record, P, M, E, F, I, K, S, W, L, C, T as Tᴿ, U, X, Z, G, SlotUse, reads, target}
 use Rattle.desk.specs.Records.{needsOpen, slotsNamed, isChange, recordText, wellFormed}
 use Rattle.higman.specs.Listing.{slotNumber}
-use Rattle.desk.specs.Replies.{refuse, pass, Effect, silent, ok, okNumber, okWord, okBlock, lists, surveys, refuses, surveyed}
+use Rattle.desk.specs.Replies.{refuse, pass, Effect, silent, ok, okNumber, okImage, okBlock, lists, surveys, refuses, surveyed}
 use Rattle.desk.specs.Replies.{atLimit, operation, lineOperation, respondLine, newDraft, closed}
 use Rattle.desk.specs.Bytes.{replyBytes}
 use Rattle.desk.specs.Conditions.{conditions, firstOf, refusalOf}
 use Rattle.desk.specs.Theorems.{RefusalDrops, DeskStays, DeskTest, SurveyExact, LinesExact, LinesFed, FedInPieces, SessionFed}
-use Rattle.desk.specs.Theorems.{TypedIn, AcceptedFromLines, BlockReplied}
+use Rattle.desk.specs.Theorems.{TypedIn, AcceptedFromLines, BlockReplied, PlacesReplied}
 use Rattle.desk.specs.Theorems.{ListingReadBack, LentCallsExact}
 use Rattle.desk.specs.Grammar.{NoRecord, TextExact}
 use Rattle.desk.specs.Stations.{CountsOfStations}
@@ -206,11 +206,11 @@ pub record KeptIn (d : Desk) (c : ℕ) (e : Effect) (p : Plan) : Type 0 where
   pub there : held (e .0) (slotNumber c) ≡ some p
   pub kept : Kept p
 
--- W: the image of a code under a plan or, where it has none, its block
+-- W: the image of a code under a plan and the place of the pair that routed it or, where it has none, its block
 abbrev pub RoutedBy : Plan → Word → Desk → Effect → Type 0
 RoutedBy p w d e =
-    ((v : Word) × (image (p .rows) w ≡ some v) × (e ≡ (d, okWord v)))
-    ⊎ ((image (p .rows) w ≡ none) × (e ≡ (d, okBlock (block (p .rows) w))))
+    ((v : Word) × (image (p .rows) w ≡ some v) × (e ≡ (d, okImage v (placeOf (froms (p .rows)) w))))
+    ⊎ ((image (p .rows) w ≡ none) × (e ≡ (d, okBlock (placedBlock (p .rows) w))))
 
 -- the desk with the pairs that X makes typed in for its slot, and not yet closed
 abbrev pub withExercise : Desk → ℕ → Shape → ℕ → ℕ → Desk
@@ -256,6 +256,7 @@ pub record Demand2 : Type 0 where
   pub routes : (d : Desk) (a : ℕ) (code : Bytes) (e : Effect) → operation d (W a code) ≡ pass e
       → (p : Plan) × (held d (slotNumber a) ≡ some p) × RoutedBy p (wordOf code) d e
   pub blocks : BlockReplied
+  pub places : PlacesReplied
   -- X: the plan that the request makes of the shape, the splits and the seed, reduced (change request E3)
   pub exercises : (d : Desk) (a : ℕ) (s : Shape) (k seed : ℕ) (e : Effect) → IsDesk d
       → operation d (X a (s .arity) (s .roots) k seed) ≡ pass e → ExerciseKept d a s k seed e

@@ -12,15 +12,15 @@ use lib.ListN.{length}
 use Rattle.higman.specs.Words.{Word}
 use Rattle.higman.specs.Text.{Bytes, bytes, lineEnd, wordBytes, decimal}
 use Rattle.higman.specs.Bases.{all}
-use Rattle.higman.specs.Tables.{Pair, Table}
 use Rattle.higman.specs.Limits.{Plan}
 use Rattle.higman.specs.Refusals.{Letter}
 use Rattle.higman.specs.Listing.{slotByte, joinLines, listing}
 use Rattle.higman.specs.Theorems.{SlotsExact, DecimalsExact}
+use Rattle.higman.specs.Places.{Placed}
 use Rattle.desk.specs.Limits.{maxLine}
 use Rattle.desk.specs.Records.{Record, P, M, E, F, I, K, S, W, L, C, T, U, X, Z, G, fields, parse, recordFields, recordText}
 use Rattle.desk.specs.Records.{noTab, wellFormed, Right, noRight, mayRead, mayWrite}
-use Rattle.desk.specs.Replies.{Held, pairsIn, silent, ok, okNumber, okWord, okBlock, lists, surveys, refuses}
+use Rattle.desk.specs.Replies.{Held, pairsIn, silent, ok, okNumber, okImage, okBlock, lists, surveys, refuses}
 use Rattle.desk.specs.Bytes.{lineOf, okLine, partFields, heldFields, replyBytes}
 
 -- "1, unknown letter, wrong number of fields, a field form": every other line is the text of the record that it is read as.
@@ -101,14 +101,16 @@ pub record RepliesWritten : Type 0 where
   pub letters : bytes "BFT" ≡ 66 ∷ 70 ∷ 84 ∷ []
   -- "Neither replies when accepted."
   pub nothing : replyBytes silent ≡ []
-  -- `ok`; `ok⇥` and a number; `ok⇥` and an image
+  -- `ok`; `ok⇥` and a number; `ok⇥`, an image and a place
   pub done : LineOf (replyBytes ok) (bytes "ok" ∷ [])
   pub number : (n : ℕ) → LineOf (replyBytes (okNumber n)) (bytes "ok" ∷ decimal n ∷ [])
-  pub word : (w : Word) → LineOf (replyBytes (okWord w)) (bytes "ok" ∷ wordBytes w ∷ [])
-  -- W: "one line `B⇥from⇥to` for every pair .. and closes with `ok⇥` and how many" (change request E1)
-  pub part : (p : Pair) → LineOf (lineOf (partFields p)) (bytes "B" ∷ wordBytes (p .from) ∷ wordBytes (p .to) ∷ [])
-  pub block : (t : Table)
-      → replyBytes (okBlock t) ≡ joinLines (map (λ p. lineOf (partFields p)) t) ++ okLine (decimal (length t) ∷ [])
+  pub image : (w : Word) (k : ℕ) → LineOf (replyBytes (okImage w k)) (bytes "ok" ∷ wordBytes w ∷ decimal k ∷ [])
+  -- W: "one line `B⇥from⇥to` for every pair .. and closes with `ok⇥` and how many" (change request E1); "The lines of E1 gain the same
+  -- field .. closed by `ok⇥2` as before" (change request E7)
+  pub part : (l : Placed)
+      → LineOf (lineOf (partFields l)) (bytes "B" ∷ wordBytes (l .pair .from) ∷ wordBytes (l .pair .to) ∷ decimal (l .place) ∷ [])
+  pub block : (ls : List Placed)
+      → replyBytes (okBlock ls) ≡ joinLines (map (λ l. lineOf (partFields l)) ls) ++ okLine (decimal (length ls) ∷ [])
   pub plan : (b : ℕ) (p : Plan) → replyBytes (lists b p) ≡ listing b p
   -- "A refusal is `no⇥` and its number; those of E for a column add ⇥F or ⇥T (from, to)."
   pub refusal : (n : ℕ) → LineOf (replyBytes (refuses n none)) (bytes "no" ∷ decimal n ∷ [])

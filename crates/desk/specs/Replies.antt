@@ -13,14 +13,14 @@ use lib.IntN.{pos}
 use lib.ListN.{length, replicate}
 use Rattle.higman.specs.Words.{Shape, Word, given, spell}
 use Rattle.higman.specs.Bases.{all}
-use Rattle.higman.specs.Tables.{Table, row, φ, ψ}
+use Rattle.higman.specs.Tables.{Table, froms, row, φ, ψ}
 use Rattle.higman.specs.Normal.{joined, normal, normalForm, keep, compose, inverse}
 use Rattle.higman.specs.Limits.{Plan, shapeInRange, granted, isCode, maxPairs, maxDigits, maxCode, maxPower, slotCount, isPlanWord}
 use Rattle.higman.specs.Limits.{powerInRange, seedInRange}
 use Rattle.higman.specs.Answers.{Verdict, Accepted, InFrom, InTo, verdict, reasonNumber, Answer, Granted, Refused, refusalNumber}
 use Rattle.higman.specs.Answers.{followed, inverted, powered, Comparison, Alike, NotCompared, same, Route, Image, TooShort, NotRouted}
 use Rattle.higman.specs.Answers.{routed}
-use Rattle.higman.specs.Fronts.{block}
+use Rattle.higman.specs.Places.{placeOf, Placed, placedFrom, placedBlock}
 use Rattle.higman.specs.Exercises.{nextDraw, drawn, grown, shuffled, exercised, exercise}
 use Rattle.higman.specs.Refusals.{noRecord, wrongState, shapeOutside, badWord, pairsFull, slotOutside, slotEmpty, powerOutside, countFull}
 use Rattle.higman.specs.Refusals.{stationOutside, stationRefused, rightMissing, Letter}
@@ -41,12 +41,12 @@ pub record Held : Type 0 where
 pub data Reply : Type 0 where
   -- "Neither replies when accepted": P and M
   silent : Reply
-  -- `ok`; `ok⇥` and a number; `ok⇥` and an image
+  -- `ok`; `ok⇥` and a number; `ok⇥`, an image and a place (change request E7)
   ok : Reply
   okNumber : ℕ → Reply
-  okWord : Word → Reply
-  -- a line `B⇥from⇥to` for each of these pairs, and `ok⇥` and how many (change request E1)
-  okBlock : Table → Reply
+  okImage : Word → ℕ → Reply
+  -- a line `B⇥from⇥to⇥place` for each of these pairs, and `ok⇥` and how many (change requests E1 and E7)
+  okBlock : List Placed → Reply
   -- the plan as P, M and E records that name the slot
   lists : ℕ → Plan → Reply
   -- a line for each of these, as they stand, and `ok⇥` and how many
@@ -118,11 +118,12 @@ abbrev pub ofComparison : Comparison → Outcome Bool
 ofComparison (Alike b) = pass b
 ofComparison (NotCompared r) = refuse (refusalNumber r) none
 
--- W: the image of a code or, where it is too short for one, its block. "W no longer gives 13" (change request E1).
-abbrev pub ofRoute : Table → Route → Outcome Reply
-ofRoute inside (Image v) = pass (okWord v)
-ofRoute inside TooShort = pass (okBlock inside)
-ofRoute inside (NotRouted r) = refuse (refusalNumber r) none
+-- W, by the route of the code w under p: the image and the place of the pair that it comes from or, where the code is too short for an
+-- image, its block. "W no longer gives 13" (change request E1).
+abbrev pub ofRoute : Plan → Word → Route → Outcome Reply
+ofRoute p w (Image v) = pass (okImage v (placeOf (froms (p .rows)) w))
+ofRoute p w TooShort = pass (okBlock (placedBlock (p .rows) w))
+ofRoute p w (NotRouted r) = refuse (refusalNumber r) none
 
 -- `ok⇥1` or `ok⇥0`
 abbrev pub bit : Bool → ℕ
@@ -223,7 +224,7 @@ job d (W a code) = do
   -- 9
   p ← planIn d a
   -- 4
-  reply ← ofRoute (block (p .rows) (wordOf code)) (routed p (wordOf code))
+  reply ← ofRoute p (wordOf code) (routed p (wordOf code))
   pass (d, reply)
 job d (L a) = do
   -- 9
@@ -354,10 +355,10 @@ fullCount = atCount (changed freshDesk 0 (some (plan21 ψ))) maxChanges
 
 full-count-example : map (λ r. settle fullCount (operation fullCount r) .1)
     (T ∷ C (byte "A") ∷ C (byte "B") ∷ I (byte "A") (byte "B") ∷ K (byte "A") (pos 1001) (byte "B") ∷ X (byte "B") 2 1 2 1 ∷ X (byte "B") 2 1 2 0 ∷ W (byte "A") (bytes "12") ∷ [])
-    ≡ okNumber 4_000_000_000 ∷ refuses 16 none ∷ refuses 9 none ∷ refuses 16 none ∷ refuses 12 none ∷ refuses 16 none ∷ refuses 17 none ∷ okWord (spell 122) ∷ []
+    ≡ okNumber 4_000_000_000 ∷ refuses 16 none ∷ refuses 9 none ∷ refuses 16 none ∷ refuses 12 none ∷ refuses 16 none ∷ refuses 17 none ∷ okImage (spell 122) 3 ∷ []
 unfolding _>>=_ operation admission job kind neededRight freshDesk changed slotCount stationCount maxRight maxChanges maxPower inverted
-    inverse keep normalForm normal joined routed isCode maxCode digitOf shapeInRange seedInRange maxPairs maxDigits exercise exercised grown
-    shuffled drawn nextDraw
+    inverse keep normalForm normal joined routed placeOf isCode maxCode digitOf shapeInRange seedInRange maxPairs maxDigits exercise exercised
+    grown shuffled drawn nextDraw
 full-count-example = refl
 
 -- ψ in slot A and φ in slot B
@@ -375,12 +376,12 @@ surveyed-example : map (λ h. h .slot) (surveyed (changed (changed twoPlans 7 (s
 unfolding surveyed seen freshDesk changed slotCount stationCount maxRight
 surveyed-example = refl
 
--- W by ψ: an image, the blocks of 11 and of the belt, and a wrong digit
+-- W by ψ: an image by the second pair, the blocks of 11 and of the belt, and a wrong digit
 front-example : map (λ code. settle twoPlans (operation twoPlans (W (byte "A") (bytes code))) .1)
     ("1122" ∷ "11" ∷ "1" ∷ "13" ∷ [])
-    ≡ okWord (spell 1212) ∷ okBlock (row 111 11 ∷ row 112 121 ∷ []) ∷ okBlock ψ ∷ refuses 4 none ∷ []
-unfolding _>>=_ operation admission job kind neededRight freshDesk changed slotCount stationCount maxRight routed block isCode maxCode
-    digitOf
+    ≡ okImage (spell 1212) 2 ∷ okBlock (placedFrom 1 (row 111 11 ∷ row 112 121 ∷ [])) ∷ okBlock (placedFrom 1 ψ) ∷ refuses 4 none ∷ []
+unfolding _>>=_ operation admission job kind neededRight freshDesk changed slotCount stationCount maxRight routed placeOf placedBlock
+    isCode maxCode digitOf
 front-example = refl
 
 emptied-example : settle twoPlans (operation twoPlans (C (byte "B"))) .0 ≡ atCount (changed freshDesk 0 (some (plan21 ψ))) 3
@@ -404,12 +405,13 @@ rights-example : map (λ r. settle haulier (operation haulier r) .1)
     (S (byte "A") (byte "A") ∷ S (byte "A") (byte "B") ∷ S (byte "B") (byte "I") ∷ L (byte "A") ∷ L (byte "B")
     ∷ W (byte "A") (bytes "12") ∷ C (byte "A") ∷ C (byte "C") ∷ I (byte "A") (byte "A")
     ∷ I (byte "A") (byte "C") ∷ K (byte "B") (pos 1001) (byte "C") ∷ P (byte "A") 1 1 ∷ P (byte "C") 1 1 ∷ X (byte "B") 1 1 2 1 ∷ U ∷ [])
-    ≡ okNumber 1 ∷ refuses 20 none ∷ refuses 8 none ∷ lists (byte "A") (plan21 ψ) ∷ refuses 20 none ∷ okWord (spell 122)
+    ≡ okNumber 1 ∷ refuses 20 none ∷ refuses 8 none ∷ lists (byte "A") (plan21 ψ) ∷ refuses 20 none ∷ okImage (spell 122) 3
     ∷ refuses 20 none ∷ refuses 9 none ∷ refuses 20 none
     ∷ okNumber 3 ∷ refuses 20 none ∷ refuses 20 none ∷ refuses 3 none ∷ refuses 20 none
     ∷ surveys (record { slot = 0; plan = plan21 ψ } ∷ []) ∷ []
 unfolding _>>=_ operation admission job surveyed seen kind neededRight freshDesk changed withRight atStation slotCount stationCount maxRight
-    maxChanges same inverted inverse keep normalForm normal joined shapeInRange routed isCode maxCode digitOf
+    maxChanges same inverted inverse keep normalForm normal joined shapeInRange routed placeOf isCode maxCode
+    digitOf
 rights-example = refl
 
 -- G from station 0: a right for station 7, for itself, for a station that there isn't, and on a slot that there isn't; and from station 1

@@ -13,7 +13,7 @@ use Rattle.higman.specs.Bases.{all}
 use Rattle.higman.specs.Normal.{joined, normal, normalForm, keep, compose, inverse, identity}
 use Rattle.higman.specs.Limits.{isPlanWord, maxPairs, maxDigits, maxCode, maxPower, shapeInRange, granted, isCode, slotCount}
 use Rattle.higman.specs.Answers.{verdict, followed, inverted, raised, powered, routed}
-use Rattle.higman.specs.Fronts.{block}
+use Rattle.higman.specs.Places.{placeOf, placedBlock}
 use Rattle.higman.specs.Text.{digitOf, lineEnd, Bytes, byte, bytes, lines}
 use Rattle.higman.specs.Refusals.{noRecord}
 use Rattle.higman.specs.Listing.{joinLines}
@@ -87,7 +87,7 @@ finish s = elim (isIdle s) [ true ↦ (dropped (s .desk), []) | false ↦ let r 
 abbrev pub fedWhole : State → Bytes → Bytes
 fedWhole s input = let r = feed s input in r .1 ++ finish (r .0) .1
 
--- document 01, "A session in full", with the block that change request E1 gives for its `no⇥13`
+-- document 01, "A session in full", with the block that change request E1 gives for its `no⇥13`, and the places of change request E7
 abbrev pub inputInFull : Bytes
 inputInFull =
     lines (
@@ -107,7 +107,7 @@ abbrev pub outputInFull : Bytes
 outputInFull =
     lines (
     "ok\t3" ∷
-    "ok\t1212" ∷
+    "ok\t1212\t2" ∷
     "ok\t4" ∷
     "P\tB\t2\t1" ∷
     "M\t1111\t11" ∷
@@ -115,8 +115,8 @@ outputInFull =
     "M\t112\t1221" ∷
     "M\t12\t1222" ∷
     "E" ∷
-    "B\t111\t11" ∷
-    "B\t112\t121" ∷
+    "B\t111\t11\t1" ∷
+    "B\t112\t121\t2" ∷
     "ok\t2" ∷  -- lines
     "ok\t2" ∷  -- changes
     [])
@@ -142,5 +142,5 @@ overlong-example = refl
 session-in-full : session inputInFull ≡ outputInFull
 unfolding session run replyBytes _>>=_ respondLine lineOperation operation admission job kind neededRight parse grammar freshDesk changed
     withDraft dropped slotCount stationCount maxRight maxChanges maxLine maxNumeral isPlanWord digitOf maxPairs maxDigits maxCode maxPower
-    shapeInRange granted isCode verdict followed inverted raised powered routed block keep compose inverse identity normalForm normal joined
+    shapeInRange granted isCode verdict followed inverted raised powered routed placeOf placedBlock keep compose inverse identity normalForm normal joined
 session-in-full = refl

@@ -9,10 +9,10 @@ use mathlib.Core.List.{List, [], _∷_, _++_, map, List·Memᴰ}
 use mathlib.Core.Option.{Option, none, some}
 use lib.Dec.{T}
 use lib.ListN.{length}
-use Rattle.higman.specs.Words.{Shape}
+use Rattle.higman.specs.Words.{Shape, Word, begins}
 use Rattle.higman.specs.Text.{Bytes, lineEnd, wordOf}
 use Rattle.higman.specs.Bases.{all}
-use Rattle.higman.specs.Tables.{Table}
+use Rattle.higman.specs.Tables.{Table, Pair}
 use Rattle.higman.specs.Normal.{keep}
 use Rattle.higman.specs.Limits.{Plan, Bases, Kept, shapeInRange, isPlanWord, maxPairs}
 use Rattle.higman.specs.Refusals.{bufferTooShort, invalidValue, Letter}
@@ -21,10 +21,11 @@ use Rattle.higman.specs.Fronts.{BlockOf, SendsInTurn}
 use Rattle.higman.specs.Shortest.{ActsAs, NotShorter}
 use Rattle.higman.specs.Listing.{slotNumber, slotByte, isSlot, openRecord, pairRecords, joinLines}
 use Rattle.higman.specs.Buffers.{written, OnlyOutputChanges}
+use Rattle.higman.specs.Places.{Placed, pairsOf, AtPlace, RoutesAt}
 use Rattle.desk.specs.Limits.{maxChanges}
 use Rattle.desk.specs.Desk.{Desk, countOf, ownRight, held, IsDesk, isDesk, freshDesk, changed, withDraft, dropped}
 use Rattle.desk.specs.Records.{Record, P, M, E, W, L, U, recordText, wellFormed}
-use Rattle.desk.specs.Replies.{refuse, pass, Effect, lists, surveys, Held, pairsIn, okNumber, okBlock, refuses, operation}
+use Rattle.desk.specs.Replies.{refuse, pass, Effect, lists, surveys, Held, pairsIn, okNumber, okBlock, refuses, operation, okImage}
 use Rattle.desk.specs.Replies.{respondLine, run, deskAfter}
 use Rattle.desk.specs.Bytes.{replyBytes}
 use Rattle.desk.specs.Session.{linesFrom, unended, State, idle, feed, finish, fedWhole, session}
@@ -73,9 +74,19 @@ pub record SurveyExact : Type 0 where
 -- of every longer code what a and then b do to it.
 abbrev pub BlockReplied : Type 0
 BlockReplied =
-    (d : Desk) → IsDesk d → (c : ℕ) (code : Bytes) (lines : Table) → operation d (W c code) ≡ pass (d, okBlock lines)
-    → (r : Plan) × (held d (slotNumber c) ≡ some r) × BlockOf r (wordOf code) lines
-    × ((a b : Plan) → Kept a → Kept b → followed a b ≡ Granted r → SendsInTurn a b (wordOf code) lines)
+    (d : Desk) → IsDesk d → (c : ℕ) (code : Bytes) (lines : List Placed) → operation d (W c code) ≡ pass (d, okBlock lines)
+    → (r : Plan) × (held d (slotNumber c) ≡ some r) × BlockOf r (wordOf code) (pairsOf lines)
+    × ((a b : Plan) → Kept a → Kept b → followed a b ≡ Granted r → SendsInTurn a b (wordOf code) (pairsOf lines))
+
+-- Change request E7: where W gives an image and a place, the pair at that place of the plan in the slot makes the image, and the from-word
+-- of no other place begins the code; and every line of a block has the place of its pair. `PlacesExact.listed` finds them in L's reply.
+pub record PlacesReplied : Type 0 where
+  pub image : (d : Desk) → IsDesk d → (c : ℕ) (code : Bytes) (v : Word) (k : ℕ) → operation d (W c code) ≡ pass (d, okImage v k)
+      → (r : Plan) × (held d (slotNumber c) ≡ some r) × RoutesAt (r .rows) (wordOf code) v k
+      × ((j : ℕ) (p : Pair) → AtPlace (r .rows) j p → T (begins (p .from) (wordOf code)) → j ≡ k)
+  pub lines : (d : Desk) (c : ℕ) (code : Bytes) (lines : List Placed) → operation d (W c code) ≡ pass (d, okBlock lines)
+      → (r : Plan) × (held d (slotNumber c) ≡ some r)
+      × ((l : Placed) → List·Memᴰ l lines → AtPlace (r .rows) (l .place) (l .pair))
 
 -- two pieces, one after the other
 abbrev pub feedBoth : State → Bytes → Bytes → State × Bytes

@@ -15,7 +15,7 @@ use lib.Seq.{drop-cons, length-take-le}
 use Rattle.higman.specs.Words.{Word, after, given, begins, beginsProperly}
 use Rattle.higman.specs.Tables.{Pair, Table, froms, firstMatch, image}
 use Rattle.higman.specs.Limits.{Plan, Kept}
-use Rattle.higman.specs.Listing.{openRecord, pairRecord, pairRecords, closeRecord, joinLines, listing}
+use Rattle.higman.specs.Listing.{openRecord, pairRecord, pairRecords, closeRecord, joinLines}
 use Rattle.higman.specs.Fronts.{block}
 use Rattle.higman.specs.Places.{placeOf, Placed, placedFrom, extendingIn, placedBlock, pairsOf, AtPlace, ListedAt, RoutesAt, PlacesExact}
 use Rattle.higman.proofs.Tests.{passes, clash, so}

@@ -26,13 +26,13 @@ isSlot b = leb (byte "A") b && leb (suc b) (slotByte slotCount)
 abbrev pub openRecord : ℕ → Shape → Bytes
 openRecord slot s = 80 ∷ tab ∷ slot ∷ tab ∷ digitByte (s .arity) ∷ tab ∷ digitByte (s .roots) ∷ lineEnd ∷ []
 
--- a letter and the words of a pair
-abbrev pub pairLine : ℕ → Pair → Bytes
-pairLine letter p = letter ∷ tab ∷ (wordBytes (p .from) ++ tab ∷ (wordBytes (p .to) ++ lineEnd ∷ []))
+-- a letter and the words of a pair, the fields that a line of it begins with
+abbrev pub pairFields : ℕ → Pair → Bytes
+pairFields letter p = letter ∷ tab ∷ (wordBytes (p .from) ++ tab ∷ wordBytes (p .to))
 
 -- M⇥from⇥to
 abbrev pub pairRecord : Pair → Bytes
-pairRecord p = pairLine 77 p
+pairRecord p = pairFields 77 p ++ lineEnd ∷ []
 
 -- E
 abbrev pub closeRecord : Bytes
