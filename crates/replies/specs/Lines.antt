@@ -7,9 +7,14 @@ use Rattle.higman.specs.Limits.{maxPairs}
 use Rattle.higman.specs.Text.{bytes, decimal}
 use Rattle.desk.specs.Bytes.{lineOf, okLine, noLine}
 
--- W: "`ok⇥` and the image": the place behind `ok` and a tab
+-- W: "`ok⇥` and the image": what stands before the image is `ok` and a tab
 abbrev pub imageAt : ℕ
 imageAt = 3
+
+-- "`ok⇥`", an image of so many digits that stands there, and a place (change request E7): one of a plan, and room for the longest such line
+pub record ImageFits (digits place size : ℕ) : Type 0 where
+  pub place-granted : place ≤ maxPairs
+  pub room : digits + 8 ≤ size
 
 -- "`slot⇥n⇥r⇥pairs`": n and r of one digit, the pairs of a plan, and room for the longest such line from a place on
 pub record HeldFits (arity roots pairs at size : ℕ) : Type 0 where
@@ -19,8 +24,13 @@ pub record HeldFits (arity roots pairs at size : ℕ) : Type 0 where
   pub room : at + 10 ≤ size
 
 -- the image is what stands there in the line
-imageAt-example : take 4 (drop imageAt (okLine (bytes "1212" ∷ []))) ≡ bytes "1212"
+imageAt-example : take 4 (drop imageAt (okLine (bytes "1212" ∷ decimal 2 ∷ []))) ≡ bytes "1212"
 imageAt-example = refl
+
+-- the longest line of an image of four digits has twelve bytes
+image-room-example : length (okLine (bytes "1212" ∷ decimal maxPairs ∷ [])) ≡ 12
+unfolding maxPairs
+image-room-example = refl
 
 -- the longest line of a held slot has ten bytes
 held-example : lineOf (bytes "H" ∷ decimal 9 ∷ decimal 9 ∷ decimal maxPairs ∷ []) ≡ bytes "H\t9\t9\t128\n"

@@ -7,7 +7,7 @@ ghost use lib.ListN.{length, take, drop};
 ghost use Rattle.higman.specs.Text.{tab, decimal};
 ghost use Rattle.words.specs.Writing.{Wrote};
 ghost use Rattle.desk.specs.Bytes.{lineOf, okLine, noLine};
-ghost use Rattle.replies.specs.Lines.{imageAt, HeldFits};
+ghost use Rattle.replies.specs.Lines.{imageAt, ImageFits, HeldFits};
 use words::writing;
 
 // A line's first two bytes.
@@ -17,15 +17,6 @@ fn put_two(first: u8, second: u8, out: &mut [u8], at: usize) -> usize
 {
     let second_at = writing::put(first, out, at);
     writing::put(second, out, second_at)
-}
-
-// A tab and a number in decimal.
-fn put_decimal(k: u32, out: &mut [u8], at: usize) -> usize
-    requires { ⌜ at + length (decimal k) < length (now out) ⌝ }
-    ensures { λ r. ⌜ Wrote (tab ∷ decimal k) (now (out .entry)) at (now (out .exit)) r ⌝ }
-{
-    let number_at = writing::put(b'\t', out, at);
-    writing::put_number(k, out, number_at)
 }
 
 // C's `ok`.
@@ -43,7 +34,7 @@ pub fn ok_number(k: u32, out: &mut [u8], at: usize) -> usize
     ensures { λ r. ⌜ Wrote (okLine (decimal k ∷ [])) (now (out .entry)) at (now (out .exit)) r ⌝ }
 {
     let number_at = put_two(b'o', b'k', out, at);
-    let end_at = put_decimal(k, out, number_at);
+    let end_at = writing::put_decimal(k, out, number_at);
     writing::put(b'\n', out, end_at)
 }
 
@@ -53,7 +44,7 @@ pub fn no(number: u8, out: &mut [u8], at: usize) -> usize
     ensures { λ r. ⌜ Wrote (noLine (decimal number ∷ [])) (now (out .entry)) at (now (out .exit)) r ⌝ }
 {
     let number_at = put_two(b'n', b'o', out, at);
-    let end_at = put_decimal(number as u32, out, number_at);
+    let end_at = writing::put_decimal(number as u32, out, number_at);
     writing::put(b'\n', out, end_at)
 }
 
@@ -63,7 +54,7 @@ pub fn no_column(number: u8, letter: u8, out: &mut [u8], at: usize) -> usize
     ensures { λ r. ⌜ Wrote (noLine (decimal number ∷ (letter ∷ []) ∷ [])) (now (out .entry)) at (now (out .exit)) r ⌝ }
 {
     let number_at = put_two(b'n', b'o', out, at);
-    let letter_at = put_decimal(number as u32, out, number_at);
+    let letter_at = writing::put_decimal(number as u32, out, number_at);
     let end_at = writing::put_field(letter, out, letter_at);
     writing::put(b'\n', out, end_at)
 }
@@ -75,19 +66,21 @@ pub fn held(slot: u8, arity: u8, roots: u8, pairs: usize, out: &mut [u8], at: us
         (now (out .entry)) at (now (out .exit)) r ⌝ }
 {
     let arity_at = writing::put(slot, out, at);
-    let roots_at = put_decimal(arity as u32, out, arity_at);
-    let pairs_at = put_decimal(roots as u32, out, roots_at);
-    let end_at = put_decimal(pairs as u32, out, pairs_at);
+    let roots_at = writing::put_decimal(arity as u32, out, arity_at);
+    let pairs_at = writing::put_decimal(roots as u32, out, roots_at);
+    let end_at = writing::put_decimal(pairs as u32, out, pairs_at);
     writing::put(b'\n', out, end_at)
 }
 
-// W's `ok⇥` and the image. The image stands in its place already, where its route has written it; `ok⇥` goes in front of it and the
-// line's end behind it.
-pub fn ok_image(n: usize, out: &mut [u8]) -> usize
-    requires { ⌜ n + 4 ≤ length (now out) ⌝ }
-    ensures { λ r. ⌜ Wrote (okLine (take n (drop imageAt (now (out .entry))) ∷ [])) (now (out .entry)) 0 (now (out .exit)) r ⌝ }
+// W's `ok⇥`, the image and the place of its pair. The image stands there already, where its route has written it; `ok⇥` goes in front of
+// it, and the place and the line's end behind it.
+pub fn ok_image(n: usize, place: usize, out: &mut [u8]) -> usize
+    requires { ⌜ ImageFits n place (length (now out)) ⌝ }
+    ensures { λ r. ⌜ Wrote (okLine (take n (drop imageAt (now (out .entry))) ∷ decimal place ∷ []))
+        (now (out .entry)) 0 (now (out .exit)) r ⌝ }
 {
     let tab_at = put_two(b'o', b'k', out, 0);
     let image_at = writing::put(b'\t', out, tab_at);
-    writing::put(b'\n', out, image_at + n)
+    let end_at = writing::put_decimal(place as u32, out, image_at + n);
+    writing::put(b'\n', out, end_at)
 }

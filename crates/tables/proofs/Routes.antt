@@ -1,12 +1,13 @@
 -- Routing a code of any length: the word of a column that begins it begins its front, the tail behind that word is a part of the code,
 -- and the image, in bytes, is the to-word's bytes and then that part.
-use Prim.Native.Nat.{ℕ, _+_, _-_, _≤_, _<_}
+use Prim.Native.Nat.{ℕ, suc, _+_, _-_, _≤_, _<_}
 use mathlib.Core.Path.{_≡_, refl, sym, _∙_, ap, ap₂, subst}
 use mathlib.Core.Logic.{_⊎_, inl, inr}
 use mathlib.Core.Bool.{true, false}
 use mathlib.Core.List.{List, [], _∷_, _++_, append-nil, append-assoc, map-append}
 use mathlib.Core.Option.{Option, none, some, Option·getD}
 use native.Mathlib.Nat.{zero-add}
+use native.Mathlib.Numerals.{add-one}
 use native.Mathlib.Omega.{arith}
 use lib.Dec.{leb}
 use lib.ListN.{length, take, drop, length-append, length-drop, length-map, take-append-drop, drop-of-length-le}
@@ -14,6 +15,7 @@ use lib.Seq.{take-all, take-at, drop-at, drop-drop}
 use borrow.Author.Tests.{leb-true, leb-false}
 use Rattle.higman.specs.Words.{Word, begins}
 use Rattle.higman.specs.Tables.{firstMatch, image}
+use Rattle.higman.specs.Places.{placeOf}
 use Rattle.higman.specs.Text.{digitByte, wordBytes, digitOf, wordOf}
 use Rattle.higman.specs.Limits.{maxDigits}
 use Rattle.higman.proofs.Tests.{passes, Ways, ways-of-test}
@@ -59,20 +61,37 @@ place-of-front column x w r t e p =
         sym (begins-take u w maxDigits (packed-length _ (packed-at column t k h))) ∙ ap (begins u) (sym e)
 
 module _ (column : List ℕ) (w : Word) (k : ℕ) (f : FirstIn column w k) where
-  digits-found : firstMatch (λ u. u) (λ place u tail. length u) (wordsOf column) w
-      ≡ firstMatch unpack (λ place x tail. length (unpack x)) column w
-  digits-found = match-map (λ u. u) unpack (λ place u tail. length u) column w
+  -- a number made of the word that begins w, or 0
+  module _ (make : ℕ → Word → Word → ℕ) where
+    made-found : (h : k < length column)
+        → Option·getD (firstMatch (λ u. u) make (wordsOf column) w) 0 ≡ make k (wordAt column k) (drop (length (wordAt column k)) w)
+    made-found h =
+        let tail = after-drop (wordAt column k) w (f .found h) in
+        ap (λ o. Option·getD o 0)
+        (match-map (λ u. u) unpack make column w ∙ match-found unpack 0 (λ j x. make j (unpack x)) column w k f h _ tail)
 
-  pub matched-digits : k < length column → matchedDigits (wordsOf column) w ≡ length (wordAt column k)
-  unfolding matchedDigits
-  matched-digits h =
-      let tail = after-drop (wordAt column k) w (f .found h) in
-      ap (λ o. Option·getD o 0) (digits-found ∙ match-found unpack 0 (λ place x tail. length (unpack x)) column w k f h _ tail)
+    made-nowhere : k ≡ length column → Option·getD (firstMatch (λ u. u) make (wordsOf column) w) 0 ≡ 0
+    made-nowhere e =
+        ap (λ o. Option·getD o 0)
+        (match-map (λ u. u) unpack make column w ∙ match-nowhere unpack 0 (λ j x. make j (unpack x)) column w k f e)
 
-  pub matched-none : k ≡ length column → matchedDigits (wordsOf column) w ≡ 0
-  unfolding matchedDigits
-  matched-none e =
-      ap (λ o. Option·getD o 0) (digits-found ∙ match-nowhere unpack 0 (λ place x tail. length (unpack x)) column w k f e)
+  module _ (h : k < length column) where
+    pub matched-digits : matchedDigits (wordsOf column) w ≡ length (wordAt column k)
+    unfolding matchedDigits
+    matched-digits = made-found (λ before u tail. length u) h
+
+    pub matched-place : placeOf (wordsOf column) w ≡ k + 1
+    unfolding placeOf
+    matched-place = made-found (λ before u tail. suc before) h ∙ sym (add-one k)
+
+  module _ (e : k ≡ length column) where
+    pub matched-none : matchedDigits (wordsOf column) w ≡ 0
+    unfolding matchedDigits
+    matched-none = made-nowhere (λ before u tail. length u) e
+
+    pub matched-nowhere : placeOf (wordsOf column) w ≡ 0
+    unfolding placeOf
+    matched-nowhere = made-nowhere (λ before u tail. suc before) e
 
 -- a word that begins a code has no more digits than the code has bytes
 pub begins-within : (p : Word) (code : List ℕ) → begins p (wordOf code) ≡ true → length p ≤ length code
@@ -138,23 +157,23 @@ written-part out s t whole back e w h b =
     ∙ ap₂ (λ k l. take k l ++ written (drop k l) 0 t) (w .place ∙ zero-add (length s)) (w .contents)
     ∙ written-behind out s t h
 
--- the three answers, by the image of the code
-module _ (out : List ℕ) {o : Option Word} where
-  pub route-too-short : o ≡ none → (TooShort ≡ routedIn o (length out)) × (out ≡ routedInto o out)
-  route-too-short e = (sym (ap (λ o. routedIn o (length out)) e), sym (ap (λ o. routedInto o out) e))
+-- the three answers, by the image of the code and the place of the pair
+module _ (out : List ℕ) (k : ℕ) {o : Option Word} where
+  pub route-too-short : o ≡ none → (TooShort ≡ routedIn k o (length out)) × (out ≡ routedInto o out)
+  route-too-short e = (sym (ap (λ o. routedIn k o (length out)) e), sym (ap (λ o. routedInto o out) e))
 
   module _ (v : Word) (e : o ≡ some v) where
-    pub route-no-room : length out < length (wordBytes v) → (NoRoom ≡ routedIn o (length out)) × (out ≡ routedInto o out)
+    pub route-no-room : length out < length (wordBytes v) → (NoRoom ≡ routedIn k o (length out)) × (out ≡ routedInto o out)
     route-no-room h =
         let size = length (wordBytes v) in (
-          sym (ap (λ o. routedIn o (length out)) e ∙ without-room size (length out) (Image size) NoRoom h),
+          sym (ap (λ o. routedIn k o (length out)) e ∙ without-room size (length out) (Image size k) NoRoom h),
           sym (ap (λ o. routedInto o out) e ∙ lent-as-it-was (wordBytes v) out h),
         )
 
     pub route-image : length (wordBytes v) ≤ length out
-        → (Image (length (wordBytes v)) ≡ routedIn o (length out)) × (written out 0 (wordBytes v) ≡ routedInto o out)
+        → (Image (length (wordBytes v)) k ≡ routedIn k o (length out)) × (written out 0 (wordBytes v) ≡ routedInto o out)
     route-image h =
         let size = length (wordBytes v) in (
-          sym (ap (λ o. routedIn o (length out)) e ∙ with-room size (length out) (Image size) NoRoom h),
+          sym (ap (λ o. routedIn k o (length out)) e ∙ with-room size (length out) (Image size k) NoRoom h),
           sym (ap (λ o. routedInto o out) e ∙ lent-written (wordBytes v) out h),
         )

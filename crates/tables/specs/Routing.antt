@@ -39,10 +39,10 @@ unmatched c code = drop (matchedDigits c (wordOf code)) code
 abbrev pub further : ℕ → ℕ × ℕ → ℕ × ℕ
 further n place = (place .0, n + place .1)
 
--- what routing a code with this image answers, with room for so many bytes
-abbrev pub routedIn : Option Word → ℕ → Routed
-routedIn none room = TooShort
-routedIn (some v) room = ifRoom (length (wordBytes v)) room (Image (length (wordBytes v))) NoRoom
+-- what routing a code by the pair at a place, with this image, answers, with room for so many bytes
+abbrev pub routedIn : ℕ → Option Word → ℕ → Routed
+routedIn place none room = TooShort
+routedIn place (some v) room = ifRoom (length (wordBytes v)) room (Image (length (wordBytes v)) place) NoRoom
 
 -- and what the buffer then holds
 abbrev pub routedInto : Option Word → List ℕ → List ℕ
@@ -55,7 +55,7 @@ unfolding matchedDigits digitOf
 unmatched-example = refl
 
 -- room for all four bytes, for three of them, and a code that is too short
-routedIn-example : (routedIn (some (spell 1212)) 4 ≡ Image 4) × (routedIn (some (spell 1212)) 3 ≡ NoRoom) × (routedIn none 4 ≡ TooShort)
+routedIn-example : (routedIn 2 (some (spell 1212)) 4 ≡ Image 4 2) × (routedIn 2 (some (spell 1212)) 3 ≡ NoRoom) × (routedIn 0 none 4 ≡ TooShort)
 routedIn-example = (refl, refl, refl)
 
 routedInto-example : map (routedInto (some (spell 12))) ((7 ∷ 7 ∷ 7 ∷ []) ∷ (7 ∷ []) ∷ []) ≡ (49 ∷ 50 ∷ 7 ∷ []) ∷ (7 ∷ []) ∷ []

@@ -1,15 +1,15 @@
 // The listing of a plan as P, M and E records, and the pairs of a block, written into a lent buffer (document 01, "Records"; change
-// request E1). Each function writes its bytes from a place on and returns the place behind them; the rest of the buffer stays as it was.
+// requests E1 and E7). Each function writes its bytes from a place on and returns the place behind them; the rest of the buffer stays as it was.
 ghost use mathlib.Core.Path.{_≡_};
 ghost use Prim.Native.Nat.{ℕ, _+_, _≤_};
 ghost use lib.ListN.{length};
 ghost use Rattle.higman.specs.Words.{Shape};
 ghost use Rattle.higman.specs.Limits.{maxPairs};
-ghost use Rattle.higman.specs.Listing.{openRecord, pairLine, pairRecord, closeRecord, listing};
+ghost use Rattle.higman.specs.Listing.{openRecord, pairFields, pairRecord, closeRecord, listing};
 ghost use Rattle.words.specs.Bytes.{shape};
 ghost use Rattle.words.specs.Writing.{Wrote};
 ghost use Rattle.columns.specs.Packed.{pairOf, table};
-ghost use Rattle.tables.specs.Lines.{pairLines, planOfColumns};
+ghost use Rattle.tables.specs.Lines.{pairLines, placed, blockLine, blockLines, BlockFits, planOfColumns};
 use words::writing;
 
 // The bytes of the P record and the E record.
@@ -31,14 +31,32 @@ fn open_line(slot: u8, arity: u8, roots: u8, out: &mut [u8], at: usize) -> usize
     writing::put(b'\n', out, end_at)
 }
 
-// The line of a pair: a letter and its words.
-fn pair_line(letter: u8, from: u64, to: u64, out: &mut [u8], at: usize) -> usize
-    requires { ⌜ at + length (pairLine letter (pairOf from to)) ≤ length (now out) ⌝ }
-    ensures { λ r. ⌜ Wrote (pairLine letter (pairOf from to)) (now (out .entry)) at (now (out .exit)) r ⌝ }
+// A letter and the words of a pair, the fields that a line of it begins with.
+fn pair_fields(letter: u8, from: u64, to: u64, out: &mut [u8], at: usize) -> usize
+    requires { ⌜ at + length (pairFields letter (pairOf from to)) ≤ length (now out) ⌝ }
+    ensures { λ r. ⌜ Wrote (pairFields letter (pairOf from to)) (now (out .entry)) at (now (out .exit)) r ⌝ }
 {
     let from_at = writing::put(letter, out, at);
     let to_at = writing::put_word(from, out, from_at);
-    let end_at = writing::put_word(to, out, to_at);
+    writing::put_word(to, out, to_at)
+}
+
+// The M record of a pair.
+fn pair_line(from: u64, to: u64, out: &mut [u8], at: usize) -> usize
+    requires { ⌜ at + length (pairRecord (pairOf from to)) ≤ length (now out) ⌝ }
+    ensures { λ r. ⌜ Wrote (pairRecord (pairOf from to)) (now (out .entry)) at (now (out .exit)) r ⌝ }
+{
+    let end_at = pair_fields(b'M', from, to, out, at);
+    writing::put(b'\n', out, end_at)
+}
+
+// The line of a pair in a block, with its place.
+fn block_line(from: u64, to: u64, place: u32, out: &mut [u8], at: usize) -> usize
+    requires { ⌜ at + length (blockLine (placed place from to)) ≤ length (now out) ⌝ }
+    ensures { λ r. ⌜ Wrote (blockLine (placed place from to)) (now (out .entry)) at (now (out .exit)) r ⌝ }
+{
+    let place_at = pair_fields(b'B', from, to, out, at);
+    let end_at = writing::put_decimal(place, out, place_at);
     writing::put(b'\n', out, end_at)
 }
 
@@ -51,15 +69,29 @@ fn close_line(out: &mut [u8], at: usize) -> usize
     writing::put(b'\n', out, end_at)
 }
 
-// The lines of all pairs: M records, or those of a block.
-pub fn pair_lines(letter: u8, from: &[u64], to: &[u64], out: &mut [u8], at: usize) -> usize
-    requires { ⌜ (length (now from) ≡ length (now to)) × (at + length (pairLines letter (now from) (now to)) ≤ length (now out)) ⌝ }
-    ensures { λ r. ⌜ Wrote (pairLines letter (now (from .entry)) (now (to .entry))) (now (out .entry)) at (now (out .exit)) r ⌝ }
+// The M records of all pairs.
+fn pair_lines(from: &[u64], to: &[u64], out: &mut [u8], at: usize) -> usize
+    requires { ⌜ (length (now from) ≡ length (now to)) × (at + length (pairLines (now from) (now to)) ≤ length (now out)) ⌝ }
+    ensures { λ r. ⌜ Wrote (pairLines (now (from .entry)) (now (to .entry))) (now (out .entry)) at (now (out .exit)) r ⌝ }
 {
     let mut next = at;
     let mut i = 0;
     while i < from.len() {
-        next = pair_line(letter, from[i], to[i], out, next);
+        next = pair_line(from[i], to[i], out, next);
+        i += 1;
+    }
+    next
+}
+
+// The lines of a block, all pairs of these columns, from the place of the first one on.
+pub fn block_lines(from: &[u64], to: &[u64], first: usize, out: &mut [u8], at: usize) -> usize
+    requires { ⌜ BlockFits first (now from) (now to) at (length (now out)) ⌝ }
+    ensures { λ r. ⌜ Wrote (blockLines first (now (from .entry)) (now (to .entry))) (now (out .entry)) at (now (out .exit)) r ⌝ }
+{
+    let mut next = at;
+    let mut i = 0;
+    while i < from.len() {
+        next = block_line(from[i], to[i], (first + i) as u32, out, next);
         i += 1;
     }
     next
@@ -73,7 +105,7 @@ pub fn list_into(slot: u8, arity: u8, roots: u8, from: &[u64], to: &[u64], out: 
         (now (out .entry)) 0 (now (out .exit)) r ⌝ }
 {
     let pairs_at = open_line(slot, arity, roots, out, 0);
-    let close_at = pair_lines(b'M', from, to, out, pairs_at);
+    let close_at = pair_lines(from, to, out, pairs_at);
     close_line(out, close_at)
 }
 

@@ -5,6 +5,7 @@ ghost use Prim.Native.Nat.{_≤_};
 ghost use lib.ListN.{length, take, drop};
 ghost use Rattle.higman.specs.Limits.{maxDigits};
 ghost use Rattle.higman.specs.Tables.{image};
+ghost use Rattle.higman.specs.Places.{placeOf};
 ghost use Rattle.words.specs.Packed.{unpack};
 ghost use Rattle.higman.specs.Text.{wordOf};
 ghost use Rattle.higman.specs.Buffers.{written};
@@ -15,8 +16,8 @@ ghost use Rattle.tables.specs.Routing.{IsCode, Searchable, matchedDigits
 
 // What routing a code into a buffer answers.
 pub enum Routed {
-    // the number of bytes of the image, which stand in the buffer
-    Image(usize),
+    // the number of bytes of the image, which stand in the buffer, and the place of the pair that it comes from
+    Image(usize, usize),
     // no from-word begins the code
     TooShort,
     // the image has more bytes than the buffer
@@ -35,7 +36,7 @@ pub fn front(code: &[u8]) -> u64
     }
 }
 
-// The place of the from-word that begins a code, or the column's length where none does.
+// Where in the column the from-word stands that begins a code, counted from 0, or the column's length where none does.
 pub fn place_of(from: &[u64], code: &[u8]) -> usize
     requires { ⌜ Searchable (now from) ⌝ }
     requires { ⌜ IsCode (now code) ⌝ }
@@ -54,17 +55,21 @@ fn behind(w: u64, code: &[u8]) -> &[u8]
     &code[start..]
 }
 
-// The unmatched tail, as a part of the code: what stands behind the from-word that begins it, or the whole code where none does.
-pub fn unmatched<'a>(from: &[u64], code: &'a [u8]) -> &'a [u8]
+// The unmatched tail, as a part of the code: what stands behind the from-word that begins it, or the whole code where none does. The place
+// of that word, counted from 1, is written to `place`, and 0 where there is none.
+pub fn unmatched<'a>(from: &[u64], code: &'a [u8], place: &mut usize) -> &'a [u8]
     requires { ⌜ Searchable (now from) ⌝ }
     requires { ⌜ IsCode (now code) ⌝ }
     ensures { λ r. ⌜ now r ≡ unmatched (wordsOf (now (from .entry))) (now (code .entry)) ⌝ }
     ensures { λ r. ⌜ r .ptr ≡ further (matchedDigits (wordsOf (now (from .entry))) (wordOf (now (code .entry)))) ((code .entry) .ptr) ⌝ }
+    ensures { λ r. ⌜ now (place .exit) ≡ placeOf (wordsOf (now (from .entry))) (wordOf (now (code .entry))) ⌝ }
 {
     let k = place_of(from, code);
     if k < from.len() {
+        *place = k + 1;
         behind(from[k], code)
     } else {
+        *place = 0;
         code
     }
 }
@@ -81,11 +86,12 @@ fn copy(tail: &[u8], out: &mut [u8])
     }
 }
 
-// Routes a code: writes its image from the start of a buffer on, the to-word and right behind it the tail.
+// Routes a code: writes its image from the start of a buffer on, the to-word and right behind it the tail, and tells the pair's place.
 pub fn route_into(from: &[u64], to: &[u64], code: &[u8], out: &mut [u8]) -> Routed
     requires { ⌜ Operand (now from) (now to) ⌝ }
     requires { ⌜ IsCode (now code) ⌝ }
-    ensures { λ r. ⌜ r ≡ routedIn (image (table (now (from .entry)) (now (to .entry))) (wordOf (now (code .entry)))) (length (now (out .entry))) ⌝ }
+    ensures { λ r. ⌜ r ≡ routedIn (placeOf (wordsOf (now (from .entry))) (wordOf (now (code .entry))))
+        (image (table (now (from .entry)) (now (to .entry))) (wordOf (now (code .entry)))) (length (now (out .entry))) ⌝ }
     ensures { λ r. ⌜ now (out .exit) ≡ routedInto (image (table (now (from .entry)) (now (to .entry))) (wordOf (now (code .entry)))) (now (out .entry)) ⌝ }
 {
     let k = place_of(from, code);
@@ -102,5 +108,5 @@ pub fn route_into(from: &[u64], to: &[u64], code: &[u8], out: &mut [u8]) -> Rout
     }
     let end = words::writing::write(to[k], out, 0);
     copy(tail, &mut out[end..]);
-    Routed::Image(end + tail.len())
+    Routed::Image(end + tail.len(), k + 1)
 }

@@ -53,6 +53,15 @@ pub fn put_number(k: u32, out: &mut [u8], at: usize) -> usize
     put(b'0' + (k % 10) as u8, out, last_at)
 }
 
+// A tab and a number in decimal.
+pub fn put_decimal(k: u32, out: &mut [u8], at: usize) -> usize
+    requires { ⌜ at + length (decimal k) < length (now out) ⌝ }
+    ensures { λ r. ⌜ Wrote (tab ∷ decimal k) (now (out .entry)) at (now (out .exit)) r ⌝ }
+{
+    let number_at = put(b'\t', out, at);
+    put_number(k, out, number_at)
+}
+
 // A tab and a word.
 pub fn put_word(w: u64, out: &mut [u8], at: usize) -> usize
     requires { ⌜ at + length (unpack w) < length (now out) ⌝ }

@@ -14,7 +14,7 @@ use Rattle.tables.proofs.list.listing_length.Statement.{statement}
 use Rattle.tables.proofs.list.listing_length.Tie as tie
 
 record Measuring (from to : List ℕ) (sum row : ℕ) : Type 0 where
-  sized : sum + length (pairLines 77 (drop row from) (drop row to)) ≡ 10 + length (pairLines 77 from to)
+  sized : sum + length (pairLines (drop row from) (drop row to)) ≡ 10 + length (pairLines from to)
   within : row ≤ length from
   small : sum ≤ 10 + 36 * row
 
@@ -66,7 +66,7 @@ loop-again : tie.Need-loop-again Inv-loop μ-loop
 loop-again c =
     let l = c .before .before .before .before in
     let a = l .before .before .before .args in
-    let rest = lines-size 77 (a .from .now) (a .to .now) (l .loop .row) (omega arith) (omega arith) in
+    let rest = lines-size (a .from .now) (a .to .now) (l .loop .row) (omega arith) (omega arith) in
     let small = small-record c in
     record { sized = omega arith; within = omega arith; small = omega arith }
 
@@ -74,7 +74,7 @@ returns : tie.Need-returns Inv-loop μ-loop
 returns c slot s =
     let l = c .before in
     let a = l .before .before .before .args in
-    let none = lines-none 77 (a .from .now) (a .to .now) (l .loop .row) (c .loop-test .left) in
+    let none = lines-none (a .from .now) (a .to .now) (l .loop .row) (c .loop-test .left) in
     omega (arith, ap length none, listing-size slot s (table (a .from .now) (a .to .now)))
 
 pub listing-length-spec : {M : Type 1} → statement M

@@ -8,7 +8,7 @@ use Rattle.tables.proofs.list.pair_length.Statement.{statement}
 use Rattle.tables.proofs.list.pair_length.Tie as tie
 
 returns : tie.Need-returns
-returns c = let a = c .before .before .args in omega (arith, pair-size 77 (pairOf (a .from) (a .to)))
+returns c = let a = c .before .before .args in omega (arith, pair-size (pairOf (a .from) (a .to)))
 
 pub pair-length-spec : {M : Type 1} → statement M
 pair-length-spec =

@@ -1,50 +1,29 @@
--- `tables::list::pair_line` meets its contract: the letter, the two words and the line end are one run. That each has room follows from
--- the length of the whole record, `pair-size`.
+-- `tables::list::pair_line` meets its contract: the fields and the line end are one run.
 use borrow.Author.Needs.{needs}
 use native.Mathlib.Omega.{arith}
-use Rattle.words.specs.Packed.{unpack}
 use Rattle.columns.specs.Packed.{pairOf}
-use Rattle.words.proofs.Runs.{word-size, wrote-then}
-use Rattle.tables.proofs.Records.{pair-size}
+use Rattle.words.proofs.Runs.{wrote-then}
+use Rattle.tables.proofs.Records.{fields-size, pair-size}
 use Rattle.tables.proofs.list.pair_line.Statement.{statement}
 use Rattle.tables.proofs.list.pair_line.Tie as tie
 
-put-word-requires : tie.Need-put-word-requires
-put-word-requires c κs =
+pair-fields-requires : tie.Need-pair-fields-requires
+pair-fields-requires c κs =
+    let a = c .before .before .args in
+    omega (arith, fields-size 77 (pairOf (a .from) (a .to)), pair-size (pairOf (a .from) (a .to)))
+
+put-requires : tie.Need-put-requires
+put-requires c κs =
     let a = c .before .before .before .before .before .before .args in
-    omega (arith, pair-size (a .letter) (pairOf (a .from) (a .to)))
-
-put-word-requires-2 : tie.Need-put-word-requires-2
-put-word-requires-2 c κs =
-    let a = c .before .before .before .before .before .before .before .before .before .before .args in
-    omega (arith, pair-size (a .letter) (pairOf (a .from) (a .to)), word-size (unpack (a .from)))
-
-put-requires-2 : tie.Need-put-requires-2
-put-requires-2 c κs =
-    let a = c .before .before .before .before .before .before .before .before .before .before .before .before .before .before .args in
-    omega (arith, pair-size (a .letter) (pairOf (a .from) (a .to)), word-size (unpack (a .from)), word-size (unpack (a .to)))
+    omega (arith, fields-size 77 (pairOf (a .from) (a .to)), pair-size (pairOf (a .from) (a .to)))
 
 returns : tie.Need-returns
 returns c =
     let end = c .before .before in
-    let to = end .before .before .before .before in
-    let from = to .before .before .before .before in
-    let letter = from .before .before .before .before in
-    let a = letter .before .before .before .args in
-    let size = pair-size (a .letter) (pairOf (a .from) (a .to)) in
-    let left = word-size (unpack (a .from)) in
-    wrote-then
-    (omega arith)
-    (letter .put .ensures)
-    (wrote-then (omega arith) (from .put-word .ensures) (wrote-then (omega arith) (to .put-word2 .ensures) (end .put2 .ensures)))
+    let fields = end .before .before .before .before in
+    let a = fields .before .before .before .args in
+    let size = pair-size (pairOf (a .from) (a .to)) in
+    wrote-then (omega arith) (fields .pair-fields .ensures) (end .put .ensures)
 
 pub pair-line-spec : {M : Type 1} → statement M
-pair-line-spec =
-    tie.close
-    (tie.spec
-    (λ c κs. search needs)
-    put-word-requires
-    put-word-requires-2
-    put-requires-2
-    (λ c. search needs)
-    returns)
+pair-line-spec = tie.close (tie.spec pair-fields-requires put-requires (λ c. search needs) returns)

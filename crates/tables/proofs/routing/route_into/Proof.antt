@@ -1,6 +1,6 @@
 -- `tables::routing::route_into` meets its contract: the image is the to-word at the place found, and behind it the tail.
-use Prim.Native.Nat.{_+_, _≤_}
-use mathlib.Core.Path.{_≡_, sym, _∙_, ap}
+use Prim.Native.Nat.{ℕ, _+_, _≤_}
+use mathlib.Core.Path.{_≡_, sym, _∙_, ap, ap₂}
 use mathlib.Core.List.{_++_}
 use mathlib.Core.Option.{some}
 use borrow.Author.Needs.{needs}
@@ -8,15 +8,16 @@ use native.Mathlib.Omega.{arith}
 use lib.ListN.{length, drop}
 use Rattle.higman.specs.Words.{Word}
 use Rattle.higman.specs.Tables.{image}
+use Rattle.higman.specs.Places.{placeOf}
 use Rattle.higman.specs.Text.{wordBytes, wordOf}
 use Rattle.higman.specs.Buffers.{written}
 use Rattle.words.proofs.Runs.{word-size}
-use Rattle.columns.specs.Packed.{table}
+use Rattle.columns.specs.Packed.{wordsOf, table}
 use Rattle.columns.specs.Columns.{wordAt}
 use Rattle.columns.proofs.Search.{FirstIn, first-of-place}
 use Rattle.tables.specs.declared.routing.Routed.the-variants.{Image}
 use Rattle.tables.proofs.Lookup.{image-nowhere}
-use Rattle.tables.proofs.Routes.{begins-within, routed-word, image-of-code, routed-length, routed-bytes, written-part, route-too-short, route-no-room, route-image}
+use Rattle.tables.proofs.Routes.{matched-place, begins-within, routed-word, image-of-code, routed-length, routed-bytes, written-part, route-too-short, route-no-room, route-image}
 use Rattle.tables.proofs.routing.route_into.Statement.{statement}
 use Rattle.tables.proofs.routing.route_into.Tie as tie
 
@@ -27,6 +28,10 @@ first : (c : tie.After-place-of) →
 first c =
     let a = c .before .before .before .before .before .args in
     first-of-place (a .from .now) (wordOf (a .code .now)) (c .place-of .result) (c .place-of .ensures)
+
+-- its place, counted from 1
+abbrev placed : tie.After-place-of → ℕ
+placed c = let a = c .before .before .before .before .before .args in placeOf (wordsOf (a .from .now)) (wordOf (a .code .now))
 
 -- where there is one, these are the image and its length
 abbrev routed : tie.Else1 → Word
@@ -83,7 +88,7 @@ returns c =
     let s = p .before .before .before .before .before in
     let a = s .args in
     let end : p .place-of .result ≡ length (a .from .now) = omega (arith, first p .within) in
-    route-too-short (a .out .now)
+    route-too-short (a .out .now) (placed p)
     (image-nowhere (a .from .now) (a .to .now) (s .pre .0 .plain .long) (wordOf (a .code .now)) (p .place-of .result) (first p) end)
 
 behind-requires : tie.Need-behind-requires
@@ -97,14 +102,15 @@ returns-2 c =
     let l = c .before in
     let e = l .before .before .before .before in
     let a = e .before .before .before .before .before .before .args in
-    route-no-room (a .out .now) (routed e) (image-is e) (omega (arith, long e))
+    route-no-room (a .out .now) (placed (e .before)) (routed e) (image-is e) (omega (arith, long e))
 
 returns-3 : tie.Need-returns-3
 returns-3 c =
     let l = c .before .before in
     let e = l .before .before .before .before in
     let a = e .before .before .before .before .before .before .args in
-    route-no-room (a .out .now) (routed e) (image-is e) (omega (arith, long e, ap length (l .before .before .behind .ensures .0)))
+    route-no-room (a .out .now) (placed (e .before)) (routed e) (image-is e)
+    (omega (arith, long e, ap length (l .before .before .behind .ensures .0)))
 
 sub-copy : tie.Need-sub-copy
 sub-copy c = omega (arith, behind-head (c .before .before))
@@ -131,9 +137,10 @@ returns-4 c =
     let d = w .before .before .before in
     let size : w .write .result + length (b .behind .result .now) ≡ length (wordBytes (routed e)) =
     omega (arith, long e, ap length (b .behind .ensures .0), behind-head w) in
-    let answer = route-image (a .out .now) (routed e) (image-is e) (room d) in
+    let place : k + 1 ≡ placed (e .before) = sym (matched-place (a .from .now) (wordOf (a .code .now)) k (first (e .before)) (e .if1 .left)) in
+    let answer = route-image (a .out .now) (placed (e .before)) (routed e) (image-is e) (room d) in
     let bytes = routed-bytes (a .from .now) (a .to .now) (s .pre .0) (a .code .now) (s .pre .1) k (e .if1 .left) (first (e .before)) in (
-      ap Image size ∙ answer .0,
+      ap₂ Image size place ∙ answer .0,
       written-part (a .out .now) (wordBytes head) (b .behind .result .now) (w .write .last .1 .0) (y .copy .last .1 .0) (w .write .result)
           (w .write .ensures) (omega (arith, long e, word-size head)) (y .copy .ensures)
           ∙ ap (written (a .out .now) 0) (ap (λ l. wordBytes head ++ l) (b .behind .ensures .0) ∙ sym bytes)
@@ -164,5 +171,6 @@ route-into-spec =
     (λ c. search needs)
     copy-requires
     add-t16
+    (λ c. search needs)
     (λ c. search needs)
     returns-4)

@@ -7,7 +7,7 @@ use Rattle.higman.specs.Text.{wordOf}
 use Rattle.columns.specs.Columns.{wordAt}
 use Rattle.columns.proofs.Search.{FirstIn, first-of-place}
 use Rattle.tables.specs.Routing.{further}
-use Rattle.tables.proofs.Routes.{here, matched-digits, matched-none, begins-within}
+use Rattle.tables.proofs.Routes.{here, matched-digits, matched-place, matched-none, matched-nowhere, begins-within}
 use Rattle.tables.proofs.routing.unmatched.Statement.{statement}
 use Rattle.tables.proofs.routing.unmatched.Tie as tie
 
@@ -21,31 +21,45 @@ first c =
 
 behind-requires : tie.Need-behind-requires
 behind-requires c κs =
-    let p = c .before .before in
+    let t = c .before in
+    let p = t .before in
     let a = p .before .before .before .args in
-    begins-within (wordAt (a .from .now) (p .place-of .result)) (a .code .now) (first p .found (c .before .if1 .taken))
+    begins-within (wordAt (a .from .now) (p .place-of .result)) (a .code .now) (first p .found (t .if1 .taken))
 
 returns : tie.Need-returns
 returns c =
     let t = c .before .before in
     let p = t .before in
     let a = p .before .before .before .args in
-    let found = sym (matched-digits (a .from .now) (wordOf (a .code .now)) (p .place-of .result) (first p) (t .if1 .taken)) in
-    (c .behind .ensures .0 ∙ ap (λ n. drop n (a .code .now)) found, c .behind .ensures .1 ∙ ap (λ n. further n (a .code .ptr)) found)
+    let w = wordOf (a .code .now) in
+    let found = sym (matched-digits (a .from .now) w (p .place-of .result) (first p) (t .if1 .taken)) in (
+      c .behind .ensures .0 ∙ ap (λ n. drop n (a .code .now)) found,
+      (
+        c .behind .ensures .1 ∙ ap (λ n. further n (a .code .ptr)) found,
+        sym (matched-place (a .from .now) w (p .place-of .result) (first p) (t .if1 .taken)),
+      ),
+    )
 
 returns-2 : tie.Need-returns-2
 returns-2 c =
     let p = c .before in
     let a = p .before .before .before .args in
     let end : p .place-of .result ≡ length (a .from .now) = omega (arith, first p .within) in
-    let none = sym (matched-none (a .from .now) (wordOf (a .code .now)) (p .place-of .result) (first p) end) in
-    (ap (λ n. drop n (a .code .now)) none, here (a .code .ptr) ∙ ap (λ n. further n (a .code .ptr)) none)
+    let w = wordOf (a .code .now) in
+    let none = sym (matched-none (a .from .now) w (p .place-of .result) (first p) end) in (
+      ap (λ n. drop n (a .code .now)) none,
+      (
+        here (a .code .ptr) ∙ ap (λ n. further n (a .code .ptr)) none,
+        sym (matched-nowhere (a .from .now) w (p .place-of .result) (first p) end),
+      ),
+    )
 
 pub unmatched-spec : {M : Type 1} → statement M
 unmatched-spec =
     tie.close
     (tie.spec
     (λ c κs. search needs)
+    (λ c. search needs)
     (λ c. search needs)
     (λ c. search needs)
     behind-requires

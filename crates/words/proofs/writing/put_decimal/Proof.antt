@@ -1,9 +1,9 @@
--- `replies::put_decimal` meets its contract: the tab and the number are one run.
+-- `words::writing::put_decimal` meets its contract: the tab and the number are one run.
 use borrow.Author.Needs.{needs}
 use native.Mathlib.Omega.{arith}
 use Rattle.words.proofs.Runs.{wrote-then}
-use Rattle.replies.proofs.put_decimal.Statement.{statement}
-use Rattle.replies.proofs.put_decimal.Tie as tie
+use Rattle.words.proofs.writing.put_decimal.Statement.{statement}
+use Rattle.words.proofs.writing.put_decimal.Tie as tie
 
 returns : tie.Need-returns
 returns c =
