@@ -1,7 +1,7 @@
 -- Codes under the columns that a plan lends: when a code is one that a plan routes, and what match and route answer, case by case: 4,
 -- and then by the image of the code.
 use Prim.Native.Nat.{ℕ, _≤_, _<_}
-use mathlib.Core.Path.{_≡_, refl, sym, _∙_, ap}
+use mathlib.Core.Path.{_≡_, refl, sym, _∙_, ap, ap₂}
 use mathlib.Core.Bool.{Bool, true, false, _&&_, and-true, and-false}
 use mathlib.Core.List.{List}
 use mathlib.Core.Option.{Option, none, some}
@@ -10,6 +10,7 @@ use lib.Dec.{T, leb}
 use lib.ListN.{length, drop, length-map}
 use Rattle.higman.specs.Words.{Shape, Word, isWord}
 use Rattle.higman.specs.Tables.{image}
+use Rattle.higman.specs.Places.{placeOf}
 use Rattle.higman.specs.Limits.{shapeInRange, isCode, maxCode}
 use Rattle.higman.specs.Refusals.{badWord, bufferTooShort}
 use Rattle.higman.specs.Answers as Of
@@ -19,7 +20,8 @@ use Rattle.higman.proofs.Tests.{T-of, and-left, word-of-test, test-of-ways}
 use Rattle.higman.proofs.KeptPlans.{in-range}
 use Rattle.higman.proofs.PlanWords.{ways-of-word}
 use Rattle.words.specs.Bytes.{shape}
-use Rattle.columns.specs.Packed.{table}
+use Rattle.columns.specs.Packed.{wordsOf, table}
+use Rattle.columns.proofs.Rearranged.{froms-table}
 use Rattle.tables.specs.Lines.{planOfColumns}
 use Rattle.tables.specs.Routing.{IsCode, Searchable, matchedDigits, further, routedIn, routedInto}
 use Rattle.tables.specs.declared.routing.Routed.{Routed}
@@ -28,7 +30,7 @@ use Rattle.tables.proofs.Routes.{here}
 use Rattle.operations.specs.declared.Route.{Route}
 use Rattle.operations.specs.declared.Route.the-variants.{Image, TooShort, Refused}
 use Rattle.operations.specs.Plans.{LentPlan}
-use Rattle.operations.specs.Routing.{matchedIn, routingIn, imageInto}
+use Rattle.operations.specs.Routing.{matchedIn, matchedPlaceIn, routingIn, routingBy, imageInto}
 use Rattle.operations.proofs.KeptValues.{lent-operand}
 
 pub code-limit : maxCode ≡ 1024
@@ -59,19 +61,19 @@ module _ (s : Shape) (code : List ℕ) where
 
 -- the reply to what was found in the columns
 abbrev pub replied : Routed → Route
-replied (Table.Image n) = Image n
+replied (Table.Image n k) = Image n k
 replied Table.TooShort = TooShort
 replied Table.NoRoom = Refused bufferTooShort
 
 abbrev found : Option Word → Of.Route
 found o = elim o [ some v ↦ Of.Image v | none ↦ Of.TooShort ]
 
-replied-is : (o : Option Word) (room : ℕ) → replied (routedIn o room) ≡ routingIn (found o) room
-replied-is none room = refl
-replied-is (some v) room = by-room (leb (length (wordBytes v)) room)
+replied-is : (k : ℕ) (o : Option Word) (room : ℕ) → replied (routedIn k o room) ≡ routingIn k (found o) room
+replied-is k none room = refl
+replied-is k (some v) room = by-room (leb (length (wordBytes v)) room)
   where
-    by-room : (b : Bool) → replied (elim b [ true ↦ Table.Image (length (wordBytes v)) | false ↦ Table.NoRoom ])
-        ≡ elim b [ true ↦ Image (length (wordBytes v)) | false ↦ Refused bufferTooShort ]
+    by-room : (b : Bool) → replied (elim b [ true ↦ Table.Image (length (wordBytes v)) k | false ↦ Table.NoRoom ])
+        ≡ elim b [ true ↦ Image (length (wordBytes v)) k | false ↦ Refused bufferTooShort ]
     by-room true = refl
     by-room false = refl
 
@@ -90,6 +92,12 @@ module _ (s : Shape) (from : List Word) (code : List ℕ) where
   pub matched-code : isCode s (wordOf code) ≡ true → matchedDigits from (wordOf code) ≡ matchedIn s from code
   matched-code k = sym (rw (k, matchedIn))
 
+  pub place-no-code : isCode s (wordOf code) ≡ false → 0 ≡ matchedPlaceIn s from code
+  place-no-code k = sym (rw (k, matchedPlaceIn))
+
+  pub place-code : isCode s (wordOf code) ≡ true → placeOf from (wordOf code) ≡ matchedPlaceIn s from code
+  place-code k = sym (rw (k, matchedPlaceIn))
+
 module _ (arity roots : ℕ) (from to : List ℕ) (lent : LentPlan arity roots from to) (code : List ℕ) where
   abbrev answer : Of.Route
   answer = routed (planOfColumns arity roots from to) (wordOf code)
@@ -99,8 +107,11 @@ module _ (arity roots : ℕ) (from to : List ℕ) (lent : LentPlan arity roots f
       let o = lent-operand arity roots from to lent in
       record { packed = o .plain .from-packed; in-order = o .in-order; apart = o .apart }
 
+  abbrev reply : ℕ → Route
+  reply room = routingBy (planOfColumns arity roots from to) (wordOf code) room
+
   pub route-no-code : (out : List ℕ) → isCode (shape arity roots) (wordOf code) ≡ false
-      → (Refused badWord ≡ routingIn answer (length out)) × (out ≡ imageInto answer out)
+      → (Refused badWord ≡ reply (length out)) × (out ≡ imageInto answer out)
   unfolding routed
   route-no-code out k = (sym (rw (k, routed)), sym (rw (k, routed)))
 
@@ -112,11 +123,14 @@ module _ (arity roots : ℕ) (from to : List ℕ) (lent : LentPlan arity roots f
     unfolding routed
     routed-is = rw (k, routed)
 
-    pub route-found : (out : List ℕ) (r : Routed) (out′ : List ℕ) → r ≡ routedIn (image (table from to) (wordOf code)) (length out)
+    pub route-found : (out : List ℕ) (r : Routed) (out′ : List ℕ)
+        → r ≡ routedIn (placeOf (wordsOf from) (wordOf code)) (image (table from to) (wordOf code)) (length out)
         → out′ ≡ routedInto (image (table from to) (wordOf code)) out
-        → (replied r ≡ routingIn answer (length out)) × (out′ ≡ imageInto answer out)
+        → (replied r ≡ reply (length out)) × (out′ ≡ imageInto answer out)
     route-found out r out′ e f =
-        let o = image (table from to) (wordOf code) in (
-          ap replied e ∙ replied-is o (length out) ∙ ap (λ x. routingIn x (length out)) (sym routed-is),
+        let o = image (table from to) (wordOf code) in
+        let column = sym (froms-table from to (lent .paired)) in (
+          ap replied e ∙ replied-is (placeOf (wordsOf from) (wordOf code)) o (length out)
+              ∙ ap₂ (λ c x. routingIn (placeOf c (wordOf code)) x (length out)) column (sym routed-is),
           f ∙ buffer-is o out ∙ ap (λ x. imageInto x out) (sym routed-is),
         )

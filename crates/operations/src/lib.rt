@@ -72,8 +72,8 @@ pub enum Likeness {
 
 // "A route replies with an image, a code too short, or another refusal."
 pub enum Route {
-    // the number of bytes of the image, which stand at the front of the buffer
-    Image(usize),
+    // the number of bytes of the image, which stand at the front of the buffer, and the place of the pair that it comes from
+    Image(usize, usize),
     // the code is a proper beginning of a from-word: 13
     TooShort,
     // the number of another refusal

@@ -12,7 +12,7 @@ ghost use Rattle.columns.specs.Packed.{wordsOf};
 ghost use Rattle.tables.specs.Lines.{planOfColumns};
 ghost use Rattle.tables.specs.Routing.{further};
 ghost use Rattle.operations.specs.Plans.{LentPlan};
-ghost use Rattle.operations.specs.Routing.{matchedIn, routingIn, imageInto};
+ghost use Rattle.operations.specs.Routing.{matchedIn, matchedPlaceIn, routingBy, imageInto};
 use crate::Route;
 use crate::numbers;
 use tables::routing::Routed;
@@ -30,23 +30,32 @@ fn is_code(code: &[u8], arity: u8, roots: u8) -> bool
     words::spells(code, arity, roots)
 }
 
-// The unmatched tail, as a part of the parcel's code; the whole code where no from-word begins it, or 4 applies.
-pub fn unmatched<'a>(arity: u8, roots: u8, from: &[u64], code: &'a [u8]) -> &'a [u8]
+// The unmatched tail, as a part of the parcel's code; the whole code where no from-word begins it, or 4 applies. The from-word's place,
+// counted from 1, is written to `place`, and 0 where the tail is the whole code.
+pub fn unmatched<'a>(
+    arity: u8,
+    roots: u8,
+    from: &[u64],
+    code: &'a [u8],
+    place: &mut usize,
+) -> &'a [u8]
     requires { ⌜ ((to : List ℕ) × LentPlan arity roots (now from) to) ⌝ }
     ensures { λ r. ⌜ now r ≡ drop (matchedIn (shape arity roots) (wordsOf (now (from .entry))) (now (code .entry))) (now (code .entry)) ⌝ }
     ensures { λ r. ⌜ r .ptr ≡ further (matchedIn (shape arity roots) (wordsOf (now (from .entry))) (now (code .entry)))
         ((code .entry) .ptr) ⌝ }
+    ensures { λ _. ⌜ now (place .exit) ≡ matchedPlaceIn (shape arity roots) (wordsOf (now (from .entry))) (now (code .entry)) ⌝ }
 {
     if !is_code(code, arity, roots) {
+        *place = 0;
         return code;
     }
-    tables::routing::unmatched(from, code)
+    tables::routing::unmatched(from, code, place)
 }
 
-// Writes a code's image at the front of the buffer. 4, 13, 14.
+// Writes a code's image at the front of the buffer, and tells the place of the pair. 4, 13, 14.
 pub fn route(arity: u8, roots: u8, from: &[u64], to: &[u64], code: &[u8], out: &mut [u8]) -> Route
     requires { ⌜ LentPlan arity roots (now from) (now to) ⌝ }
-    ensures { λ r. ⌜ r ≡ routingIn (routed (planOfColumns arity roots (now (from .entry)) (now (to .entry))) (wordOf (now (code .entry))))
+    ensures { λ r. ⌜ r ≡ routingBy (planOfColumns arity roots (now (from .entry)) (now (to .entry))) (wordOf (now (code .entry)))
         (length (now (out .entry))) ⌝ }
     ensures { λ _. ⌜ now (out .exit) ≡ imageInto (routed (planOfColumns arity roots (now (from .entry)) (now (to .entry)))
         (wordOf (now (code .entry)))) (now (out .entry)) ⌝ }
@@ -55,7 +64,7 @@ pub fn route(arity: u8, roots: u8, from: &[u64], to: &[u64], code: &[u8], out: &
         return Route::Refused(numbers::BAD_WORD);
     }
     match tables::routing::route_into(from, to, code, out) {
-        Routed::Image(digits) => Route::Image(digits),
+        Routed::Image(digits, place) => Route::Image(digits, place),
         Routed::TooShort => Route::TooShort,
         Routed::NoRoom => Route::Refused(numbers::BUFFER_TOO_SHORT),
     }

@@ -5,7 +5,7 @@ use mathlib.Core.Path.{_≡_, refl, sym, _∙_, ap, subst}
 use mathlib.Core.Logic.{_↔_, _⊎_, inl, inr}
 use mathlib.Core.Bool.{Bool, true, false, _&&_}
 use mathlib.Core.List.{List, [], _∷_, _++_, List·Memᴰ, List·Memᴰ·head, List·Memᴰ·tail, List·Memᴰ·cases-cons, List·Memᴰ·not-nil}
-use mathlib.Core.List.{Memᴰ·map, Memᴰ·of-map}
+use mathlib.Core.List.{Memᴰ·map, Memᴰ·of-map, Memᴰ·append-right}
 use mathlib.Core.Option.{Option, none, some, Option·getD}
 use native.Mathlib.Omega.{arith}
 use borrow.Author.Tests.{le-leb, lt-leb, eq-eqb}
@@ -23,8 +23,9 @@ use Rattle.higman.specs.Buffers.{written}
 use Rattle.higman.specs.Listing.{isSlot, listing as linesOf}
 use Rattle.higman.specs.Refusals.{bufferTooShort}
 use Rattle.higman.specs.Answers as Of
-use Rattle.higman.proofs.Tests.{passes, so, T-of, and-left, and-right, and-intro, all-head, all-tail, all-cons}
-use Rattle.higman.proofs.Prefixes.{tail-of-begins, comparable}
+use Rattle.higman.specs.Places.{placeOf, AtPlace, RoutesAt}
+use Rattle.higman.proofs.Tests.{passes, so, T-of, and-left, and-right, and-intro, all-head, all-tail, all-cons, clash}
+use Rattle.higman.proofs.Prefixes.{tail-of-begins, comparable, begins-append}
 use Rattle.higman.proofs.Proper.{Apart}
 use Rattle.higman.proofs.Matches.{after-none}
 use Rattle.higman.proofs.Columns.{column-is-basis}
@@ -32,6 +33,8 @@ use Rattle.higman.proofs.Buffers.{with-room, without-room, lent-written, lent-a
 use Rattle.higman.proofs.Answers.{shape-path, followed-is}
 use Rattle.higman.proofs.KeptPlans.{in-range, arity-of-range, member-of-kept}
 use Rattle.higman.proofs.Statements.{TableOf, table-of, normal-form, answers-exact}
+use Rattle.higman.proofs.Places.{places-exact}
+use Rattle.higman.proofs.Images.{row-of-image}
 use Rattle.words.specs.Packed.{unpack}
 use Rattle.words.proofs.Codes.{digits-drop, after-drop}
 use Rattle.columns.specs.Packed.{wordsOf}
@@ -45,8 +48,8 @@ use Rattle.operations.specs.declared.Route.the-variants as Reply
 use Rattle.operations.specs.Plans.{shapeOf, rowsOf, planOf, zeros, isColumn, inTable, isDraft, isPlan, packed, blank}
 use Rattle.plans.specs.Answers.{judgementOf, judged, keeping, following, raising, alike}
 use Rattle.operations.specs.Answers.{refusing, making}
-use Rattle.plans.specs.Routing.{matched, matching, routing, routedBuffer}
-use Rattle.operations.specs.Routing.{matchedIn, routingIn, imageInto}
+use Rattle.plans.specs.Routing.{matched, matching, matchedPlace, routing, routedBuffer}
+use Rattle.operations.specs.Routing.{matchedIn, matchedPlaceIn, routingIn, imageInto}
 use Rattle.plans.specs.CallsExact.{ColumnFilled, DraftByPlace, fromColumn, toColumn, DraftJudged, DraftKept, KeepingExact}
 use Rattle.plans.specs.CallsExact.{RoutesTo, RouteRefused, ProperBeginning, CodeTaken, RoutingExact}
 use Rattle.plans.specs.CallsExact.{MatchedBy, NotMatched, MatchingExact}
@@ -64,7 +67,7 @@ use Rattle.operations.proofs.Compared.{not-compared}
 use Rattle.operations.proofs.Powered.{power-limit}
 use Rattle.plans.proofs.Powered.{inverting-no-plan, raising-no-plan, raising-plan, raising-outside}
 use Rattle.operations.proofs.Codes.{code-limit}
-use Rattle.plans.proofs.Codes.{matched-no-code, matched-no-plan, routing-no-plan, routing-no-code}
+use Rattle.plans.proofs.Codes.{matched-no-code, matched-no-plan, place-no-code, place-no-plan, routing-no-plan, routing-no-code}
 use Rattle.operations.proofs.Lists.{slot-low, slot-high}
 use Rattle.plans.proofs.Lists.{listing-no-plan, listing-no-slot, listing-no-room}
 
@@ -327,10 +330,13 @@ module _ (v : Plan) (code : List ℕ) (y : CodeTaken v code) where
           let (p, i, x, m, f) = short-exactly .0 (routed-by none e) in
           inr (record { pair = p; way = i; ways = x; among = m; longer = f })
 
+  abbrev place : ℕ
+  place = placeOf (fromColumn v) (wordOf code)
+
   module _ (out : List ℕ) (o : Of.Route) (e : Of.routed (planOf v) (wordOf code) ≡ o) where
-    routing-by : routing v code (length out) ≡ routingIn o (length out)
+    routing-by : routing v code (length out) ≡ routingIn place o (length out)
     unfolding routing
-    routing-by = rw (y .plan, routing) (ap (λ z. routingIn z (length out)) e)
+    routing-by = rw (y .plan, routing) (ap (λ z. routingIn place z (length out)) e)
 
     buffer-by : routedBuffer v code out ≡ imageInto o out
     unfolding routedBuffer
@@ -350,25 +356,28 @@ module _ (v : Plan) (code : List ℕ) (y : CodeTaken v code) where
         let over : length out < size = omega (arith, length-map x digitByte) in
         record {
           answer = routing-by out (Of.Image x) (routed-by (some x) e)
-              ∙ without-room size (length out) (Reply.Image size) (Reply.Refused bufferTooShort) over;
+              ∙ without-room size (length out) (Reply.Image size place) (Reply.Refused bufferTooShort) over;
           buffer = buffer-by out (Of.Image x) (routed-by (some x) e) ∙ lent-as-it-was (wordBytes x) out over;
         }
 
     written-in-front : written out 0 (wordBytes x) ≡ wordBytes x ++ drop size out
     written-in-front = let start : 0 + size ≡ size = omega arith in ap (λ n. wordBytes x ++ drop n out) start
 
-    routes : length x ≤ length out → RoutesTo v code out (wordBytes x)
+    routes : length x ≤ length out → (k : ℕ) × RoutesAt (rowsOf v) (wordOf code) x k × RoutesTo v code out (wordBytes x) k
     routes h =
         let room : size ≤ length out = omega (arith, length-map x digitByte) in
         let held : routedBuffer v code out ≡ wordBytes x ++ drop size out =
         buffer-by out (Of.Image x) (routed-by (some x) e) ∙ lent-written (wordBytes x) out room ∙ written-in-front
         in
+        let to : RoutesTo v code out (wordBytes x) place =
         record {
           answer = routing-by out (Of.Image x) (routed-by (some x) e)
-              ∙ with-room size (length out) (Reply.Image size) (Reply.Refused bufferTooShort) room;
+              ∙ with-room size (length out) (Reply.Image size place) (Reply.Refused bufferTooShort) room;
           front = ap (take size) held ∙ take-append-seam (wordBytes x) (drop size out);
           rest = ap (drop size) held ∙ drop-append-seam (wordBytes x) (drop size out);
         }
+        in
+        (place, places-exact .routes (rowsOf v) (wordOf code) x e, to)
 
 code-exactly : (s : Shape) (w : Word) → T (isCode s w) ↔ (T (isWord s w) × (length w ≤ 1_024))
 unfolding isCode
@@ -418,16 +427,21 @@ no-digits : (c : List Word) (w : Word) → ((u : Word) → List·Memᴰ u c → 
 no-digits [] w h = refl
 no-digits (x ∷ c) w h = rw (after-none x w (h x (List·Memᴰ·head refl)), firstMatch) (no-digits c w (λ u m. h u (List·Memᴰ·tail m)))
 
-whole-code : (v : Plan) (code : List ℕ) → matched v code ≡ 0 → NotMatched v code
-whole-code v code e = record { digits = e; part = ap (λ n. drop n code) e }
+whole-code : (v : Plan) (code : List ℕ) → matched v code ≡ 0 → matchedPlace v code ≡ 0 → NotMatched v code
+whole-code v code e f = record { digits = e; place = f; part = ap (λ n. drop n code) e }
 
 module _ (v : Plan) (code : List ℕ) (y : CodeTaken v code) where
   matched-by : (o : Option ℕ) → firstDigits (fromColumn v) (wordOf code) ≡ o → matched v code ≡ Option·getD o 0
   unfolding matched matchedDigits
   matched-by o e = rw (y .plan, matched, y .code-taken, matchedIn) (ap (λ z. Option·getD z 0) e)
 
-  matches : (p : Pair) → List·Memᴰ p (rowsOf v) → begins (p .from) (wordOf code) ≡ true → MatchedBy v code (p .from)
-  matches p m b =
+  placed-by : (k : ℕ) → placeOf (fromColumn v) (wordOf code) ≡ k → matchedPlace v code ≡ k
+  unfolding matchedPlace
+  placed-by k e = rw (y .plan, matchedPlace, y .code-taken, matchedPlaceIn) e
+
+  matches : (k : ℕ) (p : Pair) → AtPlace (rowsOf v) k p → begins (p .from) (wordOf code) ≡ true → MatchedBy v code (p .from) k
+  matches k p there b =
+      let m = subst (List·Memᴰ p) (sym (there .parts)) (Memᴰ·append-right (there .before) (List·Memᴰ·head refl)) in
       let apart = member-of-kept (planOf v) (kept v (y .plan)) .element .from-proper .apart in
       let among = Memᴰ·map (λ q. q .from) m in
       let digits = matched-by _ (digits-of-word (fromColumn v) (wordOf code) (p .from) apart among b) in
@@ -436,11 +450,24 @@ module _ (v : Plan) (code : List ℕ) (y : CodeTaken v code) where
       let behind : wordOf (matching v code) ≡ x =
       ap wordOf part ∙ digits-drop (length (p .from)) code ∙ ap (drop (length (p .from))) e ∙ drop-append-seam (p .from) x
       in
-      record { digits = digits; part = part; tail = e ∙ ap (λ z. p .from ++ z) (sym behind) }
+      record {
+        digits = digits;
+        place = placed-by k (sym (places-exact .only (planOf v) (kept v (y .plan)) (wordOf code) k p there (T-of b)));
+        part = part;
+        tail = e ∙ ap (λ z. p .from ++ z) (sym behind);
+      }
 
   none-begins : ((p : Pair) → List·Memᴰ p (rowsOf v) → begins (p .from) (wordOf code) ≡ false) → NotMatched v code
-  none-begins h = whole-code v code (matched-by none (no-digits (fromColumn v) (wordOf code) word-begins-not))
+  none-begins h =
+      whole-code v code (matched-by none (no-digits (fromColumn v) (wordOf code) word-begins-not))
+      (placed-by 0 (places-exact .nowhere (rowsOf v) (wordOf code) .1 (no-image (image (rowsOf v) (wordOf code)) refl)))
     where
+      no-image : (o : Option Word) → image (rowsOf v) (wordOf code) ≡ o → image (rowsOf v) (wordOf code) ≡ none
+      no-image none e = e
+      no-image (some x) e =
+          let (p, tail, m, f, g) = row-of-image (rowsOf v) (wordOf code) x e in
+          absurd (clash (ap (begins (p .from)) f ∙ begins-append (p .from) tail) (h p m))
+
       word-begins-not : (u : Word) → List·Memᴰ u (fromColumn v) → begins u (wordOf code) ≡ false
       word-begins-not u m =
           let (p, k, e) = Memᴰ·of-map (λ q. q .from) (rowsOf v) m in subst (λ z. begins z (wordOf code) ≡ false) e (h p k)
@@ -448,10 +475,10 @@ module _ (v : Plan) (code : List ℕ) (y : CodeTaken v code) where
 matching-exact : MatchingExact
 matching-exact =
     record {
-      matches = λ v code p y. matches v code y p;
+      matches = λ v code k p y. matches v code y k p;
       none-begins = none-begins;
-      no-plan = λ v code h. whole-code v code (matched-no-plan v code h);
-      no-code = λ v code h k. whole-code v code (matched-no-code v code h k);
+      no-plan = λ v code h. whole-code v code (matched-no-plan v code h) (place-no-plan v code h);
+      no-code = λ v code h k. whole-code v code (matched-no-code v code h k) (place-no-code v code h k);
     }
 
 module _ (v w : Plan) where
@@ -531,9 +558,9 @@ answers-numbered =
       not-compared = λ n. refl;
       listed = λ n. (refl, refl);
       not-listed = λ n. refl;
-      routed = λ n. (refl, refl);
-      too-short = refl;
-      not-routed = λ n. refl;
+      routed = λ n k. (refl, refl, refl);
+      too-short = (refl, refl);
+      not-routed = λ n. (refl, refl);
       verdicts = refl;
       verdict-columns = refl;
     }

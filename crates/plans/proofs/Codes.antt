@@ -6,6 +6,7 @@ use mathlib.Core.List.{List}
 use lib.ListN.{length, take}
 use lib.Seq.{length-take-le}
 use Rattle.higman.specs.Refusals.{badWord, invalidValue}
+use Rattle.higman.specs.Tables.{froms}
 use Rattle.higman.specs.Limits.{isCode}
 use Rattle.higman.specs.Answers.{routed}
 use Rattle.higman.specs.Text.{wordOf}
@@ -13,14 +14,18 @@ use Rattle.columns.specs.Packed.{wordsOf}
 use Rattle.columns.proofs.Rearranged.{froms-table}
 use Rattle.operations.specs.declared.Plan.{Plan}
 use Rattle.operations.specs.declared.Route.the-variants.{Refused}
-use Rattle.operations.specs.Plans.{shapeOf, planOf, isPlan}
-use Rattle.operations.specs.Routing.{matchedIn, routingIn, imageInto}
-use Rattle.plans.specs.Routing.{matched, routing, routedBuffer}
+use Rattle.operations.specs.Plans.{shapeOf, rowsOf, planOf, isPlan}
+use Rattle.operations.specs.Routing.{matchedIn, matchedPlaceIn, routingBy, imageInto}
+use Rattle.plans.specs.Routing.{matched, matchedPlace, routing, routedBuffer}
 
 module _ (p : Plan) (code : List ℕ) where
   pub matched-no-plan : isPlan p ≡ false → matched p code ≡ 0
   unfolding matched
   matched-no-plan h = rw (h, matched)
+
+  pub place-no-plan : isPlan p ≡ false → matchedPlace p code ≡ 0
+  unfolding matchedPlace
+  place-no-plan h = rw (h, matchedPlace)
 
   pub routing-no-plan : (out : List ℕ) → isPlan p ≡ false
       → (Refused invalidValue ≡ routing p code (length out)) × (out ≡ routedBuffer p code out)
@@ -28,7 +33,7 @@ module _ (p : Plan) (code : List ℕ) where
   routing-no-plan out h = (sym (rw (h, routing)), sym (rw (h, routedBuffer)))
 
   module _ (h : isPlan p ≡ true) where
-    pub routing-plan : (room : ℕ) → routingIn (routed (planOf p) (wordOf code)) room ≡ routing p code room
+    pub routing-plan : (room : ℕ) → routingBy (planOf p) (wordOf code) room ≡ routing p code room
     unfolding routing
     routing-plan room = sym (rw (h, routing))
 
@@ -45,10 +50,21 @@ module _ (p : Plan) (code : List ℕ) where
     unfolding matched
     matched-no-code k = rw (h, matched, k, matchedIn)
 
-    pub matched-plan : p .pairs ≤ length (p .from) → p .pairs ≤ length (p .to)
-        → matchedIn (shapeOf p) (wordsOf (take (p .pairs) (p .from))) code ≡ matched p code
-    unfolding matched
-    matched-plan lf lt =
-        let paired = length-take-le (p .pairs) (p .from) lf ∙ sym (length-take-le (p .pairs) (p .to) lt) in
-        ap (λ c. matchedIn (shapeOf p) c code) (sym (froms-table (take (p .pairs) (p .from)) (take (p .pairs) (p .to)) paired))
-        ∙ sym (rw (h, matched))
+    pub place-no-code : isCode (shapeOf p) (wordOf code) ≡ false → matchedPlace p code ≡ 0
+    unfolding matchedPlace
+    place-no-code k = rw (h, matchedPlace, k, matchedPlaceIn)
+
+    module _ (lf : p .pairs ≤ length (p .from)) (lt : p .pairs ≤ length (p .to)) where
+      -- the column that is lent has the from-words of the plan's pairs
+      lent-column : wordsOf (take (p .pairs) (p .from)) ≡ froms (rowsOf p)
+      lent-column =
+          let paired = length-take-le (p .pairs) (p .from) lf ∙ sym (length-take-le (p .pairs) (p .to) lt) in
+          sym (froms-table (take (p .pairs) (p .from)) (take (p .pairs) (p .to)) paired)
+
+      pub matched-plan : matchedIn (shapeOf p) (wordsOf (take (p .pairs) (p .from))) code ≡ matched p code
+      unfolding matched
+      matched-plan = ap (λ c. matchedIn (shapeOf p) c code) lent-column ∙ sym (rw (h, matched))
+
+      pub place-plan : matchedPlaceIn (shapeOf p) (wordsOf (take (p .pairs) (p .from))) code ≡ matchedPlace p code
+      unfolding matchedPlace
+      place-plan = ap (λ c. matchedPlaceIn (shapeOf p) c code) lent-column ∙ sym (rw (h, matchedPlace))

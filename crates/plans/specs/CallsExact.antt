@@ -16,6 +16,7 @@ use Rattle.higman.specs.Tables.{Pair, froms, tos, image, row, ψ}
 use Rattle.higman.specs.Normal.{compose, repeated, joined, normal, normalForm, keep}
 use Rattle.higman.specs.Limits.{Plan as PlanOf, Bases, Kept, isPlanWord, isCode, granted, shapeInRange, maxPairs, maxDigits, maxCode}
 use Rattle.higman.specs.Answers.{repeatable, verdict, isKept, routed}
+use Rattle.higman.specs.Places.{placeOf, AtPlace, RoutesAt}
 use Rattle.higman.specs.Text.{byte, bytes, wordBytes, wordOf, digitOf}
 use Rattle.higman.specs.Listing.{listing as linesOf}
 use Rattle.words.specs.Packed.{packOn, pack, unpackIn, unpack}
@@ -33,8 +34,8 @@ use Rattle.plans.specs.Answers.{judged, keeping, following, inverting, r
 use Rattle.operations.specs.Answers.{refusing, value21}
 use Rattle.plans.specs.Answers.{judgementNumber, judgementColumn}
 use Rattle.operations.specs.Answers.{answerNumber, likenessNumber, likenessValue}
-use Rattle.plans.specs.Routing.{matched, matching, routing, routedBuffer}
-use Rattle.operations.specs.Routing.{routingNumber, routingLength}
+use Rattle.plans.specs.Routing.{matched, matching, matchedPlace, routing, routedBuffer}
+use Rattle.operations.specs.Routing.{routingNumber, routingLength, routingPlace}
 use Rattle.plans.specs.Listing.{listingAnswer, listedBuffer}
 use Rattle.operations.specs.Listing.{listedNumber, listedLength}
 
@@ -96,9 +97,10 @@ pub record KeepingExact : Type 0 where
   pub verdict-beside : (v : Plan) → keeping v .judgement ≡ judged v
   pub none-kept : (v : Plan) → (judged v ≡ Accepted → ⊥) → keeping v .plan ≡ blank
 
--- W replies with the number of these bytes and writes them at the front of the buffer: "On success only the bytes of the output change".
-pub record RoutesTo (v : Plan) (code out output : List ℕ) : Type 0 where
-  pub answer : routing v code (length out) ≡ Reply.Image (length output)
+-- W replies with the number of these bytes and this place, and writes the bytes at the front of the buffer: "On success only the bytes of
+-- the output change".
+pub record RoutesTo (v : Plan) (code out output : List ℕ) (k : ℕ) : Type 0 where
+  pub answer : routing v code (length out) ≡ Reply.Image (length output) k
   pub front : take (length output) (routedBuffer v code out) ≡ output
   pub rest : drop (length output) (routedBuffer v code out) ≡ drop (length output) out
 
@@ -133,23 +135,26 @@ pub record RoutingExact : Type 0 where
   pub too-short : (v : Plan) (code out : List ℕ) → CodeTaken v code → ProperBeginning v code → RouteRefused v code out Reply.TooShort
   pub no-room : (v : Plan) (code out : List ℕ) (x : Word) → CodeTaken v code → image (rowsOf v) (wordOf code) ≡ some x
       → length out < length x → RouteRefused v code out (Reply.Refused 14)
+  -- the place is that of the pair that the image comes from (change request E7)
   pub routes : (v : Plan) (code out : List ℕ) (x : Word) → CodeTaken v code → image (rowsOf v) (wordOf code) ≡ some x
-      → length x ≤ length out → RoutesTo v code out (wordBytes x)
+      → length x ≤ length out → (k : ℕ) × RoutesAt (rowsOf v) (wordOf code) x k × RoutesTo v code out (wordBytes x) k
 
--- "The library's match hands back the unmatched tail as a part of the parcel's code": behind this from-word.
-pub record MatchedBy (v : Plan) (code : List ℕ) (from : Word) : Type 0 where
+-- "The library's match hands back the unmatched tail as a part of the parcel's code": behind this from-word, and its place beside the tail.
+pub record MatchedBy (v : Plan) (code : List ℕ) (from : Word) (k : ℕ) : Type 0 where
   pub digits : matched v code ≡ length from
+  pub place : matchedPlace v code ≡ k
   pub part : matching v code ≡ drop (length from) code
   pub tail : wordOf code ≡ from ++ wordOf (matching v code)
 
--- "that part is the whole code"
+-- "that part is the whole code", and "The place is 0"
 pub record NotMatched (v : Plan) (code : List ℕ) : Type 0 where
   pub digits : matched v code ≡ 0
+  pub place : matchedPlace v code ≡ 0
   pub part : matching v code ≡ code
 
 pub record MatchingExact : Type 0 where
-  pub matches : (v : Plan) (code : List ℕ) (p : Pair) → CodeTaken v code → List·Memᴰ p (rowsOf v) → begins (p .from) (wordOf code) ≡ true
-      → MatchedBy v code (p .from)
+  pub matches : (v : Plan) (code : List ℕ) (k : ℕ) (p : Pair) → CodeTaken v code → AtPlace (rowsOf v) k p
+      → begins (p .from) (wordOf code) ≡ true → MatchedBy v code (p .from) k
   -- "Where no from-word begins the code, or 15 or 4 applies"
   pub none-begins : (v : Plan) (code : List ℕ) → CodeTaken v code
       → ((p : Pair) → List·Memᴰ p (rowsOf v) → begins (p .from) (wordOf code) ≡ false) → NotMatched v code
@@ -192,9 +197,10 @@ pub record AnswersNumbered : Type 0 where
   pub not-compared : (n : ℕ) → likenessNumber (Like.Refused n) ≡ n
   pub listed : (n : ℕ) → (listedNumber (Listed.Bytes n) ≡ 0) × (listedLength (Listed.Bytes n) ≡ n)
   pub not-listed : (n : ℕ) → listedNumber (Listed.Refused n) ≡ n
-  pub routed : (n : ℕ) → (routingNumber (Reply.Image n) ≡ 0) × (routingLength (Reply.Image n) ≡ n)
-  pub too-short : routingNumber Reply.TooShort ≡ 13
-  pub not-routed : (n : ℕ) → routingNumber (Reply.Refused n) ≡ n
+  pub routed : (n k : ℕ)
+      → (routingNumber (Reply.Image n k) ≡ 0) × (routingLength (Reply.Image n k) ≡ n) × (routingPlace (Reply.Image n k) ≡ k)
+  pub too-short : (routingNumber Reply.TooShort ≡ 13) × (routingPlace Reply.TooShort ≡ 0)
+  pub not-routed : (n : ℕ) → (routingNumber (Reply.Refused n) ≡ n) × (routingPlace (Reply.Refused n) ≡ 0)
   -- 6 and 7, "those of E for a column add ⇥F or ⇥T (from, to)"
   pub verdicts : map judgementNumber (Accepted ∷ NotADraft ∷ InFrom Overlap ∷ InFrom Gap ∷ InTo Overlap ∷ InTo Gap ∷ [])
       ≡ 0 ∷ 15 ∷ 6 ∷ 7 ∷ 6 ∷ 7 ∷ []
@@ -240,9 +246,9 @@ toColumn-example : toColumn (value21 ψ) ≡ spell 11 ∷ spell 121 ∷ spell 12
 unfolding packed pack packOn unpack unpackIn maxPairs
 toColumn-example = refl
 
--- "1122 goes to 1212" in a buffer of five bytes
-routesTo-example : RoutesTo (value21 ψ) (bytes "1122") (7 ∷ 7 ∷ 7 ∷ 7 ∷ 7 ∷ []) (bytes "1212")
-unfolding routing routedBuffer routed isPlan inTable isKept isCode maxCode shapeInRange granted maxPairs maxDigits verdict
+-- "1122 goes to 1212", by the second pair, in a buffer of five bytes
+routesTo-example : RoutesTo (value21 ψ) (bytes "1122") (7 ∷ 7 ∷ 7 ∷ 7 ∷ 7 ∷ []) (bytes "1212") 2
+unfolding routing routedBuffer placeOf routed isPlan inTable isKept isCode maxCode shapeInRange granted maxPairs maxDigits verdict
     keep normalForm normal joined packed pack packOn unpack unpackIn digitOf
 routesTo-example = record { answer = refl; front = refl; rest = refl }
 
@@ -257,12 +263,12 @@ unfolding routing routedBuffer routed isPlan inTable isKept isCode maxCode shape
 routeRefused-example = record { answer = refl; buffer = refl }
 
 -- 112 begins 1122, and no from-word begins 11
-matchedBy-example : MatchedBy (value21 ψ) (bytes "1122") (spell 112)
-unfolding matched matchedDigits isPlan inTable isKept isCode maxCode shapeInRange granted maxPairs maxDigits verdict
+matchedBy-example : MatchedBy (value21 ψ) (bytes "1122") (spell 112) 2
+unfolding matched matchedDigits matchedPlace placeOf isPlan inTable isKept isCode maxCode shapeInRange granted maxPairs maxDigits verdict
     keep normalForm normal joined packed pack packOn unpack unpackIn digitOf
-matchedBy-example = record { digits = refl; part = refl; tail = refl }
+matchedBy-example = record { digits = refl; place = refl; part = refl; tail = refl }
 
 notMatched-example : NotMatched (value21 ψ) (bytes "11")
-unfolding matched matchedDigits isPlan inTable isKept isCode maxCode shapeInRange granted maxPairs maxDigits verdict
+unfolding matched matchedDigits matchedPlace placeOf isPlan inTable isKept isCode maxCode shapeInRange granted maxPairs maxDigits verdict
     keep normalForm normal joined packed pack packOn unpack unpackIn digitOf
-notMatched-example = record { digits = refl; part = refl }
+notMatched-example = record { digits = refl; place = refl; part = refl }

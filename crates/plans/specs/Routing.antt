@@ -1,4 +1,4 @@
--- Codes under a plan: what the library's match hands back, and what a route replies and leaves in the lent buffer. The images are those
+-- Codes under a plan: what the library's match hands back, at which place it was found, and what a route replies and leaves in the lent buffer. The images are those
 -- of higman; 15 comes before all other refusals. Read Listing.antt next.
 use Prim.Native.Nat.{ℕ}
 use mathlib.Core.Path.{_≡_, refl}
@@ -8,6 +8,7 @@ use lib.ListN.{drop}
 use Rattle.higman.specs.Tables.{froms, ψ}
 use Rattle.higman.specs.Normal.{joined, normal, normalForm, keep}
 use Rattle.higman.specs.Limits.{shapeInRange, granted, isCode, maxPairs, maxDigits, maxCode}
+use Rattle.higman.specs.Places.{placeOf}
 use Rattle.higman.specs.Refusals.{invalidValue}
 use Rattle.higman.specs.Answers as Of
 use Rattle.higman.specs.Text.{digitOf, wordOf}
@@ -18,7 +19,7 @@ use Rattle.operations.specs.declared.Plan.{Plan}
 use Rattle.operations.specs.declared.Route.{Route}
 use Rattle.operations.specs.declared.Route.the-variants.{Image, TooShort, Refused}
 use Rattle.operations.specs.Plans.{shapeOf, rowsOf, planOf, inTable, isPlan, packed, blank}
-use Rattle.operations.specs.Routing.{matchedIn, routingIn, imageInto}
+use Rattle.operations.specs.Routing.{matchedIn, matchedPlaceIn, routingBy, imageInto}
 
 -- the digits of the from-word that begins a code; none where no from-word does, "or 15 or 4 applies"
 unfoldable pub matched : Plan → List ℕ → ℕ
@@ -29,9 +30,14 @@ matched p code =
 abbrev pub matching : Plan → List ℕ → List ℕ
 matching p code = drop (matched p code) code
 
+-- the place of that from-word in the listing (change request E7): "The place is 0 where nothing matches or 15 or 4 applies."
+unfoldable pub matchedPlace : Plan → List ℕ → ℕ
+matchedPlace p code =
+    elim (isPlan p) [ true ↦ matchedPlaceIn (shapeOf p) (froms (rowsOf p)) code | false ↦ 0 ]
+
 -- the route of a single code: 15, 4, 13, 14
 unfoldable pub routing : Plan → List ℕ → ℕ → Route
-routing p code room = elim (isPlan p) [ true ↦ routingIn (Of.routed (planOf p) (wordOf code)) room | false ↦ Refused invalidValue ]
+routing p code room = elim (isPlan p) [ true ↦ routingBy (planOf p) (wordOf code) room | false ↦ Refused invalidValue ]
 
 -- what the buffer then holds
 unfoldable pub routedBuffer : Plan → List ℕ → List ℕ → List ℕ
@@ -47,9 +53,16 @@ unfolding matched matchedDigits isPlan inTable Of.isKept isCode maxCode shapeInR
     keep normalForm normal joined packed blank pack packOn unpack unpackIn digitOf
 matching-example = (refl, refl, refl)
 
--- 1122 goes to 1212, with room for all of it and for three bytes; 11 is too short, and 13 has a wrong digit
-routing-example : (routing value (49 ∷ 49 ∷ 50 ∷ 50 ∷ []) 4 ≡ Image 4) × (routing value (49 ∷ 49 ∷ 50 ∷ 50 ∷ []) 3 ≡ Refused 14) × (routing value (49 ∷ 49 ∷ []) 4 ≡ TooShort) × (routing value (49 ∷ 51 ∷ []) 4 ≡ Refused 4)
-unfolding routing Of.routed isPlan inTable Of.isKept isCode maxCode shapeInRange granted maxPairs maxDigits Of.verdict keep normalForm normal joined packed pack packOn unpack unpackIn digitOf
+-- 1122 by the second pair; 11, which no from-word begins; 13, which has a wrong digit; 1122 by what is no plan
+matchedPlace-example : (map (matchedPlace value) ((49 ∷ 49 ∷ 50 ∷ 50 ∷ []) ∷ (49 ∷ 49 ∷ []) ∷ (49 ∷ 51 ∷ []) ∷ []) ≡ 2 ∷ 0 ∷ 0 ∷ [])
+    × (matchedPlace blank (49 ∷ 49 ∷ 50 ∷ 50 ∷ []) ≡ 0)
+unfolding matchedPlace placeOf isPlan inTable Of.isKept isCode maxCode shapeInRange granted maxPairs maxDigits Of.verdict
+    keep normalForm normal joined packed blank pack packOn unpack unpackIn digitOf
+matchedPlace-example = (refl, refl)
+
+-- 1122 goes to 1212 by the second pair, with room for all of it and for three bytes; 11 is too short, and 13 has a wrong digit
+routing-example : (routing value (49 ∷ 49 ∷ 50 ∷ 50 ∷ []) 4 ≡ Image 4 2) × (routing value (49 ∷ 49 ∷ 50 ∷ 50 ∷ []) 3 ≡ Refused 14) × (routing value (49 ∷ 49 ∷ []) 4 ≡ TooShort) × (routing value (49 ∷ 51 ∷ []) 4 ≡ Refused 4)
+unfolding routing placeOf Of.routed isPlan inTable Of.isKept isCode maxCode shapeInRange granted maxPairs maxDigits Of.verdict keep normalForm normal joined packed pack packOn unpack unpackIn digitOf
 routing-example = (refl, refl, refl, refl)
 
 routedBuffer-example : map (routedBuffer value (49 ∷ 49 ∷ 50 ∷ 50 ∷ [])) ((7 ∷ 7 ∷ 7 ∷ 7 ∷ 7 ∷ []) ∷ (7 ∷ 7 ∷ 7 ∷ []) ∷ []) ≡ (49 ∷ 50 ∷ 49 ∷ 50 ∷ 7 ∷ []) ∷ (7 ∷ 7 ∷ 7 ∷ []) ∷ []

@@ -16,9 +16,9 @@ ghost use Rattle.operations.specs.Plans.{isPlan};
 ghost use Rattle.operations.specs.Answers.{answerNumber};
 ghost use Rattle.operations.specs.Closing.{reasonNumber};
 ghost use Rattle.plans.specs.Answers.{judged, keeping, following, inverting, raising, alike};
-ghost use Rattle.plans.specs.Routing.{matching, routing, routedBuffer};
+ghost use Rattle.plans.specs.Routing.{matching, matchedPlace, routing, routedBuffer};
 ghost use Rattle.plans.specs.Listing.{listingAnswer, listedBuffer};
-ghost use Rattle.plans_c.specs.Numbers.{verdictOf, keptOf, madeOf, comparedOf, routedOf, listedOf};
+ghost use Rattle.plans_c.specs.Numbers.{verdictOf, keptOf, madeOf, comparedOf, matchedOf, routedOf, listedOf};
 
 // The verdict on a draft: 0 for an accepted one, and the letter of the column, F or T, beside 6 and 7.
 #[repr(C)]
@@ -54,6 +54,21 @@ pub struct Compared {
 pub struct Written {
     pub number: u8,
     pub length: usize,
+}
+
+// The match of a code: how many of its digits are left, and the place of the pair whose from-word begins it, 0 where none does.
+#[repr(C)]
+pub struct Matched {
+    pub tail: usize,
+    pub place: usize,
+}
+
+// How many bytes of an image stand at the front of the buffer, and the place of the pair, where the number is 0.
+#[repr(C)]
+pub struct Routed {
+    pub number: u8,
+    pub length: usize,
+    pub place: usize,
 }
 
 fn reason_number(reason: Reason) -> u8
@@ -143,21 +158,24 @@ fn compared_of(likeness: Likeness) -> Compared
     }
 }
 
-fn routed_of(route: Route) -> Written
+fn routed_of(route: Route) -> Routed
     ensures { λ r. ⌜ r ≡ routedOf route ⌝ }
 {
     match route {
-        Route::Image(length) => Written {
+        Route::Image(length, place) => Routed {
             number: 0,
             length: length,
+            place: place,
         },
-        Route::TooShort => Written {
+        Route::TooShort => Routed {
             number: numbers::CODE_TOO_SHORT,
             length: 0,
+            place: 0,
         },
-        Route::Refused(number) => Written {
+        Route::Refused(number) => Routed {
             number: number,
             length: 0,
+            place: 0,
         },
     }
 }
@@ -233,18 +251,22 @@ pub extern "C" fn plans_same(a: Plan, b: Plan) -> Compared
     compared_of(plans::comparing::same(a, b))
 }
 
-// The length of the unmatched tail; C has no part of a slice to hand back.
+// The length of the unmatched tail, for C has no part of a slice to hand back, and the place of the pair.
 #[no_mangle]
-pub extern "C" fn plans_unmatched(p: Plan, code: &[u8]) -> usize
-    ensures { λ r. ⌜ r ≡ length (matching p (now (code .entry))) ⌝ }
+pub extern "C" fn plans_unmatched(p: Plan, code: &[u8]) -> Matched
+    ensures { λ r. ⌜ r ≡ matchedOf (matching p (now (code .entry))) (matchedPlace p (now (code .entry))) ⌝ }
 {
-    let tail = plans::routing::unmatched(p, code);
-    tail.len()
+    let mut place = 0;
+    let tail = plans::routing::unmatched(p, code, &mut place);
+    Matched {
+        tail: tail.len(),
+        place: place,
+    }
 }
 
-// The route of a single code: its image.
+// The route of a single code: its image, and the place of the pair.
 #[no_mangle]
-pub extern "C" fn plans_route(p: Plan, code: &[u8], out: &mut [u8]) -> Written
+pub extern "C" fn plans_route(p: Plan, code: &[u8], out: &mut [u8]) -> Routed
     ensures { λ r. ⌜ r ≡ routedOf (routing p (now (code .entry)) (length (now (out .entry)))) ⌝ }
     ensures { λ _. ⌜ now (out .exit) ≡ routedBuffer p (now (code .entry)) (now (out .entry)) ⌝ }
 {

@@ -7,19 +7,20 @@ use mathlib.Core.List.{[], _∷_, List·Memᴰ}
 use mathlib.Core.Option.{Option}
 use native.Mathlib.Omega.{arith}
 use lib.Dec.{leb, leb→le}
-use lib.ListN.{length, length-append}
+use lib.ListN.{length}
 use Rattle.higman.specs.Words.{Word}
-use Rattle.higman.specs.Text.{Bytes, wordBytes, wordOf, lineEnd}
+use Rattle.higman.specs.Text.{Bytes, wordBytes, wordOf}
 use Rattle.higman.specs.Limits.{Plan, Kept, maxPairs}
 use Rattle.higman.specs.Refusals.{Letter}
 use Rattle.higman.specs.Answers.{Route, Image, TooShort, NotRouted, routed}
-use Rattle.higman.specs.Fronts.{block}
+use Rattle.higman.specs.Tables.{froms}
+use Rattle.higman.specs.Places.{placeOf}
 use Rattle.higman.specs.Listing.{slotNumber}
 use Rattle.higman.proofs.Tests.{all-at}
 use Rattle.desk.specs.Limits.{maxChanges}
 use Rattle.desk.specs.Desk.{Desk, IsDesk, stationOf, countOf}
 use Rattle.desk.specs.Records.{Record, P, M, E, F, I, K, S, W, L, C, T, U, X, Z, G}
-use Rattle.desk.specs.Replies.{okNumber, okWord, refuses, Effect, Outcome, refuse, pass, ofRoute, closed, job, operation, recordOf}
+use Rattle.desk.specs.Replies.{okNumber, okImage, refuses, Effect, Outcome, refuse, pass, ofRoute, closed, job, operation, recordOf}
 use Rattle.desk.specs.Replies.{lineOperation, respondLine}
 use Rattle.desk.specs.Bytes.{replyBytes}
 use Rattle.desk.specs.Demands.{refusalNumbers, DoneLine, RefusedLine}
@@ -28,7 +29,7 @@ use Rattle.desk.proofs.OpenPlans.{close-steps}
 use Rattle.desk.proofs.Demand1.{demand1}
 use Rattle.desk.proofs.Demand2.{demand2}
 use Rattle.replies.specs.Sizes.{maxReply, RepliesFit}
-use Rattle.replies.proofs.Sizes.{rooms, few-pairs, listing-fits, image-fits, block-fits, ok-number-size, no-size, survey-size}
+use Rattle.replies.proofs.Sizes.{rooms, few-pairs, listing-fits, image-fits, image-line-size, block-fits, ok-number-size, no-size, survey-size}
 
 -- 1 to 12, and 16 to 20
 number-small : (n : ℕ) → List·Memᴰ n refusalNumbers → n < 10 ^ 3
@@ -60,12 +61,15 @@ refusal-fits : (n : ℕ) (c : Option Letter) → List·Memᴰ n refusalNumbers �
 unfolding replyBytes
 refusal-fits n c m = omega (arith, rooms .no-column, no-size n c (number-small n m))
 
-word-fits : (p : Plan) (code v : Word) → Kept p → routed p code ≡ Image v → length (replyBytes (okWord v)) ≤ maxReply
+word-fits : (p : Plan) (code v : Word) → Kept p → routed p code ≡ Image v
+    → length (replyBytes (okImage v (placeOf (froms (p .rows)) code))) ≤ maxReply
 unfolding replyBytes
-word-fits p code v k e = omega (arith, image-fits p code v k e, length-append (wordBytes v) (lineEnd ∷ []))
+word-fits p code v k e =
+    let f = image-fits p code v k e in
+    omega (arith, f .room, image-line-size (wordBytes v) (placeOf (froms (p .rows)) code) (f .place-granted))
 
 routed-fits : (p : Plan) (code : Word) → Kept p → (r : Route) → routed p code ≡ r
-    → Passes (λ reply. length (replyBytes reply) ≤ maxReply) (ofRoute (block (p .rows) code) r)
+    → Passes (λ reply. length (replyBytes reply) ≤ maxReply) (ofRoute p code r)
 routed-fits p code k (Image v) e = passes (word-fits p code v k e)
 routed-fits p code k TooShort e = passes (block-fits p code k)
 routed-fits p code k (NotRouted r) e = stops

@@ -7,7 +7,7 @@ use native.Mathlib.Omega.{arith}
 use lib.ListN.{length, take, drop, length-append, length-drop, drop-of-length-le}
 use lib.Seq.{length-take-le, take-all, drop-at, drop-drop, take-append-seam}
 use Rattle.higman.specs.Buffers.{written}
-use Rattle.higman.specs.Text.{Bytes, lineEnd}
+use Rattle.higman.specs.Text.{Bytes}
 use Rattle.words.specs.Writing.{Wrote}
 use Rattle.desk.specs.Bytes.{okLine}
 use Rattle.replies.specs.Lines.{imageAt}
@@ -52,12 +52,12 @@ wrote-over {t = t} {l = l} {l′ = l′} {e = e} h v k w =
     let behind = drop-further l′ l e (0 + length t) (omega arith) (behind-wrote h v) in
     record { place = w .place; contents = w .contents ∙ ap (λ x. t ++ x) behind }
 
--- "`ok⇥` and the image": what `ok_image` makes of a buffer into which an image of so many bytes was written
-pub image-line : (out image : Bytes) {out₁ out₂ : Bytes} {n r : ℕ} → imageAt ≤ length out → n ≡ length image
-    → out₁ ≡ written out imageAt image → Wrote (okLine (take n (drop imageAt out₁) ∷ [])) out₁ 0 out₂ r
-    → Wrote (okLine (image ∷ [])) out 0 out₂ r
-image-line out image {out₁} {out₂} {n} {r} h size e w =
+-- "`ok⇥` and the image", and the place: what `ok_image` makes of a buffer into which an image of so many bytes was written
+pub image-line : (out image place : Bytes) {out₁ out₂ : Bytes} {n r : ℕ} → imageAt ≤ length out → n ≡ length image
+    → out₁ ≡ written out imageAt image → Wrote (okLine (take n (drop imageAt out₁) ∷ place ∷ [])) out₁ 0 out₂ r
+    → Wrote (okLine (image ∷ place ∷ [])) out 0 out₂ r
+image-line out image place {out₁} {out₂} {n} {r} h size e w =
     let inside : Wrote image out imageAt out₁ (imageAt + length image) = record { place = refl; contents = e } in
     let read : take n (drop imageAt out₁) ≡ image = ap₂ (λ k x. take k (drop imageAt x)) size e ∙ read-written out image imageAt h in
-    let line = subst (λ x. Wrote (okLine (x ∷ [])) out₁ 0 out₂ r) read w in
-    wrote-over h inside (omega (arith, length-append image (lineEnd ∷ []))) line
+    let line = subst (λ x. Wrote (okLine (x ∷ place ∷ [])) out₁ 0 out₂ r) read w in
+    wrote-over h inside (simp length-append (omega arith)) line

@@ -1,8 +1,8 @@
 -- Every reply has room in `maxReply` bytes: a listing and a block by the limits of a plan, an image by those of a plan and of a code, a
 -- survey by the number of slots, and every other reply by the digits of its number.
 use Prim.Native.Nat.{ℕ, suc, _+_, _*_, _^_, _≤_, _<_}
-use mathlib.Core.Path.{_≡_, refl, _∙_, ap}
-use mathlib.Core.List.{List, [], _∷_, map, List·Memᴰ, List·Memᴰ·head, List·Memᴰ·tail}
+use mathlib.Core.Path.{_≡_, refl, _∙_, ap, subst}
+use mathlib.Core.List.{List, [], _∷_, map, List·Memᴰ, List·Memᴰ·head, List·Memᴰ·tail, Memᴰ·map}
 use mathlib.Core.Option.{Option, none, some}
 use native.Mathlib.Nat.{suc-mul}
 use native.Mathlib.Omega.{arith}
@@ -10,30 +10,31 @@ use lib.Dec.{T, leb, leb→le}
 use lib.ListN.{length, length-append, length-map}
 use Rattle.higman.specs.Words.{Shape, Word, isWord}
 use Rattle.higman.specs.Bases.{all}
-use Rattle.higman.specs.Tables.{Pair}
+use Rattle.higman.specs.Tables.{Pair, froms}
 use Rattle.higman.specs.Limits.{Plan, Kept, maxPairs, maxDigits, maxCode, slotCount, fits, pairFits, granted, isCode}
-use Rattle.higman.specs.Text.{Bytes, byte, wordBytes, decimal, lineEnd}
+use Rattle.higman.specs.Text.{Bytes, wordBytes, decimal, lineEnd}
 use Rattle.higman.specs.Answers.{Image, routed}
-use Rattle.higman.specs.Fronts.{block}
+use Rattle.higman.specs.Places.{placeOf, Placed, placedBlock, AtPlace}
 use Rattle.higman.specs.Refusals.{Letter}
-use Rattle.higman.specs.Listing.{pairLine, pairRecord, pairRecords, joinLines, closeRecord, listing}
+use Rattle.higman.specs.Listing.{pairRecord, pairRecords, joinLines, closeRecord, listing}
 use Rattle.higman.proofs.Tests.{and-left, and-right, all-at}
 use Rattle.higman.proofs.Expansions.{length-of-perm}
 use Rattle.higman.proofs.Images.{row-of-image}
 use Rattle.higman.proofs.KeptPlans.{in-range}
 use Rattle.higman.proofs.Answers.{image-of-route}
 use Rattle.higman.proofs.Fronts.{block-own, block-few}
+use Rattle.higman.proofs.Places.{places-exact}
 use Rattle.words.proofs.Runs.{word-size}
 use Rattle.desk.specs.Desk.{Desk, IsDesk, seen}
 use Rattle.desk.proofs.Seen.{seen-length}
 use Rattle.desk.specs.Replies.{Held, heldFrom, comesBefore, surveyed, surveys, okBlock}
-use Rattle.desk.specs.Bytes.{lineOf, okLine, noLine, columnField, heldFields, replyBytes}
+use Rattle.desk.specs.Bytes.{lineOf, okLine, noLine, columnField, partFields, heldFields, replyBytes}
 use Rattle.desk.proofs.Grammar.{text-exact}
 use Rattle.desk.proofs.Arranged.{arranged-perm}
 use Rattle.desk.proofs.Surveys.{survey-of}
-use Rattle.replies.specs.Lines.{HeldFits}
+use Rattle.replies.specs.Lines.{ImageFits, HeldFits}
 use Rattle.replies.specs.Sizes.{maxReply, Rooms}
-use Rattle.replies.proofs.Lines.{decimal-size, block-is-pair-lines}
+use Rattle.replies.proofs.Lines.{decimal-size}
 
 -- lines one behind the other, each of at most k bytes
 lines-fit : {A : Type 0} (f : A → Bytes) (k : ℕ) (l : List A) → ((a : A) → List·Memᴰ a l → length (f a) ≤ k)
@@ -61,44 +62,67 @@ module _ (q : Pair) (h : T (pairFits q)) where
   to-fits : length (q .to) ≤ maxDigits
   to-fits = leb→le (length (q .to)) maxDigits (and-right (fits (q .from)) (fits (q .to)) h)
 
-  line-fits : (letter : ℕ) → length (pairLine letter q) ≤ 36
+  record-fits : length (pairRecord q) ≤ 36
   unfolding maxDigits
-  line-fits letter = simp (length-append, length-map) (omega (arith, from-fits, to-fits))
+  record-fits = simp (length-append, length-map) (omega (arith, from-fits, to-fits))
+
+  part-fits : (k : ℕ) → k ≤ maxPairs → length (lineOf (partFields (record { place = k; pair = q }))) ≤ 40
+  unfolding maxDigits maxPairs
+  part-fits k h =
+      let digits = decimal-size 2 k (omega arith) in
+      simp length-append (omega (arith, word-size (q .from), word-size (q .to), from-fits, to-fits))
 
 pub listing-fits : (slot : ℕ) (p : Plan) → Kept p → length (listing slot p) ≤ maxReply
 unfolding maxReply maxPairs
 listing-fits slot p k =
-    let pairs = lines-fit pairRecord 36 (p .rows) (λ q m. line-fits q (words-fit p k q m) (byte "M")) in
+    let pairs = lines-fit pairRecord 36 (p .rows) (λ q m. record-fits q (words-fit p k q m)) in
     omega (arith, few-pairs p k, length-append (joinLines (pairRecords (p .rows))) closeRecord)
 
--- the lines of a block are no more, and their number has at most three digits
-pub block-lines-fit : (p : Plan) (w : Word) → Kept p → length (joinLines (map (pairLine (byte "B")) (block (p .rows) w))) ≤ maxPairs * 36
-unfolding maxPairs
-block-lines-fit p w k =
-    let each = lines-fit (pairLine (byte "B")) 36 (block (p .rows) w)
-    (λ q m. line-fits q (words-fit p k q (block-own (p .rows) w q m .0)) (byte "B")) in
-    omega (arith, few-pairs p k, block-few (p .rows) w)
+-- places are those of the plan's pairs
+place-few : (p : Plan) → Kept p → (k : ℕ) (q : Pair) → AtPlace (p .rows) k q → k ≤ maxPairs
+place-few p K k q y =
+    omega (arith, y .counted, ap length (y .parts), length-append (y .before) (q ∷ y .behind), few-pairs p K)
 
-pub block-count-fits : (p : Plan) (w : Word) → Kept p → length (okLine (decimal (length (block (p .rows) w)) ∷ [])) ≤ 7
-unfolding maxPairs
-block-count-fits p w k =
-    let n = length (block (p .rows) w) in
-    omega (arith, decimal-size 2 n (omega (arith, few-pairs p k, block-few (p .rows) w)), length-append (decimal n) (lineEnd ∷ []))
+-- the lines of a block are no more than the pairs, and their number has at most three digits
+module _ (p : Plan) (w : Word) (k : Kept p) where
+  abbrev inside : List Placed
+  inside = placedBlock (p .rows) w
 
-pub block-fits : (p : Plan) (w : Word) → Kept p → length (replyBytes (okBlock (block (p .rows) w))) ≤ maxReply
-unfolding maxReply maxPairs
-block-fits p w k =
-    let t = block (p .rows) w in
-    let lines = joinLines (map (pairLine (byte "B")) t) in
-    let whole = ap length (block-is-pair-lines t) ∙ length-append lines (okLine (decimal (length t) ∷ [])) in
-    omega (arith, block-lines-fit p w k, block-count-fits p w k)
+  inside-few : length inside ≤ maxPairs
+  inside-few =
+      let same = ap length (places-exact .pairs (p .rows) w) in
+      omega (arith, length-map inside (λ l. l .pair), same, few-pairs p k, block-few (p .rows) w)
+
+  inside-fits : (l : Placed) → List·Memᴰ l inside → length (lineOf (partFields l)) ≤ 40
+  inside-fits l m =
+      let y = places-exact .places (p .rows) w l m in
+      let own = block-own (p .rows) w (l .pair) (subst (List·Memᴰ (l .pair)) (places-exact .pairs (p .rows) w) (Memᴰ·map (λ n. n .pair) m)) .0 in
+      part-fits (l .pair) (words-fit p k (l .pair) own) (l .place) (place-few p k (l .place) (l .pair) y)
+
+  pub block-lines-fit : length (joinLines (map (λ l. lineOf (partFields l)) inside)) ≤ maxPairs * 40
+  unfolding maxPairs
+  block-lines-fit = omega (arith, inside-few, lines-fit (λ l. lineOf (partFields l)) 40 inside inside-fits)
+
+  pub block-count-fits : length (okLine (decimal (length inside) ∷ [])) ≤ 7
+  unfolding maxPairs
+  block-count-fits =
+      let n = length inside in
+      omega (arith, decimal-size 2 n (omega (arith, inside-few)), length-append (decimal n) (lineEnd ∷ []))
+
+  pub block-fits : length (replyBytes (okBlock inside)) ≤ maxReply
+  unfolding maxReply maxPairs
+  block-fits =
+      let lines = joinLines (map (λ l. lineOf (partFields l)) inside) in
+      let whole = ap length (text-exact .replies .block inside) ∙ length-append lines (okLine (decimal (length inside) ∷ [])) in
+      omega (arith, block-lines-fit, block-count-fits)
 
 code-fits : (s : Shape) (code : Word) → T (isCode s code) → length code ≤ maxCode
 unfolding isCode
 code-fits s code h = leb→le (length code) maxCode (and-right (isWord s code) (leb (length code) maxCode) h)
 
 -- the to-word and the rest of the code: "its image may have more and isn't refused for it"
-pub image-fits : (p : Plan) (code v : Word) → Kept p → routed p code ≡ Image v → length (wordBytes v) + 4 ≤ maxReply
+pub image-fits : (p : Plan) (code v : Word) → Kept p → routed p code ≡ Image v
+    → ImageFits (length (wordBytes v)) (placeOf (froms (p .rows)) code) maxReply
 unfolding maxReply maxDigits maxCode
 image-fits p code v k e =
     let (c, i) = image-of-route p code v e in
@@ -106,7 +130,13 @@ image-fits p code v k e =
     let head = to-fits q (words-fit p k q m) in
     let whole : length code ≡ length (q .from) + length x = ap length from ∙ length-append (q .from) x in
     let sent : length v ≡ length (q .to) + length x = ap length to ∙ length-append (q .to) x in
-    omega (arith, word-size v, code-fits (p .shape) code c)
+    let y = places-exact .routes (p .rows) code v i in
+    record { place-granted = place-few p k _ (y .pair) (y .there); room = omega (arith, word-size v, code-fits (p .shape) code c) }
+
+-- the line of an image has at most eight bytes more
+pub image-line-size : (image : Bytes) (k : ℕ) → k ≤ maxPairs → length (okLine (image ∷ decimal k ∷ [])) ≤ length image + 8
+unfolding maxPairs
+image-line-size image k h = let digits = decimal-size 2 k (omega arith) in simp length-append (omega arith)
 
 pub rooms : Rooms maxReply
 unfolding maxReply slotCount

@@ -2,9 +2,9 @@
 // `ok` and `no`, with a number, an image or a column behind them, and U's line for a held slot. Each function writes its line from a place
 // on and returns the place behind it; the rest of the buffer stays as it was. What the bytes of a line are is said in the crate `desk`.
 ghost use mathlib.Core.List.{[], _∷_};
-ghost use Prim.Native.Nat.{_+_, _≤_, _<_};
+ghost use Prim.Native.Nat.{_+_, _≤_};
 ghost use lib.ListN.{length, take, drop};
-ghost use Rattle.higman.specs.Text.{tab, decimal};
+ghost use Rattle.higman.specs.Text.{decimal};
 ghost use Rattle.words.specs.Writing.{Wrote};
 ghost use Rattle.desk.specs.Bytes.{lineOf, okLine, noLine};
 ghost use Rattle.replies.specs.Lines.{imageAt, ImageFits, HeldFits};

@@ -5,12 +5,12 @@ use mathlib.Core.Bool.{true}
 use borrow.Author.Needs.{needs}
 use borrow.Author.Tests.{not-true, not-false}
 use lib.ListN.{length}
-use Rattle.higman.specs.Limits.{isCode}
-use Rattle.higman.specs.Answers.{Route, routed}
+use Rattle.higman.specs.Limits.{Plan, isCode}
+use Rattle.higman.specs.Answers.{routed}
 use Rattle.higman.specs.Text.{wordOf}
 use Rattle.words.specs.Bytes.{shape}
 use Rattle.tables.specs.Lines.{planOfColumns}
-use Rattle.operations.specs.Routing.{routingIn, imageInto}
+use Rattle.operations.specs.Routing.{routingBy, imageInto}
 use Rattle.operations.proofs.KeptValues.{lent-operand}
 use Rattle.operations.proofs.Codes.{route-no-code, code-digits, replied, route-found}
 use Rattle.operations.proofs.routing.route.Statement.{statement}
@@ -19,8 +19,8 @@ use Rattle.operations.proofs.routing.route.Tie as tie
 abbrev start : tie.After-is-code → tie.Start
 start c = c .before .before .before .before .before
 
-abbrev answer : tie.Start → Route
-answer s = let a = s .args in routed (planOfColumns (a .arity) (a .roots) (a .from .now) (a .to .now)) (wordOf (a .code .now))
+abbrev plan : tie.Start → Plan
+plan s = let a = s .args in planOfColumns (a .arity) (a .roots) (a .from .now) (a .to .now)
 
 -- where the code is one that the plan routes
 code : (c : tie.Else1) →
@@ -31,8 +31,8 @@ code c = sym (c .before .is-code .ensures) ∙ not-false (c .before .is-code .re
 -- the reply to what was found, and the buffer
 found : (c : tie.After-route-into) →
     let s = start (c .before .before .before) in
-    (replied (c .route-into .result) ≡ routingIn (answer s) (length (s .args .out .now)))
-    × (c .route-into .last .1 .1 .1 .0 ≡ imageInto (answer s) (s .args .out .now))
+    (replied (c .route-into .result) ≡ routingBy (plan s) (wordOf (s .args .code .now)) (length (s .args .out .now)))
+    × (c .route-into .last .1 .1 .1 .0 ≡ imageInto (routed (plan s) (wordOf (s .args .code .now))) (s .args .out .now))
 found c =
     let e = c .before .before in
     let s = start (e .before) in

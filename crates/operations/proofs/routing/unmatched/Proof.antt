@@ -11,7 +11,7 @@ use Rattle.words.specs.Bytes.{shape}
 use Rattle.columns.specs.Packed.{wordsOf}
 use Rattle.tables.specs.Routing.{further}
 use Rattle.operations.specs.Routing.{matchedIn}
-use Rattle.operations.proofs.Codes.{matched-no-code, matched-code, whole-code, code-digits, searchable}
+use Rattle.operations.proofs.Codes.{matched-no-code, matched-code, place-no-code, place-code, whole-code, code-digits, searchable}
 use Rattle.operations.proofs.routing.unmatched.Statement.{statement}
 use Rattle.operations.proofs.routing.unmatched.Tie as tie
 
@@ -31,23 +31,28 @@ returns c =
     let s = shape (a .arity) (a .roots) in
     let refused = sym (i .is-code .ensures) ∙ not-true (i .is-code .result) (c .if1 .taken) in
     let none = matched-no-code s (wordsOf (a .from .now)) (a .code .now) refused in
-    whole-code (matchedIn s (wordsOf (a .from .now)) (a .code .now)) (a .code .now) (a .code .ptr) none
+    let whole = whole-code (matchedIn s (wordsOf (a .from .now)) (a .code .now)) (a .code .now) (a .code .ptr) none in
+    (whole .0, (whole .1, place-no-code s (wordsOf (a .from .now)) (a .code .now) refused))
 
 unmatched-requires : tie.Need-unmatched-requires
 unmatched-requires c κs =
-    let s = start (c .before) in
+    let e = c .before in
+    let s = start (e .before) in
     let a = s .args in (
       searchable (a .arity) (a .roots) (a .from .now) (s .pre .0) (s .pre .1) (a .code .now),
-      code-digits (a .arity) (a .roots) (a .from .now) (s .pre .0) (s .pre .1) (a .code .now) (code c),
+      code-digits (a .arity) (a .roots) (a .from .now) (s .pre .0) (s .pre .1) (a .code .now) (code e),
     )
 
 returns-2 : tie.Need-returns-2
 returns-2 c =
-    let e = c .before in
+    let e = c .before .before in
     let a = start (e .before) .args in
     let found = matched-code (shape (a .arity) (a .roots)) (wordsOf (a .from .now)) (a .code .now) (code e) in (
       c .unmatched .ensures .0 ∙ ap (λ n. drop n (a .code .now)) found,
-      c .unmatched .ensures .1 ∙ ap (λ n. further n (a .code .ptr)) found,
+      (
+        c .unmatched .ensures .1 .0 ∙ ap (λ n. further n (a .code .ptr)) found,
+        c .unmatched .ensures .1 .1 ∙ place-code (shape (a .arity) (a .roots)) (wordsOf (a .from .now)) (a .code .now) (code e),
+      ),
     )
 
 pub unmatched-spec : {M : Type 1} → statement M

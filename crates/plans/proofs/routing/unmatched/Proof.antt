@@ -13,7 +13,7 @@ use Rattle.operations.proofs.KeptValues as K
 use Rattle.operations.proofs.KeptValues.{lent}
 use Rattle.operations.proofs.Codes.{whole-code}
 use Rattle.plans.specs.Routing.{matched}
-use Rattle.plans.proofs.Codes.{matched-no-plan, matched-plan}
+use Rattle.plans.proofs.Codes.{matched-no-plan, place-no-plan, matched-plan, place-plan}
 use Rattle.plans.proofs.routing.unmatched.Statement.{statement}
 use Rattle.plans.proofs.routing.unmatched.Tie as tie
 
@@ -34,8 +34,9 @@ returns : tie.Need-returns
 returns c =
     let i = c .before in
     let a = i .before .before .args in
-    whole-code (matched (a .p) (a .code .now)) (a .code .now) (a .code .ptr)
-    (matched-no-plan (a .p) (a .code .now) (sym (i .is-plan .ensures) ∙ not-true (i .is-plan .result) (c .if1 .taken)))
+    let refused = sym (i .is-plan .ensures) ∙ not-true (i .is-plan .result) (c .if1 .taken) in
+    let whole = whole-code (matched (a .p) (a .code .now)) (a .code .now) (a .code .ptr) (matched-no-plan (a .p) (a .code .now) refused) in
+    (whole .0, (whole .1, sym (place-no-plan (a .p) (a .code .now) refused)))
 
 array-share-prefix-from : tie.Need-array-share-prefix-from
 array-share-prefix-from c = from-room (c .before)
@@ -48,16 +49,21 @@ slice-aggregate-unmatched c =
 
 unmatched-requires : tie.Need-unmatched-requires
 unmatched-requires c κs =
-    let e = c .before .before in
+    let e = c .before .before .before in
     let p = called e .args .p in
     (take (p .pairs) (p .to), lent p (plan e) (from-room e) (to-room e))
 
 returns-2 : tie.Need-returns-2
 returns-2 c =
-    let e = c .before .before .before in
+    let e = c .before .before .before .before in
     let a = called e .args in
-    let found = matched-plan (a .p) (a .code .now) (plan e) (from-room e) (to-room e) in
-    (c .unmatched .ensures .0 ∙ ap (λ n. drop n (a .code .now)) found, c .unmatched .ensures .1 ∙ ap (λ n. further n (a .code .ptr)) found)
+    let found = matched-plan (a .p) (a .code .now) (plan e) (from-room e) (to-room e) in (
+      c .unmatched .ensures .0 ∙ ap (λ n. drop n (a .code .now)) found,
+      (
+        c .unmatched .ensures .1 .0 ∙ ap (λ n. further n (a .code .ptr)) found,
+        c .unmatched .ensures .1 .1 ∙ place-plan (a .p) (a .code .now) (plan e) (from-room e) (to-room e),
+      ),
+    )
 
 pub unmatched-spec : {M : Type 1} → statement M
 unmatched-spec =
