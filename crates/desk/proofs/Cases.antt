@@ -21,7 +21,7 @@ unfolding starSessions otherSessions surveySessions rightsSessions session run r
 desk-cases =
     record {
       star = (refl, (refl, (refl, (refl, (refl, (refl, (refl, (refl, (refl, (refl, tt))))))))));
-      others = (refl, (refl, (refl, (refl, (refl, (refl, (refl, (refl, tt))))))));
+      others = (refl, (refl, (refl, (refl, (refl, (refl, (refl, (refl, (refl, tt)))))))));
       survey = (refl, (refl, (refl, tt)));
       rights = (refl, (refl, tt));
     }

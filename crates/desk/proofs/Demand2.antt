@@ -19,13 +19,13 @@ use Rattle.higman.specs.Answers.{same, sameShape, Route, Image, TooShort, NotRo
 use Rattle.higman.specs.Theorems.{ActAlike}
 use Rattle.higman.specs.Fronts.{BlockOf, SendsInTurn}
 use Rattle.higman.specs.Places.{placeOf, Placed, placedBlock, pairsOf, AtPlace, RoutesAt}
-use Rattle.higman.proofs.Tests.{T-of}
+use Rattle.higman.proofs.Tests.{T-of, so}
 use Rattle.higman.proofs.KeptPlans.{arity-of-range}
 use Rattle.higman.proofs.Answers.{followed-cases, inverted-cases, shape-path, image-of-route, none-of-short}
 use Rattle.higman.proofs.Demand3.{demand3}
 use Rattle.higman.proofs.Statements.{normal-form, followed-acts, group-acts, answers-exact}
 use Rattle.higman.proofs.Fronts.{fronts-exact}
-use Rattle.higman.proofs.Places.{places-exact}
+use Rattle.higman.proofs.Places.{places-exact, only-place}
 use Rattle.higman.specs.Text.{Bytes, wordOf}
 use Rattle.desk.specs.Limits.{maxChanges}
 use Rattle.desk.specs.Desk.{Draft, Desk, countOf, held, IsDesk}
@@ -225,23 +225,23 @@ image-made d c code v k o =
     by-route p reply f (inr (r, g)) = let z : _≡_ {A = ℕ} 0 1 = cc in absurd (omega arith)
 
 places-replied : PlacesReplied
-places-replied = record { image = image; lines = lines }
+places-replied = record { images = images; blocks = blocks }
   where
-    image : (d : Desk) → IsDesk d → (c : ℕ) (code : Bytes) (v : Word) (k : ℕ) → operation d (W c code) ≡ pass (d, okImage v k)
+    images : (d : Desk) → IsDesk d → (c : ℕ) (code : Bytes) (v : Word) (k : ℕ) → operation d (W c code) ≡ pass (d, okImage v k)
         → (r : Plan) × (held d (slotNumber c) ≡ some r) × RoutesAt (r .rows) (wordOf code) v k
         × ((j : ℕ) (p : Pair) → AtPlace (r .rows) j p → T (begins (p .from) (wordOf code)) → j ≡ k)
-    image d D c code v k o =
+    images d D c code v k o =
         let (r, x, f, e) = image-made d c code v k o in
         let w = wordOf code in (
           r,
           x,
           subst (RoutesAt (r .rows) w v) (sym e) (places-exact .routes (r .rows) w v (image-of-route r w v f .1)),
-          λ j p y b. places-exact .only r (D .kept (slotNumber c) r x) w j p y b ∙ sym e,
+          λ j p y b. only-place r (D .kept (slotNumber c) r x) w j p y (so (begins (p .from) w) b) ∙ sym e,
         )
 
-    lines : (d : Desk) (c : ℕ) (code : Bytes) (ls : List Placed) → operation d (W c code) ≡ pass (d, okBlock ls)
+    blocks : (d : Desk) (c : ℕ) (code : Bytes) (ls : List Placed) → operation d (W c code) ≡ pass (d, okBlock ls)
         → (r : Plan) × (held d (slotNumber c) ≡ some r) × ((l : Placed) → List·Memᴰ l ls → AtPlace (r .rows) (l .place) (l .pair))
-    lines d c code ls o =
+    blocks d c code ls o =
         let (r, x, short, made) = block-made d c code ls o in
         (r, x, λ l m. places-exact .places (r .rows) (wordOf code) l (subst (List·Memᴰ l) made m))
 

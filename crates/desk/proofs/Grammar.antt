@@ -24,7 +24,7 @@ use Rattle.desk.specs.Records.{field, noMore, Rule}
 use Rattle.desk.specs.Records.{grammar, readBy, readFields, parse, fields, parted, recordFields, recordText, noTab, hasDigits}
 use Rattle.desk.specs.Records.{numbersFit, wellFormed}
 use Rattle.desk.specs.Grammar.{GrammarExact, rightDigit, RecordForms, NumbersFit, WellFormedExact, LineOf, RepliesWritten, TextExact}
-use Rattle.desk.specs.Replies.{Held, okBlock, surveys}
+use Rattle.desk.specs.Replies.{okNumber, Held, okBlock, surveys}
 use Rattle.desk.specs.Bytes.{lineOf, okLine, counted, partFields, heldFields, replyBytes}
 use Rattle.desk.proofs.Fields.{no-tab-cons, word-no-tab, fields-of-parted, parted-of-fields, fields-no-tab}
 use Rattle.higman.proofs.Decimals.{decimals-exact}
@@ -289,12 +289,12 @@ counted-lines : {A : Type 0} (f : A → List Bytes) (l : List A)
 counted-lines f l = ap₂ (λ ls n. joinLines ls ++ okLine (decimal n ∷ [])) (map-map lineOf f l) (length-map l f)
 
 block-lines : (ls : List Placed)
-    → replyBytes (okBlock ls) ≡ joinLines (map (λ l. lineOf (partFields l)) ls) ++ okLine (decimal (length ls) ∷ [])
+    → replyBytes (okBlock ls) ≡ joinLines (map (λ l. lineOf (partFields l)) ls) ++ replyBytes (okNumber (length ls))
 unfolding replyBytes
 block-lines ls = counted-lines partFields ls
 
 survey-lines : (hs : List Held)
-    → replyBytes (surveys hs) ≡ joinLines (map (λ h. lineOf (heldFields h)) hs) ++ okLine (decimal (length hs) ∷ [])
+    → replyBytes (surveys hs) ≡ joinLines (map (λ h. lineOf (heldFields h)) hs) ++ replyBytes (okNumber (length hs))
 unfolding replyBytes
 survey-lines hs = counted-lines heldFields hs
 

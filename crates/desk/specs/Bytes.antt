@@ -9,7 +9,7 @@ use Rattle.higman.specs.Tables.{row}
 use Rattle.higman.specs.Limits.{Plan}
 use Rattle.higman.specs.Text.{lineEnd, wordBytes, Bytes, bytes, decimal}
 use Rattle.higman.specs.Listing.{joinLines, listing, slotByte}
-use Rattle.higman.specs.Places.{Placed, placedFrom}
+use Rattle.higman.specs.Places.{Placed}
 use Rattle.higman.specs.Refusals.{Letter, letterByte}
 use Rattle.desk.specs.Records.{parted}
 use Rattle.desk.specs.Replies.{Held, pairsIn, Reply, silent, ok, okNumber, okImage, okBlock, lists, surveys, refuses}
@@ -59,7 +59,8 @@ unfolding replyBytes
 replyBytes-example = refl
 
 -- "`B⇥111⇥11⇥1`, `B⇥112⇥121⇥2`, closed by `ok⇥2`"
-block-example : replyBytes (okBlock (placedFrom 1 (row 111 11 ∷ row 112 121 ∷ []))) ≡ bytes "B\t111\t11\t1\nB\t112\t121\t2\nok\t2\n"
+block-example : replyBytes (okBlock (record { place = 1; pair = row 111 11 } ∷ record { place = 2; pair = row 112 121 } ∷ []))
+    ≡ bytes "B\t111\t11\t1\nB\t112\t121\t2\nok\t2\n"
 unfolding replyBytes
 block-example = refl
 

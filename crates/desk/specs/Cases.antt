@@ -47,12 +47,16 @@ starSessions =
     (typeφ ++ ("K\tA\t4\tB" ∷ "L\tB" ∷ []) gives ("ok\t3" ∷ "ok\t1" ∷ "P\tB\t2\t1" ∷ "M\t1\t1" ∷ "E" ∷ [])) ∷
     -- "ψ then its inverse: 1→1."
     (typeψ ++ ("I\tA\tB" ∷ "F\tA\tB\tC" ∷ "L\tC" ∷ "T" ∷ []) gives ("ok\t3" ∷ "ok\t3" ∷ "ok\t1" ∷ "P\tC\t2\t1" ∷ "M\t1\t1" ∷ "E" ∷ "ok\t3" ∷ [])) ∷
-    -- "ψ on 12 gives 122; on 11 gives 13": now the block of 11 (change request E1), and 13 is the library's alone
+    -- "ψ on 12 gives 122; on 11 gives 13": now the block of 11 (change request E1), 13 is the library's alone,
+    -- and there are places (change request E7)
     (typeψ ++ ("W\tA\t12" ∷ "W\tA\t11" ∷ []) gives ("ok\t3" ∷ "ok\t122\t3" ∷ "B\t111\t11\t1" ∷ "B\t112\t121\t2" ∷ "ok\t2" ∷ [])) ∷
     []
 
 unfoldable pub otherSessions : List Case
 otherSessions =
+    -- the places of another slot's plan: a block that begins at the second, and an image by the third
+    (typeψ ++ ("I\tA\tB" ∷ "W\tB\t12" ∷ "W\tB\t1221" ∷ [])
+    gives ("ok\t3" ∷ "ok\t3" ∷ "B\t121\t112\t2" ∷ "B\t122\t12\t3" ∷ "ok\t2" ∷ "ok\t121\t3" ∷ [])) ∷
     -- "Operands are read before c is written, so letters may repeat.": ψ in A, φ in B
     (typeψ ++ ("F\tA\tA\tA" ∷ "L\tA" ∷ []) gives ("ok\t3" ∷ "ok\t4" ∷ "P\tA\t2\t1" ∷ "M\t1111\t11" ∷ "M\t1112\t121" ∷ "M\t112\t1221" ∷ "M\t12\t1222" ∷ "E" ∷ [])) ∷
     (typeψ ++ typeφInB ++ ("F\tA\tB\tA" ∷ "L\tA" ∷ []) gives ("ok\t3" ∷ "ok\t3" ∷ "ok\t4" ∷ "P\tA\t2\t1" ∷ "M\t1111\t122" ∷ "M\t1112\t121" ∷ "M\t112\t111" ∷ "M\t12\t112" ∷ "E" ∷ [])) ∷

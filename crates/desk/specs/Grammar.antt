@@ -21,7 +21,7 @@ use Rattle.desk.specs.Limits.{maxLine}
 use Rattle.desk.specs.Records.{Record, P, M, E, F, I, K, S, W, L, C, T, U, X, Z, G, fields, parse, recordFields, recordText}
 use Rattle.desk.specs.Records.{noTab, wellFormed, Right, noRight, mayRead, mayWrite}
 use Rattle.desk.specs.Replies.{Held, pairsIn, silent, ok, okNumber, okImage, okBlock, lists, surveys, refuses}
-use Rattle.desk.specs.Bytes.{lineOf, okLine, partFields, heldFields, replyBytes}
+use Rattle.desk.specs.Bytes.{lineOf, partFields, heldFields, replyBytes}
 
 -- "1, unknown letter, wrong number of fields, a field form": every other line is the text of the record that it is read as.
 abbrev pub GrammarExact : Type 0
@@ -110,7 +110,7 @@ pub record RepliesWritten : Type 0 where
   pub part : (l : Placed)
       → LineOf (lineOf (partFields l)) (bytes "B" ∷ wordBytes (l .pair .from) ∷ wordBytes (l .pair .to) ∷ decimal (l .place) ∷ [])
   pub block : (ls : List Placed)
-      → replyBytes (okBlock ls) ≡ joinLines (map (λ l. lineOf (partFields l)) ls) ++ okLine (decimal (length ls) ∷ [])
+      → replyBytes (okBlock ls) ≡ joinLines (map (λ l. lineOf (partFields l)) ls) ++ replyBytes (okNumber (length ls))
   pub plan : (b : ℕ) (p : Plan) → replyBytes (lists b p) ≡ listing b p
   -- "A refusal is `no⇥` and its number; those of E for a column add ⇥F or ⇥T (from, to)."
   pub refusal : (n : ℕ) → LineOf (replyBytes (refuses n none)) (bytes "no" ∷ decimal n ∷ [])
@@ -121,7 +121,7 @@ pub record RepliesWritten : Type 0 where
       → LineOf (lineOf (heldFields h))
       ((slotByte (h .slot) ∷ []) ∷ decimal (h .plan .shape .arity) ∷ decimal (h .plan .shape .roots) ∷ decimal (pairsIn h) ∷ [])
   pub survey : (hs : List Held)
-      → replyBytes (surveys hs) ≡ joinLines (map (λ h. lineOf (heldFields h)) hs) ++ okLine (decimal (length hs) ∷ [])
+      → replyBytes (surveys hs) ≡ joinLines (map (λ h. lineOf (heldFields h)) hs) ++ replyBytes (okNumber (length hs))
 
 -- all of it, with what higman says of letters and numbers
 pub record TextExact : Type 0 where

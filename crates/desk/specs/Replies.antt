@@ -379,7 +379,8 @@ surveyed-example = refl
 -- W by ψ: an image by the second pair, the blocks of 11 and of the belt, and a wrong digit
 front-example : map (λ code. settle twoPlans (operation twoPlans (W (byte "A") (bytes code))) .1)
     ("1122" ∷ "11" ∷ "1" ∷ "13" ∷ [])
-    ≡ okImage (spell 1212) 2 ∷ okBlock (placedFrom 1 (row 111 11 ∷ row 112 121 ∷ [])) ∷ okBlock (placedFrom 1 ψ) ∷ refuses 4 none ∷ []
+    ≡ okImage (spell 1212) 2 ∷ okBlock (record { place = 1; pair = row 111 11 } ∷ record { place = 2; pair = row 112 121 } ∷ [])
+    ∷ okBlock (placedFrom 1 ψ) ∷ refuses 4 none ∷ []
 unfolding _>>=_ operation admission job kind neededRight freshDesk changed slotCount stationCount maxRight routed placeOf placedBlock
     isCode maxCode digitOf
 front-example = refl

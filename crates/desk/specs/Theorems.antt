@@ -78,13 +78,14 @@ BlockReplied =
     → (r : Plan) × (held d (slotNumber c) ≡ some r) × BlockOf r (wordOf code) (pairsOf lines)
     × ((a b : Plan) → Kept a → Kept b → followed a b ≡ Granted r → SendsInTurn a b (wordOf code) (pairsOf lines))
 
--- Change request E7: where W gives an image and a place, the pair at that place of the plan in the slot makes the image, and the from-word
--- of no other place begins the code; and every line of a block has the place of its pair. `PlacesExact.listed` finds them in L's reply.
+-- Change request E7: where W gives an image and a place, the image comes from the pair at that place of the plan in the slot, and no
+-- from-word at another place begins the code; and every line of a block has the place of its pair. That these are the places of M records
+-- in L's reply is `PlacesExact.listed` of higman and `RepliesWritten.plan`.
 pub record PlacesReplied : Type 0 where
-  pub image : (d : Desk) → IsDesk d → (c : ℕ) (code : Bytes) (v : Word) (k : ℕ) → operation d (W c code) ≡ pass (d, okImage v k)
+  pub images : (d : Desk) → IsDesk d → (c : ℕ) (code : Bytes) (v : Word) (k : ℕ) → operation d (W c code) ≡ pass (d, okImage v k)
       → (r : Plan) × (held d (slotNumber c) ≡ some r) × RoutesAt (r .rows) (wordOf code) v k
       × ((j : ℕ) (p : Pair) → AtPlace (r .rows) j p → T (begins (p .from) (wordOf code)) → j ≡ k)
-  pub lines : (d : Desk) (c : ℕ) (code : Bytes) (lines : List Placed) → operation d (W c code) ≡ pass (d, okBlock lines)
+  pub blocks : (d : Desk) (c : ℕ) (code : Bytes) (lines : List Placed) → operation d (W c code) ≡ pass (d, okBlock lines)
       → (r : Plan) × (held d (slotNumber c) ≡ some r)
       × ((l : Placed) → List·Memᴰ l lines → AtPlace (r .rows) (l .place) (l .pair))
 

@@ -12,16 +12,18 @@ use borrow.Author.Tests.{ltb-true, ltb-false}
 use lib.Dec.{T, ltb}
 use lib.ListN.{length, getD, take, drop, length-append, take-append-drop}
 use lib.Seq.{drop-cons, length-take-le}
-use Rattle.higman.specs.Words.{Word, after, given, begins, beginsProperly}
+use Rattle.higman.specs.Words.{Shape, Word, after, given, begins, beginsProperly}
 use Rattle.higman.specs.Tables.{Pair, Table, froms, firstMatch, image}
 use Rattle.higman.specs.Limits.{Plan, Kept}
-use Rattle.higman.specs.Listing.{openRecord, pairRecord, pairRecords, closeRecord, joinLines}
+use Rattle.higman.specs.Listing.{openRecord, pairRecord, pairRecords, closeRecord, joinLines, listing}
 use Rattle.higman.specs.Fronts.{block}
-use Rattle.higman.specs.Places.{placeOf, Placed, placedFrom, extendingIn, placedBlock, pairsOf, AtPlace, ListedAt, RoutesAt, PlacesExact}
+use Rattle.higman.specs.Places.{placeOf, Placed, placedFrom, extendingIn, placedBlock, pairsOf, AtPlace, ListedAt, RoutesAt}
+use Rattle.higman.specs.Places.{PlacesExact}
 use Rattle.higman.proofs.Tests.{passes, clash, so}
 use Rattle.higman.proofs.Prefixes.{after-some, after-append, begins-append, tail-of-begins, comparable}
 use Rattle.higman.proofs.Proper.{ApartFrom, Apart}
 use Rattle.higman.proofs.Ordered.{ordered-apart}
+use Rattle.higman.proofs.Listing.{listing-faithful}
 use Rattle.higman.proofs.Matches.{FirstAt, first-behind, first-place, match-found, match-nowhere, match-map}
 
 -- where nothing stands at a place
@@ -149,19 +151,39 @@ module _ (p : Pair) (behind : Table) (w tail : Word) (e : w ≡ p .from ++ tail)
   pair-at [] = refl
   pair-at (q ∷ before) = pair-at before
 
+  tail-at : (before : Table) → after (getD (before ++ p ∷ behind) (length before) noPair .from) w ≡ some tail
+  tail-at before = ap (λ q. after (q .from) w) (pair-at before) ∙ ap (after (p .from)) e ∙ after-append (p .from) tail
+
+  image-apart : (before : Table) → Apart (froms (before ++ p ∷ behind)) → image (before ++ p ∷ behind) w ≡ some (p .to ++ tail)
+  image-apart before apart =
+      let t = before ++ p ∷ behind in
+      let n = length before in
+      image-there t w n (first-there before apart) (omega (arith, length-append before (p ∷ behind))) tail (tail-at before)
+      ∙ ap (λ q. some (q .to ++ tail)) (pair-at before)
+
   place-apart : (before : Table) → Apart (froms (before ++ p ∷ behind)) → placeOf (froms (before ++ p ∷ behind)) w ≡ suc (length before)
   place-apart before apart =
       let t = before ++ p ∷ behind in
       let n = length before in
-      place-there t w n (first-there before apart) (omega (arith, length-append before (p ∷ behind))) tail
-      (ap (λ q. after (q .from) w) (pair-at before) ∙ ap (after (p .from)) e ∙ after-append (p .from) tail)
+      place-there t w n (first-there before apart) (omega (arith, length-append before (p ∷ behind))) tail (tail-at before)
 
-only : (a : Plan) → Kept a → (w : Word) (k : ℕ) (p : Pair) → AtPlace (a .rows) k p → T (begins (p .from) w)
+only : (a : Plan) → Kept a → (w v : Word) (k : ℕ) → RoutesAt (a .rows) w v k
+    → (image (a .rows) w ≡ some v) × (k ≡ placeOf (froms (a .rows)) w)
+only a A w v k r =
+    let p = r .pair in
+    let y = r .there in
+    let e = r .begun in
+    let apart = subst (λ t. Apart (froms t)) (y .parts) (ordered-apart (froms (a .rows)) (A .in-order)) in (
+      ap (λ t. image t w) (y .parts) ∙ image-apart p (y .behind) w (r .tail) e (y .before) apart ∙ ap some (sym (r .sent)),
+      y .counted ∙ sym (ap (λ t. placeOf (froms t) w) (y .parts) ∙ place-apart p (y .behind) w (r .tail) e (y .before) apart),
+    )
+
+-- so a pair whose from-word begins a word stands at the word's place
+pub only-place : (a : Plan) → Kept a → (w : Word) (k : ℕ) (p : Pair) → AtPlace (a .rows) k p → begins (p .from) w ≡ true
     → k ≡ placeOf (froms (a .rows)) w
-only a A w k p y b =
-    let (tail, e) = tail-of-begins (p .from) w (so (begins (p .from) w) b) in
-    let apart = subst (λ t. Apart (froms t)) (y .parts) (ordered-apart (froms (a .rows)) (A .in-order)) in
-    y .counted ∙ sym (ap (λ t. placeOf (froms t) w) (y .parts) ∙ place-apart p (y .behind) w tail e (y .before) apart)
+only-place a A w k p y b =
+    let (tail, e) = tail-of-begins (p .from) w b in
+    only a A w (p .to ++ tail) k (record { pair = p; tail = tail; there = y; begun = e; sent = refl }) .1
 
 -- the lines of a block
 extending-pairs : (k : ℕ) (t : Table) (w : Word) → pairsOf (extendingIn (placedFrom k t) w) ≡ block t w
@@ -219,28 +241,56 @@ lines-parted (q ∷ before) p behind =
     ap (λ x. pairRecord q ++ x) (lines-parted before p behind)
     ∙ sym (append-assoc (pairRecord q) (joinLines (pairRecords before)) (pairRecord p ++ joinLines (pairRecords behind)))
 
-listed : (a : Plan) (slot k : ℕ) (p : Pair) → AtPlace (a .rows) k p → ListedAt a slot k p
-listed a slot k p y =
-    let first = joinLines (pairRecords (y .before)) in
-    let last = joinLines (pairRecords (y .behind)) in
+listing-parted : (slot : ℕ) (s : Shape) (before behind : Table) (p : Pair)
+    → listing slot (record { shape = s; rows = before ++ p ∷ behind })
+    ≡ openRecord slot s ++ (joinLines (pairRecords before) ++ (pairRecord p ++ (joinLines (pairRecords behind) ++ closeRecord)))
+listing-parted slot s before behind p =
+    let first = joinLines (pairRecords before) in
+    let last = joinLines (pairRecords behind) in
+    ap (λ x. openRecord slot s ++ (x ++ closeRecord)) (lines-parted before p behind)
+    ∙ ap (λ x. openRecord slot s ++ x)
+    (append-assoc first (pairRecord p ++ last) closeRecord ∙ ap (λ x. first ++ x) (append-assoc (pairRecord p) last closeRecord))
+
+unlisted : (a : Plan) (slot k : ℕ) (p : Pair) → ListedAt a slot k p → AtPlace (a .rows) k p
+unlisted a slot k p y =
+    let b : Plan = record { shape = a .shape; rows = y .before ++ p ∷ y .behind } in
     record {
       before = y .before;
       behind = y .behind;
-      lines = ap (λ x. openRecord slot (a .shape) ++ (x ++ closeRecord))
-          (ap (λ t. joinLines (pairRecords t)) (y .parts) ∙ lines-parted (y .before) p (y .behind))
-          ∙ ap (λ x. openRecord slot (a .shape) ++ x)
-          (append-assoc first (pairRecord p ++ last) closeRecord ∙ ap (λ x. first ++ x) (append-assoc (pairRecord p) last closeRecord));
+      parts = ap (λ c. c .rows)
+          (listing-faithful .whole-listing slot a b .0 (y .lines ∙ sym (listing-parted slot (a .shape) (y .before) (y .behind) p)));
       counted = y .counted;
+    }
+
+listed : (a : Plan) (slot k : ℕ) (p : Pair) → AtPlace (a .rows) k p → ListedAt a slot k p
+listed a slot k p y =
+    record {
+      before = y .before;
+      behind = y .behind;
+      lines = ap (λ t. listing slot (record { shape = a .shape; rows = t })) (y .parts)
+          ∙ listing-parted slot (a .shape) (y .before) (y .behind) p;
+      counted = y .counted;
+    }
+
+next : (t : Table) (k : ℕ) (p q : Pair) → AtPlace t k p → AtPlace (q ∷ t) (suc k) p
+next t k p q y =
+    record {
+      before = q ∷ y .before;
+      behind = y .behind;
+      parts = ap (λ x. q ∷ x) (y .parts);
+      counted = ap suc (y .counted);
     }
 
 pub places-exact : PlacesExact
 unfolding placedBlock
 places-exact =
     record {
+      first = λ t p. record { before = []; behind = t; parts = refl; counted = refl };
+      next = next;
       nowhere = nowhere;
       routes = routes;
       only = only;
       pairs = extending-pairs 1;
       places = places;
-      listed = listed;
+      listed = λ a slot k p. (listed a slot k p, unlisted a slot k p);
     }

@@ -1,6 +1,6 @@
--- Places in the listing (change request E7): "which line of the plan to look at". A place is counted from 1, in the order of the pairs, and
--- 0 is none. A code has the place of the pair that routes it, and each line of a block that of its pair. `PlacesExact` fixes both, so neither
--- need be believed. Read Exercises.antt next.
+-- Places in the listing (change request E7): "which line of the plan to look at". A place is counted from 1, in the order of the pairs. A
+-- code has the place of the pair that routes it, 0 where there is none, and each line of a block has that of its pair. None of it need be
+-- believed: `PlacesExact` fixes it. Read Exercises.antt next.
 use Prim.Native.Nat.{ℕ, suc}
 use mathlib.Core.Path.{_≡_, refl}
 use mathlib.Core.Logic.{_↔_}
@@ -41,14 +41,14 @@ placedBlock t w = extendingIn (placedFrom 1 t) w
 abbrev pub pairsOf : List Placed → Table
 pairsOf ls = map (λ l. l .pair) ls
 
--- The pair at the place k of a table: all but one of k pairs stand before it.
+-- the pair at the place k of a table: one pair less than k stands before it
 pub record AtPlace (t : Table) (k : ℕ) (p : Pair) : Type 0 where
   pub before : Table
   pub behind : Table
   pub parts : t ≡ before ++ p ∷ behind
   pub counted : k ≡ suc (length before)
 
--- The same by the listing's bytes: behind the P record and the M records of all but one of k pairs stands the pair's own M record.
+-- The same by the listing's bytes: its M record is the k-th, behind the P record and the M records of the pairs before.
 pub record ListedAt (a : Plan) (slot k : ℕ) (p : Pair) : Type 0 where
   pub before : Table
   pub behind : Table
@@ -65,17 +65,20 @@ pub record RoutesAt (t : Table) (w v : Word) (k : ℕ) : Type 0 where
   pub sent : v ≡ pair .to ++ tail
 
 pub record PlacesExact : Type 0 where
+  -- the first pair of a table stands at 1, and with one pair more before them all stand one place further on
+  pub first : (t : Table) (p : Pair) → AtPlace (p ∷ t) 1 p
+  pub next : (t : Table) (k : ℕ) (p q : Pair) → AtPlace t k p → AtPlace (q ∷ t) (suc k) p
   -- 0 exactly where nothing matches; otherwise the place of the pair by which the image is made
   pub nowhere : (t : Table) (w : Word) → (placeOf (froms t) w ≡ 0) ↔ (image t w ≡ none)
   pub routes : (t : Table) (w v : Word) → image t w ≡ some v → RoutesAt t w v (placeOf (froms t) w)
-  -- of a kept plan no other pair begins the word; so no pair of it has two places
-  pub only : (a : Plan) → Kept a → (w : Word) (k : ℕ) (p : Pair) → AtPlace (a .rows) k p → T (begins (p .from) w)
-      → k ≡ placeOf (froms (a .rows)) w
-  -- the lines of a block are its pairs, each with its place
-  pub pairs : (t : Table) (w : Word) → pairsOf (placedBlock t w) ≡ block t w
+  -- of a kept plan no other pair routes the word, and so no pair has two places
+  pub only : (a : Plan) → Kept a → (w v : Word) (k : ℕ) → RoutesAt (a .rows) w v k
+      → (image (a .rows) w ≡ some v) × (k ≡ placeOf (froms (a .rows)) w)
+  -- the lines of a block are its pairs, as they stand there, each with its place
+  pub pairs : (t : Table) (w : Word) → map (λ l. l .pair) (placedBlock t w) ≡ block t w
   pub places : (t : Table) (w : Word) (l : Placed) → List·Memᴰ l (placedBlock t w) → AtPlace t (l .place) (l .pair)
   -- the place in a table is the place among the M records of its listing
-  pub listed : (a : Plan) (slot k : ℕ) (p : Pair) → AtPlace (a .rows) k p → ListedAt a slot k p
+  pub listed : (a : Plan) (slot k : ℕ) (p : Pair) → AtPlace (a .rows) k p ↔ ListedAt a slot k p
 
 -- "`ok⇥1212⇥2`": 1122 goes by the second pair; 12, which is the third from-word; and 11, which no from-word begins
 placeOf-example : map (placeOf (froms ψ)) (spell 1122 ∷ spell 12 ∷ spell 11 ∷ []) ≡ 2 ∷ 3 ∷ 0 ∷ []

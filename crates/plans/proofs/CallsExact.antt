@@ -33,7 +33,7 @@ use Rattle.higman.proofs.Buffers.{with-room, without-room, lent-written, lent-a
 use Rattle.higman.proofs.Answers.{shape-path, followed-is}
 use Rattle.higman.proofs.KeptPlans.{in-range, arity-of-range, member-of-kept}
 use Rattle.higman.proofs.Statements.{TableOf, table-of, normal-form, answers-exact}
-use Rattle.higman.proofs.Places.{places-exact}
+use Rattle.higman.proofs.Places.{places-exact, only-place}
 use Rattle.higman.proofs.Images.{row-of-image}
 use Rattle.words.specs.Packed.{unpack}
 use Rattle.words.proofs.Codes.{digits-drop, after-drop}
@@ -452,7 +452,7 @@ module _ (v : Plan) (code : List ℕ) (y : CodeTaken v code) where
       in
       record {
         digits = digits;
-        place = placed-by k (sym (places-exact .only (planOf v) (kept v (y .plan)) (wordOf code) k p there (T-of b)));
+        place = placed-by k (sym (only-place (planOf v) (kept v (y .plan)) (wordOf code) k p there b));
         part = part;
         tail = e ∙ ap (λ z. p .from ++ z) (sym behind);
       }
