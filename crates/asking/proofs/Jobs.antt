@@ -1,6 +1,6 @@
 -- The jobs of S, W and L by what the slots hold, and what the functions on lent plans tell of them where there is room for the reply.
 use Prim.Native.Nat.{ℕ, _≤_}
-use mathlib.Core.Path.{_≡_, refl, _∙_, ap}
+use mathlib.Core.Path.{_≡_, refl, sym, _∙_, ap}
 use mathlib.Core.Bool.{Bool, true, false}
 use mathlib.Core.List.{List}
 use mathlib.Core.Option.{Option, none, some}
@@ -10,32 +10,32 @@ use mir.Val.{boolByte}
 use lib.Dec.{leb}
 use lib.ListN.{length}
 use Rattle.higman.specs.Words.{Word}
-use Rattle.higman.specs.Tables.{Table}
+use Rattle.higman.specs.Tables.{froms}
 use Rattle.higman.specs.Limits.{Plan}
 use Rattle.higman.specs.Text.{Bytes, wordBytes, wordOf}
 use Rattle.higman.specs.Answers as Of
 use Rattle.higman.specs.Answers.{same, routed}
-use Rattle.higman.specs.Fronts.{block}
+use Rattle.higman.specs.Places.{placeOf, placedBlock}
 use Rattle.higman.specs.Refusals.{slotEmpty, slotOutside, bufferTooShort}
 use Rattle.higman.specs.Listing.{isSlot, slotNumber, listing}
 use Rattle.higman.specs.Buffers.{written, lentInto}
 use Rattle.desk.specs.Desk.{Desk, held}
 use Rattle.desk.specs.Records.{S, W, L}
-use Rattle.desk.specs.Replies.{_>>=_, Outcome, refuse, pass, Effect, planIn, ofComparison, ofRoute, bit, okNumber, okWord, okBlock, lists, job}
+use Rattle.desk.specs.Replies.{_>>=_, Outcome, refuse, pass, Effect, planIn, ofComparison, ofRoute, bit, okNumber, okImage, okBlock, lists, job}
 use Rattle.operations.specs.declared.Likeness.the-variants as Like
 use Rattle.operations.specs.declared.Listed.the-variants as Told
+use Rattle.operations.specs.declared.Route.{Route}
 use Rattle.operations.specs.declared.Route.the-variants.{Image, TooShort, Refused}
 use Rattle.operations.specs.Answers.{likeness}
 use Rattle.operations.specs.Routing.{routingIn, imageInto}
 use Rattle.operations.specs.Listing.{listingIn, listingFor, listedFor}
 
--- what W makes of a route, and of the block that it gives where the code is too short
-abbrev pub replied : Desk → Table → Of.Route → Outcome Effect
-replied d inside r = ofRoute inside r >>= λ reply. pass (d, reply)
+-- what W makes of the route of a code under a plan
+abbrev pub replied : Desk → Plan → Word → Of.Route → Outcome Effect
+replied d p w r = ofRoute p w r >>= λ reply. pass (d, reply)
 
--- of a code under a plan
 abbrev pub routeReply : Desk → Plan → Word → Outcome Effect
-routeReply d p w = replied d (block (p .rows) w) (routed p w)
+routeReply d p w = replied d p w (routed p w)
 
 -- and S of a comparison
 abbrev pub compared : Desk → Of.Comparison → Outcome Effect
@@ -120,54 +120,65 @@ module _ (a : ℕ) (s : isSlot a ≡ true) (p : Plan) (out : List ℕ) (room : l
       ap (λ b. elim b [ true ↦ lentInto (listing a p) out | false ↦ out ]) s
       ∙ ap (λ b. elim b [ true ↦ written out 0 (listing a p) | false ↦ out ]) fits
 
--- A route that gave an image of so many bytes, one of a code that is too short, and one that gave a refusal, with the buffer after each.
-pub record Sent (d : Desk) (inside : Table) (r : Of.Route) (part : List ℕ) (n : ℕ) : Type 0 where
+-- A route that gave an image of so many bytes and a place, one of a code that is too short, and one that gave a refusal, with the buffer
+-- after each.
+pub record Sent (d : Desk) (p : Plan) (w : Word) (r : Of.Route) (part : List ℕ) (n k : ℕ) : Type 0 where
   pub image : Word
   pub is-image : r ≡ Of.Image image
   pub size : n ≡ length (wordBytes image)
-  pub reply : replied d inside r ≡ pass (d, okWord image)
+  pub place : k ≡ placeOf (froms (p .rows)) w
+  pub reply : replied d p w r ≡ pass (d, okImage image k)
   pub buffer : imageInto r part ≡ written part 0 (wordBytes image)
 
-pub record Short (d : Desk) (inside : Table) (r : Of.Route) (part : List ℕ) : Type 0 where
+pub record Short (d : Desk) (p : Plan) (w : Word) (r : Of.Route) (part : List ℕ) : Type 0 where
   pub is-short : r ≡ Of.TooShort
-  pub reply : replied d inside r ≡ pass (d, okBlock inside)
+  pub reply : replied d p w r ≡ pass (d, okBlock (placedBlock (p .rows) w))
   pub buffer : imageInto r part ≡ part
 
-pub record Stopped (d : Desk) (inside : Table) (r : Of.Route) (part : List ℕ) (n : ℕ) : Type 0 where
-  pub reply : replied d inside r ≡ refuse n none
+pub record Stopped (d : Desk) (p : Plan) (w : Word) (r : Of.Route) (part : List ℕ) (n : ℕ) : Type 0 where
+  pub reply : replied d p w r ≡ refuse n none
   pub buffer : imageInto r part ≡ part
 
 -- W's image has room
 abbrev pub HasRoom : Of.Route → List ℕ → Type 0
 HasRoom r part = (v : Word) → r ≡ Of.Image v → length (wordBytes v) ≤ length part
 
-module _ (d : Desk) (inside : Table) (part : List ℕ) where
-  image-told : (v : Word) → HasRoom (Of.Image v) part → routingIn (Of.Image v) (length part) ≡ Image (length (wordBytes v))
+module _ (d : Desk) (p : Plan) (w : Word) (part : List ℕ) where
+  abbrev place : ℕ
+  place = placeOf (froms (p .rows)) w
+
+  -- what the route told
+  abbrev pub toldBy : Of.Route → Route
+  toldBy r = routingIn place r (length part)
+
+  image-told : (v : Word) → HasRoom (Of.Image v) part → toldBy (Of.Image v) ≡ Image (length (wordBytes v)) place
   image-told v fits =
       let size = length (wordBytes v) in
-      ap (λ b. elim b [ true ↦ Image size | false ↦ Refused bufferTooShort ]) (le-leb size (length part) (fits v refl))
+      ap (λ b. elim b [ true ↦ Image size place | false ↦ Refused bufferTooShort ]) (le-leb size (length part) (fits v refl))
 
-  pub route-sent : (r : Of.Route) → HasRoom r part → (n : ℕ) → routingIn r (length part) ≡ Image n → Sent d inside r part n
+  pub route-sent : (r : Of.Route) → HasRoom r part → (n k : ℕ) → toldBy r ≡ Image n k → Sent d p w r part n k
   unfolding _>>=_
-  route-sent (Of.Image v) fits n q =
+  route-sent (Of.Image v) fits n k q =
       let size = length (wordBytes v) in
+      let placed : k ≡ place = cc (image-told v fits) in
       record {
         image = v;
         is-image = refl;
         size = cc (image-told v fits);
-        reply = refl;
+        place = placed;
+        reply = ap (λ x. pass (d, okImage v x)) (sym placed);
         buffer = ap (λ b. elim b [ true ↦ written part 0 (wordBytes v) | false ↦ part ]) (le-leb size (length part) (fits v refl));
       }
-  route-sent Of.TooShort fits n q = let z : _≡_ {A = ℕ} 0 1 = cc in absurd (omega arith)
-  route-sent (Of.NotRouted x) fits n q = let z : _≡_ {A = ℕ} 0 1 = cc in absurd (omega arith)
+  route-sent Of.TooShort fits n k q = let z : _≡_ {A = ℕ} 0 1 = cc in absurd (omega arith)
+  route-sent (Of.NotRouted x) fits n k q = let z : _≡_ {A = ℕ} 0 1 = cc in absurd (omega arith)
 
-  pub route-short : (r : Of.Route) → HasRoom r part → routingIn r (length part) ≡ TooShort → Short d inside r part
+  pub route-short : (r : Of.Route) → HasRoom r part → toldBy r ≡ TooShort → Short d p w r part
   unfolding _>>=_
   route-short (Of.Image v) fits q = let z : _≡_ {A = ℕ} 0 1 = cc (image-told v fits) in absurd (omega arith)
   route-short Of.TooShort fits q = record { is-short = refl; reply = refl; buffer = refl }
   route-short (Of.NotRouted x) fits q = let z : _≡_ {A = ℕ} 0 1 = cc in absurd (omega arith)
 
-  pub route-refused : (r : Of.Route) → HasRoom r part → (n : ℕ) → routingIn r (length part) ≡ Refused n → Stopped d inside r part n
+  pub route-refused : (r : Of.Route) → HasRoom r part → (n : ℕ) → toldBy r ≡ Refused n → Stopped d p w r part n
   unfolding _>>=_
   route-refused (Of.Image v) fits n q = let z : _≡_ {A = ℕ} 0 1 = cc (image-told v fits) in absurd (omega arith)
   route-refused Of.TooShort fits n q = let z : _≡_ {A = ℕ} 0 1 = cc in absurd (omega arith)

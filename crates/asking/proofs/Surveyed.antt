@@ -135,6 +135,7 @@ module _ (h : Head) (columns : List ℕ) (H : HoldsDesk h columns) where
 
   survey-bytes : replyBytes (surveys (surveyed (deskOf h columns)))
       ≡ linesAt h (shownInOrder h) ++ okLine (decimal (length (shownInOrder h)) ∷ [])
+  unfolding replyBytes
   survey-bytes =
       let is = shownInOrder h in
       text-exact .replies .survey (surveyed (deskOf h columns))

@@ -5,7 +5,7 @@ use mathlib.Core.List.{List}
 use lib.ListN.{length}
 use Rattle.higman.specs.Text.{Bytes, wordOf}
 use Rattle.higman.specs.Answers.{routed, TooShort}
-use Rattle.higman.specs.Fronts.{block}
+use Rattle.higman.specs.Places.{placedBlock}
 use Rattle.columns.specs.Packed.{table}
 use Rattle.tables.specs.Lines.{planOfColumns}
 use Rattle.operations.specs.Plans.{LentPlan}
@@ -31,9 +31,9 @@ pub record AskedOfFront (from to code out : List ℕ) : Type 0 where
   pub short : routed (planOfColumns arity roots from to) (wordOf code) ≡ TooShort
   pub space : maxReply ≤ length out
 
--- what is then replied: the block of the code (change request E1)
+-- what is then replied: the block of the code (change request E1), with places (change request E7)
 abbrev pub blockReply : List ℕ → List ℕ → List ℕ → Bytes
-blockReply from to code = replyBytes (okBlock (block (table from to) (wordOf code)))
+blockReply from to code = replyBytes (okBlock (placedBlock (table from to) (wordOf code)))
 
 -- the same of a head, whatever its columns are
 abbrev pub AskedByHead : Head → List ℕ → Type 0

@@ -66,7 +66,8 @@ pub fn compare(head: Head, columns: &[u64], a: u8, b: u8) -> Reply
 }
 
 // W of a code that no from-word begins (change request E1): "one line `B⇥from⇥to` for every pair whose from-word extends the code, in
-// from order, and closes with `ok⇥` and how many". Such a code has fewer digits than a plan word may have, so that `front` packs all of it.
+// from order, and closes with `ok⇥` and how many", each line with its place (change request E7). Such a code has fewer digits than a plan
+// word may have, so that `front` packs all of it.
 fn write_block(from: &[u64], to: &[u64], code: &[u8], out: &mut [u8]) -> usize
     requires { ⌜ AskedOfFront (now from) (now to) (now code) (now out) ⌝ }
     ensures { λ r. ⌜ Wrote (blockReply (now (from .entry)) (now (to .entry)) (now (code .entry))) (now (out .entry)) 0 (now (out .exit)) r ⌝ }
@@ -74,11 +75,12 @@ fn write_block(from: &[u64], to: &[u64], code: &[u8], out: &mut [u8]) -> usize
     let run = columns::extending(from, tables::routing::front(code));
     let start = run.start;
     let end = run.end;
-    let used = tables::list::pair_lines(b'B', &from[start..end], &to[start..end], out, 0);
+    let used = tables::list::block_lines(&from[start..end], &to[start..end], start + 1, out, 0);
     replies::ok_number((end - start) as u32, out, used)
 }
 
-// W: 2, 8, 20, 9, 4. "`ok⇥` and the image": the image first, into its place, and then the line around it. Where there is none, the block.
+// W: 2, 8, 20, 9, 4. "`ok⇥` and the image", and the place of its pair: the image first, into where it stands in the line, and then the line
+// around it. Where there is none, the block.
 pub fn route(head: Head, columns: &[u64], a: u8, code: &[u8], out: &mut [u8]) -> Reply
     requires { ⌜ Asked head (now columns) (now out) ⌝ }
     ensures { λ r. ⌜ Tells (W a (now (code .entry))) head (now (columns .entry)) (now (out .entry)) r (now (out .exit)) ⌝ }
@@ -96,8 +98,8 @@ pub fn route(head: Head, columns: &[u64], a: u8, code: &[u8], out: &mut [u8]) ->
     let from = blocks::part(columns, i * BLOCK, n);
     let to = blocks::part(columns, i * BLOCK + MAX_PAIRS, n);
     match routing::route(size.arity, size.roots, from, to, code, &mut out[IMAGE_AT..]) {
-        Route::Image(digits) => {
-            let used = replies::ok_image(digits, out);
+        Route::Image(digits, place) => {
+            let used = replies::ok_image(digits, place, out);
             Reply::Written(used)
         }
         Route::TooShort => {

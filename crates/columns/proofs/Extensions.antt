@@ -1,5 +1,6 @@
 -- The words that a word w begins and does not equal, in a sorted column: none is in order with w, so they stand behind the place that
--- parts the column at w, side by side from there on. The pairs of two columns whose first words they are make up the block of w.
+-- parts the column at w, side by side from there on. The pairs of two columns whose first words they are make up the block of w, with
+-- places that count on from there.
 use Prim.Native.Nat.{ℕ, zero, suc, _+_, _-_, _≤_, _<_}
 use mathlib.Core.Path.{_≡_, refl, sym, _∙_, ap, subst}
 use mathlib.Core.Logic.{_⊎_, inl, inr, ⊎-elim}
@@ -9,10 +10,10 @@ use native.Mathlib.Nat.{zero-add}
 use native.Mathlib.Omega.{arith}
 use lib.ListN.{length, length-append}
 use Rattle.higman.specs.Words.{Word, begins, beginsProperly}
-use Rattle.higman.specs.Fronts.{block}
+use Rattle.higman.specs.Places.{Placed, placedFrom, extendingIn, placedBlock}
 use Rattle.higman.proofs.Tests.{passes, clash}
 use Rattle.higman.proofs.Prefixes.{tail-of-begins, proper-tail, begins-of-proper, proper-of-tail}
-use Rattle.higman.proofs.Fronts.{block-taken, block-passed}
+use Rattle.higman.proofs.Places.{line-taken, line-passed}
 use Rattle.words.specs.Packed.{unpack}
 use Rattle.columns.specs.Packed.{wordsOf, pairOf, table, rows, rowsAt, inOrder, sorted}
 use Rattle.columns.specs.Columns.{wordAt, PartedAt, Extending}
@@ -96,22 +97,31 @@ module _ (column : List ℕ) (s : sorted (wordsOf column) ≡ true) (w start : �
             between : begins (unpack w) (wordAt column k) ≡ true → begins (unpack w) (wordAt column end) ≡ true
             between e = begins-between (unpack w) (wordAt column end) (wordAt column k) first (sorted-at column s end k m h) e
 
--- the block of a word under two columns, place by place: where no word is begun, where the first words are, and where those of a run are
+-- the lines of a word's block under two columns, whose first pair has the place p: where no word is begun, where the first words are, and
+-- where those of a run are
 module _ (w : Word) where
-  none-begun : (from to : List ℕ) → ((k : ℕ) → k < length from → beginsProperly w (wordAt from k) ≡ false) → block (table from to) w ≡ []
-  unfolding block
-  none-begun [] to h = refl
-  none-begun (f ∷ from) [] h = refl
-  none-begun (f ∷ from) (t ∷ to) h =
-      block-passed (pairOf f t) (table from to) w (h 0 (omega arith)) ∙ none-begun from to (λ k l. h (suc k) (omega arith))
+  abbrev linesIn : ℕ → List ℕ → List ℕ → List Placed
+  linesIn p from to = extendingIn (placedFrom p (table from to)) w
 
-  first-begun : (n : ℕ) (from to : List ℕ) → length from ≡ length to → Extending from w 0 n → block (table from to) w ≡ rows n from to
-  first-begun zero from to e x = none-begun from to (λ k l. x .back k (omega arith) l)
-  first-begun (suc n) [] to e x = absurd (omega (arith, x .within))
-  first-begun (suc n) (f ∷ from) [] e x = absurd (omega arith)
-  first-begun (suc n) (f ∷ from) (t ∷ to) e x =
-      block-taken (pairOf f t) (table from to) w (x .inside 0 (omega arith) (omega arith))
-      ∙ ap (λ u. pairOf f t ∷ u) (first-begun n from to (omega arith) rest)
+  abbrev line : ℕ → ℕ → ℕ → Placed
+  line p f t = record { place = p; pair = pairOf f t }
+
+  none-begun : (p : ℕ) (from to : List ℕ) → ((k : ℕ) → k < length from → beginsProperly w (wordAt from k) ≡ false)
+      → linesIn p from to ≡ []
+  none-begun p [] to h = refl
+  none-begun p (f ∷ from) [] h = refl
+  none-begun p (f ∷ from) (t ∷ to) h =
+      line-passed (line p f t) (placedFrom (suc p) (table from to)) w (h 0 (omega arith))
+      ∙ none-begun (suc p) from to (λ k l. h (suc k) (omega arith))
+
+  first-begun : (p n : ℕ) (from to : List ℕ) → length from ≡ length to → Extending from w 0 n
+      → linesIn p from to ≡ placedFrom p (rows n from to)
+  first-begun p zero from to e x = none-begun p from to (λ k l. x .back k (omega arith) l)
+  first-begun p (suc n) [] to e x = absurd (omega (arith, x .within))
+  first-begun p (suc n) (f ∷ from) [] e x = absurd (omega arith)
+  first-begun p (suc n) (f ∷ from) (t ∷ to) e x =
+      line-taken (line p f t) (placedFrom (suc p) (table from to)) w (x .inside 0 (omega arith) (omega arith))
+      ∙ ap (λ u. line p f t ∷ u) (first-begun (suc p) n from to (omega arith) rest)
     where
       rest : Extending from w 0 n
       rest =
@@ -123,13 +133,16 @@ module _ (w : Word) where
             back = λ k l h. x .back (suc k) (omega arith) (omega arith);
           }
 
-  run-begun : (start n : ℕ) (from to : List ℕ) → length from ≡ length to → Extending from w start (start + n)
-      → block (table from to) w ≡ rowsAt start n from to
-  run-begun zero n from to e x = first-begun n from to e (subst (Extending from w 0) (zero-add n) x)
-  run-begun (suc s) n [] to e x = absurd (omega (arith, x .within))
-  run-begun (suc s) n (f ∷ from) [] e x = absurd (omega arith)
-  run-begun (suc s) n (f ∷ from) (t ∷ to) e x =
-      block-passed (pairOf f t) (table from to) w (x .front 0 (omega arith)) ∙ run-begun s n from to (omega arith) rest
+  run-begun : (p start n : ℕ) (from to : List ℕ) → length from ≡ length to → Extending from w start (start + n)
+      → linesIn p from to ≡ placedFrom (p + start) (rowsAt start n from to)
+  run-begun p zero n from to e x =
+      first-begun p n from to e (subst (Extending from w 0) (zero-add n) x) ∙ ap (λ k. placedFrom k (rows n from to)) (omega arith)
+  run-begun p (suc s) n [] to e x = absurd (omega (arith, x .within))
+  run-begun p (suc s) n (f ∷ from) [] e x = absurd (omega arith)
+  run-begun p (suc s) n (f ∷ from) (t ∷ to) e x =
+      line-passed (line p f t) (placedFrom (suc p) (table from to)) w (x .front 0 (omega arith))
+      ∙ run-begun (suc p) s n from to (omega arith) rest
+      ∙ ap (λ k. placedFrom k (rowsAt s n from to)) (omega arith)
     where
       rest : Extending from w s (s + n)
       rest =
@@ -142,7 +155,9 @@ module _ (w : Word) where
           }
 
   pub block-run : (from to : List ℕ) (start end : ℕ) → length from ≡ length to → Extending from w start end
-      → block (table from to) w ≡ rowsAt start (end - start) from to
+      → placedBlock (table from to) w ≡ placedFrom (start + 1) (rowsAt start (end - start) from to)
+  unfolding placedBlock
   block-run from to start end e x =
       let whole : end ≡ start + (end - start) = omega (arith, x .forward) in
-      run-begun start (end - start) from to e (subst (Extending from w start) whole x)
+      run-begun 1 start (end - start) from to e (subst (Extending from w start) whole x)
+      ∙ ap (λ k. placedFrom k (rowsAt start (end - start) from to)) (omega arith)

@@ -27,16 +27,6 @@ use Rattle.higman.proofs.Answers.{none-of-short}
 use Rattle.higman.proofs.Demand3.{demand3}
 use Rattle.higman.proofs.Statements.{followed-acts, answers-exact}
 
--- one pair of a table more
-module _ (p : Pair) (t : Table) (w : Word) where
-  pub block-taken : beginsProperly w (p .from) ≡ true → block (p ∷ t) w ≡ p ∷ block t w
-  unfolding block
-  block-taken e = rw (e, block)
-
-  pub block-passed : beginsProperly w (p .from) ≡ false → block (p ∷ t) w ≡ block t w
-  unfolding block
-  block-passed e = rw (e, block)
-
 -- the pairs of a table that a front properly begins, and no others
 pub block-own : (t : Table) (w : Word) (p : Pair) → List·Memᴰ p (block t w) → List·Memᴰ p t × T (beginsProperly w (p .from))
 unfolding block

@@ -185,7 +185,14 @@ only-place a A w k p y b =
     let (tail, e) = tail-of-begins (p .from) w b in
     only a A w (p .to ++ tail) k (record { pair = p; tail = tail; there = y; begun = e; sent = refl }) .1
 
--- the lines of a block
+-- the lines of a block, one by one
+module _ (l : Placed) (ls : List Placed) (w : Word) where
+  pub line-taken : beginsProperly w (l .pair .from) ≡ true → extendingIn (l ∷ ls) w ≡ l ∷ extendingIn ls w
+  line-taken e = rw (e, extendingIn)
+
+  pub line-passed : beginsProperly w (l .pair .from) ≡ false → extendingIn (l ∷ ls) w ≡ extendingIn ls w
+  line-passed e = rw (e, extendingIn)
+
 extending-pairs : (k : ℕ) (t : Table) (w : Word) → pairsOf (extendingIn (placedFrom k t) w) ≡ block t w
 unfolding block
 extending-pairs k [] w = refl

@@ -110,7 +110,7 @@ module _ (p : Plan) (w : Word) (k : Kept p) where
       omega (arith, decimal-size 2 n (omega (arith, inside-few)), length-append (decimal n) (lineEnd ∷ []))
 
   pub block-fits : length (replyBytes (okBlock inside)) ≤ maxReply
-  unfolding maxReply maxPairs
+  unfolding maxReply maxPairs replyBytes
   block-fits =
       let lines = joinLines (map (λ l. lineOf (partFields l)) inside) in
       let whole = ap length (text-exact .replies .block inside) ∙ length-append lines (okLine (decimal (length inside) ∷ [])) in
@@ -180,7 +180,7 @@ surveyed-few d =
     omega (arith, length-of-perm (arranged-perm comesBefore hs), held-few 0 (seen d), seen-length d)
 
 pub survey-size : (d : Desk) → IsDesk d → length (replyBytes (surveys (surveyed d))) ≤ slotCount * 10 + 14
-unfolding slotCount
+unfolding slotCount replyBytes
 survey-size d D =
     let hs = surveyed d in
     let few : length hs ≤ 8 = omega (arith, surveyed-few d, D .eight) in

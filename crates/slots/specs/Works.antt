@@ -14,7 +14,7 @@ use Rattle.higman.specs.Refusals.{Letter, letterByte}
 use Rattle.higman.specs.Buffers.{written}
 use Rattle.desk.specs.Desk.{Desk}
 use Rattle.desk.specs.Records.{Record, SlotUse, reading, writing, kind, ofSlots, isChange}
-use Rattle.desk.specs.Replies.{Reply as ReplyOf, silent, ok, okNumber, okWord, okBlock, lists, surveys, refuses, Outcome, refuse, pass, Effect}
+use Rattle.desk.specs.Replies.{Reply as ReplyOf, silent, ok, okNumber, okImage, okBlock, lists, surveys, refuses, Outcome, refuse, pass, Effect}
 use Rattle.desk.specs.Replies.{admission, operation, _>>=_, job, ofAnswer, keepIn}
 use Rattle.desk.specs.Bytes.{replyBytes}
 use Rattle.operations.specs.declared.Making.{Making}
@@ -30,8 +30,8 @@ abbrev pub direct : ReplyOf → Bytes
 direct silent = []
 direct ok = []
 direct (okNumber n) = []
-direct (okWord w) = replyBytes (okWord w)
-direct (okBlock t) = replyBytes (okBlock t)
+direct (okImage w k) = replyBytes (okImage w k)
+direct (okBlock ls) = replyBytes (okBlock ls)
 direct (lists slot p) = replyBytes (lists slot p)
 direct (surveys hs) = replyBytes (surveys hs)
 direct (refuses n c) = []
@@ -41,8 +41,8 @@ abbrev pub told : ReplyOf → Reply
 told silent = Silent
 told ok = Ok
 told (okNumber n) = Number n
-told (okWord w) = Written (length (direct (okWord w)))
-told (okBlock t) = Written (length (direct (okBlock t)))
+told (okImage w k) = Written (length (direct (okImage w k)))
+told (okBlock ls) = Written (length (direct (okBlock ls)))
 told (lists slot p) = Written (length (direct (lists slot p)))
 told (surveys hs) = Written (length (direct (surveys hs)))
 told (refuses n none) = Refused n
@@ -146,12 +146,12 @@ abbrev pub DoneKeeping : Head → ℕ → Making → List ℕ → Work → List 
 DoneKeeping h i made columns w columns′ =
     (r : Record) (answer : Answer) → Makes made answer → ToKeep r (deskOf h columns) i answer → DoneSilently r h columns w columns′
 
--- a reply by its form; "ok⇥12" and byte 10 are six bytes
-told-example : map told (silent ∷ okNumber 3 ∷ okWord (spell 12) ∷ refuses 9 none ∷ refuses 7 (some Letter.T) ∷ [])
-    ≡ Silent ∷ Number 3 ∷ Written 6 ∷ Refused 9 ∷ RefusedIn 7 84 ∷ []
+-- a reply by its form; "ok⇥12⇥1" and byte 10 are eight bytes
+told-example : map told (silent ∷ okNumber 3 ∷ okImage (spell 12) 1 ∷ refuses 9 none ∷ refuses 7 (some Letter.T) ∷ [])
+    ≡ Silent ∷ Number 3 ∷ Written 8 ∷ Refused 9 ∷ RefusedIn 7 84 ∷ []
 unfolding replyBytes
 told-example = refl
 
-direct-example : map direct (okNumber 3 ∷ okWord (spell 12) ∷ []) ≡ [] ∷ bytes "ok\t12\n" ∷ []
+direct-example : map direct (okNumber 3 ∷ okImage (spell 12) 1 ∷ []) ≡ [] ∷ bytes "ok\t12\t1\n" ∷ []
 unfolding replyBytes
 direct-example = refl

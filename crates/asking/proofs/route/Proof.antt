@@ -11,21 +11,20 @@ use borrow.Author.Needs.{needs}
 use borrow.Rule.Slice.PartMut.{putMid, put-same}
 use lib.ListN.{length, take, drop, length-drop}
 use lib.Seq.{length-take-le}
-use Rattle.higman.specs.Limits.{Plan}
+use Rattle.higman.specs.Limits.{Plan, maxPairs}
 use Rattle.higman.specs.Answers.{Route, routed}
-use Rattle.higman.specs.Text.{wordBytes, wordOf}
+use Rattle.higman.specs.Text.{wordBytes, wordOf, decimal}
 use Rattle.higman.specs.Refusals.{slotEmpty}
 use Rattle.higman.specs.Listing.{isSlot}
 use Rattle.higman.specs.Words.{Word}
-use Rattle.higman.specs.Tables.{Table}
-use Rattle.higman.specs.Fronts.{block}
+use Rattle.higman.specs.Places.{placedBlock}
 use Rattle.higman.specs.Buffers.{written}
 use Rattle.tables.specs.Lines.{planOfColumns}
 use Rattle.desk.specs.Desk.{Desk}
 use Rattle.desk.specs.Records.{Record, W, kind, reading}
-use Rattle.desk.specs.Replies.{okWord, okBlock, job}
+use Rattle.desk.specs.Replies.{okImage, okBlock, job}
 use Rattle.desk.specs.Bytes.{replyBytes}
-use Rattle.operations.specs.Routing.{routingIn, imageInto}
+use Rattle.operations.specs.Routing.{routingBy, imageInto}
 use Rattle.words.specs.Writing.{Wrote}
 use Rattle.replies.specs.Lines.{imageAt}
 use Rattle.replies.specs.Sizes.{maxReply}
@@ -134,9 +133,6 @@ code c = wordOf (asked (numbered c) .args .code .now)
 abbrev answer : tie.After-part2 → Route
 answer c = routed (plan c) (code c)
 
-abbrev inside : tie.After-part2 → Table
-inside c = block (plan c .rows) (code c)
-
 wide : (c : tie.After-part2) → imageAt ≤ length (out c)
 wide c = omega (arith, asked (numbered c) .pre .room, rooms .ok)
 
@@ -145,7 +141,7 @@ room c v e =
     let s = asked (numbered c) in
     let size : length (behind c) ≡ length (out c) - imageAt =
     length-take-le (length (out c) - imageAt) (drop imageAt (out c)) (omega (arith, length-drop imageAt (out c))) in
-    omega (arith, s .pre .room, image-fits (plan c) (wordOf (s .args .code .now)) v (named-kept (named (numbered c)) (full c)) e)
+    omega (arith, s .pre .room, image-fits (plan c) (wordOf (s .args .code .now)) v (named-kept (named (numbered c)) (full c)) e .room)
 
 sub-route : tie.Need-sub-route
 sub-route c = wide c
@@ -165,11 +161,8 @@ lender c = c .before .before
 abbrev back : tie.After-route → List ℕ
 back c = c .route .last .1 .1 .1 .1 .1 .0
 
-told-route : (c : tie.After-route) → c .route .result ≡ routingIn (answer (lender c)) (length (behind (lender c)))
-told-route c =
-    let p = lender c in
-    let code = wordOf (asked (numbered p) .args .code .now) in
-    c .route .ensures .0 ∙ ap (λ q. routingIn (routed q code) (length (behind p))) (lent p)
+told-route : (c : tie.After-route) → let p = lender c in c .route .result ≡ routingBy (plan p) (code p) (length (behind p))
+told-route c = let p = lender c in c .route .ensures .0 ∙ ap (λ q. routingBy q (code p) (length (behind p))) (lent p)
 
 left-route : (c : tie.After-route) → back c ≡ imageInto (answer (lender c)) (behind (lender c))
 left-route c =
@@ -177,7 +170,7 @@ left-route c =
     let code = wordOf (asked (numbered p) .args .code .now) in
     c .route .ensures .1 ∙ ap (λ q. imageInto (routed q code) (behind p)) (lent p)
 
-job-told : (c : tie.After-part2) → job (desk c) (typed (asked (numbered c))) ≡ replied (desk c) (inside c) (answer c)
+job-told : (c : tie.After-part2) → job (desk c) (typed (asked (numbered c))) ≡ replied (desk c) (plan c) (code c) (answer c)
 job-told c =
     let n = numbered c in
     let s = asked n in
@@ -187,11 +180,12 @@ job-told c =
 
 -- an image
 sent : (c : tie.After-digits) → let p = lender (c .before .before .before .before) in
-    Sent (desk p) (inside p) (answer p) (behind p) (c .digits .given .0 .0)
+    Sent (desk p) (plan p) (code p) (answer p) (behind p) (c .digits .given .0 .0) (c .digits .given .0 .1 .0)
 sent c =
     let r = c .before .before .before .before in
     let p = lender r in
-    route-sent (desk p) (inside p) (behind p) (answer p) (room p) (c .digits .given .0 .0) (sym (told-route r) ∙ c .digits .given .1)
+    let told = c .digits .given in
+    route-sent (desk p) (plan p) (code p) (behind p) (answer p) (room p) (told .0 .0) (told .0 .1 .0) (sym (told-route r) ∙ told .1)
 
 placed : (c : tie.After-digits) → let r = c .before .before .before .before in
     let p = lender r in
@@ -208,8 +202,11 @@ ok-image-requires c κs =
     let s = asked (numbered p) in
     let image = wordBytes (sent d .image) in
     let short = image-fits (plan p) (wordOf (s .args .code .now)) (sent d .image) (named-kept (named (numbered p)) (full p)) (sent d .is-image) in
-    let size = ap length (placed d) ∙ written-length (out p) imageAt image (omega (arith, s .pre .room)) in
-    omega (arith, s .pre .room, sent d .size)
+    let size = ap length (placed d) ∙ written-length (out p) imageAt image (omega (arith, s .pre .room, short .room)) in
+    record {
+      place-granted = subst (λ k. k ≤ maxPairs) (sym (sent d .place)) (short .place-granted);
+      room = omega (arith, s .pre .room, short .room, sent d .size);
+    }
 
 returns-3 : tie.Need-returns-3
 unfolding replyBytes
@@ -220,8 +217,8 @@ returns-3 c =
     let n = numbered p in
     let s = asked n in
     let a = s .args in
-    let line = image-line (out p) (wordBytes (sent d .image)) (wide p) (sent d .size) (placed d) (o .ok-image .ensures) in
-    answered (a .t1) (a .columns .now) (typed s) (out p) (asks (n .before)) (okWord (sent d .image)) (job-told p ∙ sent d .reply)
+    let line = image-line (out p) (wordBytes (sent d .image)) (decimal (d .digits .given .0 .1 .0)) (wide p) (sent d .size) (placed d) (o .ok-image .ensures) in
+    answered (a .t1) (a .columns .now) (typed s) (out p) (asks (n .before)) (okImage (sent d .image) (d .digits .given .0 .1 .0)) (job-told p ∙ sent d .reply)
     (Written (o .ok-image .result)) (ap Written (line .place ∙ zero-add _)) _ (line .contents)
 
 -- a route without an image leaves the output as it was
@@ -238,7 +235,7 @@ unmoved c e =
 unsent : (c : tie.After-route) (n : ℕ) → let p = lender c in
     let s = asked (numbered p) in
     let a = s .args in
-    Stopped (desk p) (inside p) (answer p) (behind p) n → Tells (typed s) (a .t1) (a .columns .now) (out p) (Refused n) (routed-out c)
+    Stopped (desk p) (plan p) (code p) (answer p) (behind p) n → Tells (typed s) (a .t1) (a .columns .now) (out p) (Refused n) (routed-out c)
 unsent c n stopped =
     let p = lender c in
     let s = asked (numbered p) in
@@ -250,11 +247,11 @@ unsent c n stopped =
 abbrev unmatched : tie.After-enum-told → tie.After-route
 unmatched c = c .before .before .before .before
 
-short : (c : tie.After-enum-told) → let p = lender (unmatched c) in Short (desk p) (inside p) (answer p) (behind p)
+short : (c : tie.After-enum-told) → let p = lender (unmatched c) in Short (desk p) (plan p) (code p) (answer p) (behind p)
 short c =
     let r = unmatched c in
     let p = lender r in
-    route-short (desk p) (inside p) (behind p) (answer p) (room p) (sym (told-route r) ∙ c .enum-told .given .1)
+    route-short (desk p) (plan p) (code p) (behind p) (answer p) (room p) (sym (told-route r) ∙ c .enum-told .given .1)
 
 write-block-requires : tie.Need-write-block-requires
 write-block-requires c κs =
@@ -284,8 +281,8 @@ returns-4 c =
     let left = w .write-block .last .1 .1 .1 .0 in
     let whole = subst (λ x. Wrote (blockReply (p .before .part .result .now) (p .part2 .result .now) (a .code .now)) x 0 left reply)
     (unmoved r (short e .buffer)) (w .write-block .ensures) in
-    let line = subst (λ t. Wrote (replyBytes (okBlock t)) (out p) 0 left reply) (ap (λ q. block (q .rows) (code p)) (lent p)) whole in
-    answered (a .t1) (a .columns .now) (typed s) (out p) (asks (n .before)) (okBlock (inside p)) (job-told p ∙ short e .reply)
+    let line = subst (λ t. Wrote (replyBytes (okBlock t)) (out p) 0 left reply) (ap (λ q. placedBlock (q .rows) (code p)) (lent p)) whole in
+    answered (a .t1) (a .columns .now) (typed s) (out p) (asks (n .before)) (okBlock (placedBlock (plan p .rows) (code p))) (job-told p ∙ short e .reply)
     (Written reply) (ap Written (line .place ∙ zero-add _)) _ (line .contents)
 
 returns-5 : tie.Need-returns-5
@@ -294,7 +291,7 @@ returns-5 c =
     let r = k .before .before .before .before in
     let p = lender r in
     let n = k .number .given .0 .0 in
-    let stopped = route-refused (desk p) (inside p) (behind p) (answer p) (room p) n (sym (told-route r) ∙ k .number .given .1) in
+    let stopped = route-refused (desk p) (plan p) (code p) (behind p) (answer p) (room p) n (sym (told-route r) ∙ k .number .given .1) in
     unsent r n stopped
 
 pub route-spec : {M : Type 1} → statement M

@@ -5,7 +5,7 @@ use native.Mathlib.Omega.{arith}
 use Rattle.higman.specs.Limits.{maxPairs}
 use Rattle.higman.specs.Text.{wordOf}
 use Rattle.columns.specs.Columns.{Extending}
-use Rattle.asking.proofs.Fronts.{front-digits, front-sorted, front-whole, run-paired, run-few, lines-room, count-room, block-wrote}
+use Rattle.asking.proofs.Fronts.{front-digits, front-sorted, front-whole, run-few, start-few, lines-fit, count-room, block-wrote}
 use Rattle.asking.proofs.write_block.Statement.{statement}
 use Rattle.asking.proofs.write_block.Tie as tie
 
@@ -14,7 +14,7 @@ abbrev start : tie.After-extending → tie.Start
 start c = c .before .before .before .before .before .before
 
 -- and lent to be written
-abbrev found : tie.After-pair-lines-arg3 → tie.After-extending
+abbrev found : tie.After-block-lines-arg3 → tie.After-extending
 found c = c .before .before .before
 
 extending : (c : tie.After-extending) →
@@ -30,11 +30,14 @@ front-requires c κs = front-digits (c .before .before .before .before .pre)
 extending-requires : tie.Need-extending-requires
 extending-requires c κs = front-sorted (c .before .before .before .before .before .pre)
 
-pair-lines-requires : tie.Need-pair-lines-requires
-pair-lines-requires c κs =
+add-block-lines : tie.Need-add-block-lines
+unfolding maxPairs
+add-block-lines c = let x = c .before .before in omega (arith, start-few (start x .pre) (extending x))
+
+block-lines-requires : tie.Need-block-lines-requires
+block-lines-requires c κs =
     let x = found c in
-    let a = start x .pre in
-    (run-paired a (extending x), lines-room a (extending x))
+    lines-fit (start x .pre) (extending x)
 
 cast-ok-number : tie.Need-cast-ok-number
 unfolding maxPairs
@@ -46,14 +49,14 @@ ok-number-requires : tie.Need-ok-number-requires
 ok-number-requires c κs =
     let l = c .before .before .before in
     let x = found (l .before) in
-    count-room (start x .pre) (extending x) (l .pair-lines .ensures)
+    count-room (start x .pre) (extending x) (l .block-lines .ensures)
 
 returns : tie.Need-returns
 returns c =
     let o = c .before .before in
     let l = o .before .before .before .before in
     let x = found (l .before) in
-    block-wrote (start x .pre) (extending x) (l .pair-lines .ensures) (o .ok-number .ensures)
+    block-wrote (start x .pre) (extending x) (l .block-lines .ensures) (o .ok-number .ensures)
 
 pub write-block-spec : {M : Type 1} → statement M
 write-block-spec =
@@ -69,7 +72,8 @@ write-block-spec =
     (λ c. search needs)
     (λ c. search needs)
     (λ c. search needs)
-    pair-lines-requires
+    add-block-lines
+    block-lines-requires
     (λ c. search needs)
     cast-ok-number
     ok-number-requires
