@@ -17,7 +17,7 @@ use Rattle.higman.proofs.Tests.{so, all-at}
 use Rattle.higman.proofs.Decimals.{decimal-read-back}
 use Rattle.desk.specs.Desk.{Desk as DeskOf, IsDesk}
 use Rattle.desk.specs.Records.{Record, recordText, wellFormed}
-use Rattle.desk.specs.Replies.{Reply, silent, ok, okNumber, okWord, okBlock, lists, surveys, refuses, Outcome, refuse, pass, _>>=_}
+use Rattle.desk.specs.Replies.{Reply, silent, ok, okNumber, okImage, okBlock, lists, surveys, refuses, Outcome, refuse, pass, _>>=_}
 use Rattle.desk.specs.Replies.{Effect, operation, lineOperation, respondLine}
 use Rattle.desk.specs.Bytes.{replyBytes}
 use Rattle.desk.specs.Buffers.{plainCall}
@@ -102,7 +102,7 @@ module _ (v : Desk) (t : TakenForDesk v) where
         let other : T (not (eqb n 14)) = all-at (λ k. not (eqb k 14)) refusalNumbers tt n h in
         subst (λ b. T (not b)) (eq-eqb n 14 e) other
 
-    enough-room : 4_618 ≤ length out → served line v out .answer .number ≡ 14 → ⊥
+    enough-room : 5_127 ≤ length out → served line v out .answer .number ≡ 14 → ⊥
     unfolding maxReply respondLine
     enough-room h e = by-answer (demand1 .answered d line)
       where
@@ -162,8 +162,8 @@ unfolding replyBytes
 value-of-line d silent h n e = absurd (omega (arith, ap length e))
 value-of-line d ok h n e = absurd (omega (arith, ap (λ l. getD l 2 0) e))
 value-of-line d (okNumber m) h n e = number-of-line m n e
-value-of-line d (okWord w) h n e = absurd h
-value-of-line d (okBlock t) h n e = absurd h
+value-of-line d (okImage w place) h n e = absurd h
+value-of-line d (okBlock ls) h n e = absurd h
 value-of-line d (lists b p) h n e = absurd h
 value-of-line d (surveys hs) h n e = absurd h
 value-of-line d (refuses m c) h n e = absurd h
@@ -173,8 +173,8 @@ unfolding replyBytes
 no-value-of-line silent h = refl
 no-value-of-line ok h = refl
 no-value-of-line (okNumber m) h = absurd (h m refl)
-no-value-of-line (okWord w) h = refl
-no-value-of-line (okBlock t) h = refl
+no-value-of-line (okImage w place) h = refl
+no-value-of-line (okBlock ls) h = refl
 no-value-of-line (lists b p) h = refl
 no-value-of-line (surveys hs) h = refl
 no-value-of-line (refuses n c) h = refl

@@ -25,7 +25,7 @@ use Rattle.desk.specs.Desk.{Desk as DeskOf, IsDesk, isStation}
 use Rattle.desk.specs.Records.{Record, P, M, E, F, I, K, S, W, L, C, T as Tᴿ, U, X, Z, recordFields, recordText, noTab, hasDigits}
 use Rattle.desk.specs.Records.{signedDecimal, numbersFit, wellFormed, SlotUse, slotsNamed, kind, G, Right, noRight, mayRead, mayWrite}
 use Rattle.desk.specs.Records.{rightNumber}
-use Rattle.desk.specs.Replies.{Reply, silent, ok, okNumber, okWord, okBlock, lists, surveys, refuses, Outcome, refuse, pass, Effect}
+use Rattle.desk.specs.Replies.{Reply, silent, ok, okNumber, okImage, okBlock, lists, surveys, refuses, Outcome, refuse, pass, Effect}
 use Rattle.desk.specs.Replies.{ofAnswer, job, operation, grantBy}
 use Rattle.desk.specs.Conditions.{Condition, conditions, firstOf, refusalOf}
 use Rattle.desk.specs.Grammar.{NumbersFit}
@@ -357,8 +357,8 @@ module _ (d : DeskOf) where
   Plain silent = Unit {0}
   Plain ok = Unit {0}
   Plain (okNumber n) = Unit {0}
-  Plain (okWord w) = ⊥
-  Plain (okBlock t) = ⊥
+  Plain (okImage w place) = ⊥
+  Plain (okBlock ls) = ⊥
   Plain (lists b p) = ⊥
   Plain (surveys hs) = ⊥
   Plain (refuses n c) = ⊥

@@ -77,8 +77,8 @@ told-number : (p : Of.Reply) → NoRefusal p → toldPlainly (told p) ≡ doneOf
 told-number Of.silent h = refl
 told-number Of.ok h = refl
 told-number (Of.okNumber n) h = refl
-told-number (Of.okWord w) h = refl
-told-number (Of.okBlock t) h = refl
+told-number (Of.okImage w place) h = refl
+told-number (Of.okBlock ls) h = refl
 told-number (Of.lists b p) h = refl
 told-number (Of.surveys hs) h = refl
 told-number (Of.refuses n c) h = absurd h
@@ -87,8 +87,8 @@ head-stays : (h : Head) (p : Of.Reply) → NoRefusal p → headBy h (told p) ≡
 head-stays h Of.silent k = refl
 head-stays h Of.ok k = refl
 head-stays h (Of.okNumber n) k = refl
-head-stays h (Of.okWord w) k = refl
-head-stays h (Of.okBlock t) k = refl
+head-stays h (Of.okImage w place) k = refl
+head-stays h (Of.okBlock ls) k = refl
 head-stays h (Of.lists b p) k = refl
 head-stays h (Of.surveys hs) k = refl
 head-stays h (Of.refuses n c) k = absurd k

@@ -15,7 +15,7 @@ use Rattle.higman.specs.Refusals.{noRecord, invalidValue, Letter, letterByte}
 use Rattle.desk.specs.Limits.{stationCount, maxChanges, maxLine, maxSplitsNumeral, maxRight}
 use Rattle.desk.specs.Desk.{Desk as DeskOf, isControl, isDesk, freshControl, freshDesk, dropped, areRights}
 use Rattle.desk.specs.Records.{Record, P, E, F, I, K, S, C, T, X, Z, parse, grammar, kind, hasDigits, neededRight}
-use Rattle.desk.specs.Replies.{Reply, silent, ok, okNumber, okWord, okBlock, lists, surveys, refuses, Outcome, refuse, pass}
+use Rattle.desk.specs.Replies.{Reply, silent, ok, okNumber, okImage, okBlock, lists, surveys, refuses, Outcome, refuse, pass}
 use Rattle.desk.specs.Replies.{_>>=_, admission, operation, lineOperation}
 use Rattle.desk.specs.Replies.{job as jobOf, grantBy}
 use Rattle.desk.specs.Bytes.{replyBytes}
@@ -52,8 +52,8 @@ abbrev pub replyNumber : Reply → ℕ
 replyNumber silent = 0
 replyNumber ok = 0
 replyNumber (okNumber n) = n
-replyNumber (okWord w) = 0
-replyNumber (okBlock t) = 0
+replyNumber (okImage w place) = 0
+replyNumber (okBlock ls) = 0
 replyNumber (lists b p) = 0
 replyNumber (surveys hs) = 0
 replyNumber (refuses n c) = 0

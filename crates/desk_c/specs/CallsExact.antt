@@ -53,7 +53,7 @@ pub record LinesNumbered : Type 0 where
   pub done : (line : Bytes) (v : Desk) (out : Bytes) (e : Effect) → TakenForDesk v → lineOperation (deskIn v) line ≡ pass e
       → length (replyBytes (e .1)) ≤ length out → ServedLine line v out (packedDesk (e .0)) (replyBytes (e .1))
   -- a buffer of so many bytes is enough for every reply (DESK_LONGEST_REPLY)
-  pub enough-room : (line : Bytes) (v : Desk) (out : Bytes) → TakenForDesk v → 4_618 ≤ length out
+  pub enough-room : (line : Bytes) (v : Desk) (out : Bytes) → TakenForDesk v → 5_127 ≤ length out
       → served line v out .answer .number ≡ 14 → ⊥
   -- 6 and 7: "those of E for a column add ⇥F or ⇥T (from, to)"
   pub columns : map columnByte (none ∷ some Letter.F ∷ some Letter.T ∷ []) ≡ 0 ∷ byte "F" ∷ byte "T" ∷ []

@@ -162,6 +162,6 @@ module _ (s₀ : State) (input out₀ : List ℕ) where
             wrote = subst (λ z. Wrote z out₀ 0 out′ (used + r .used)) (sym (ap (λ (z : StateOf × Bytes). z .1) fed)) (wrote-then (omega arith) (k .wrote) run);
           }
 
-pub reply-limit : maxReply ≡ 4618
+pub reply-limit : maxReply ≡ 5127
 unfolding maxReply
 reply-limit = refl

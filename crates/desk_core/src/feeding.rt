@@ -22,7 +22,7 @@ use slots::numbers;
 pub const MAX_LINE: usize = 1100;
 
 // `maxReply` of replies' Sizes.antt: the most bytes of a reply.
-pub const MAX_REPLY: usize = 4618;
+pub const MAX_REPLY: usize = 5127;
 
 // The desk and the beginning of a line; whether that line is too long already, and what it held was let go.
 pub struct State {

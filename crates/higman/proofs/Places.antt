@@ -9,7 +9,7 @@ use mathlib.Core.List.{List, [], _∷_, _++_, append-assoc, Memᴰ·map, Memᴰ�
 use mathlib.Core.List.{List·Memᴰ, List·Memᴰ·head, List·Memᴰ·tail, List·Memᴰ·cases-cons, List·Memᴰ·not-nil}
 use mathlib.Core.Option.{Option, none, some, Option·getD, Option·none-ne-some, Option·some-injective}
 use borrow.Author.Tests.{ltb-true, ltb-false}
-use lib.Dec.{T, ltb}
+use lib.Dec.{ltb}
 use lib.ListN.{length, getD, take, drop, length-append, take-append-drop}
 use lib.Seq.{drop-cons, length-take-le}
 use Rattle.higman.specs.Words.{Shape, Word, after, given, begins, beginsProperly}
@@ -19,7 +19,7 @@ use Rattle.higman.specs.Listing.{openRecord, pairRecord, pairRecords, cl
 use Rattle.higman.specs.Fronts.{block}
 use Rattle.higman.specs.Places.{placeOf, Placed, placedFrom, extendingIn, placedBlock, pairsOf, AtPlace, ListedAt, RoutesAt}
 use Rattle.higman.specs.Places.{PlacesExact}
-use Rattle.higman.proofs.Tests.{passes, clash, so}
+use Rattle.higman.proofs.Tests.{passes, clash}
 use Rattle.higman.proofs.Prefixes.{after-some, after-append, begins-append, tail-of-begins, comparable}
 use Rattle.higman.proofs.Proper.{ApartFrom, Apart}
 use Rattle.higman.proofs.Ordered.{ordered-apart}

@@ -11,7 +11,7 @@ use Rattle.higman.specs.Refusals.{Letter, letterByte}
 use Rattle.higman.specs.Buffers.{written}
 use Rattle.words.specs.Writing.{Wrote}
 use Rattle.desk.specs.Desk.{Desk, IsDesk, dropped}
-use Rattle.desk.specs.Replies.{Reply, silent, ok, okNumber, okWord, okBlock, lists, surveys, refuses, Outcome, refuse, pass, Effect, settle}
+use Rattle.desk.specs.Replies.{Reply, silent, ok, okNumber, okImage, okBlock, lists, surveys, refuses, Outcome, refuse, pass, Effect, settle}
 use Rattle.desk.specs.Replies.{lineOperation, respondLine}
 use Rattle.desk.specs.Bytes.{okLine, noLine, replyBytes}
 use Rattle.desk.proofs.Outcomes.{Passes, stops, passes, NoRefusal, Answered as Replied, line-answers}
@@ -46,8 +46,8 @@ told-silent : (p : Reply) → told p ≡ Silent → p ≡ silent
 told-silent silent e = refl
 told-silent ok e = let z : _≡_ {A = ℕ} 0 1 = cc in absurd (omega arith)
 told-silent (okNumber k) e = let z : _≡_ {A = ℕ} 0 1 = cc in absurd (omega arith)
-told-silent (okWord v) e = let z : _≡_ {A = ℕ} 0 1 = cc in absurd (omega arith)
-told-silent (okBlock t) e = let z : _≡_ {A = ℕ} 0 1 = cc in absurd (omega arith)
+told-silent (okImage v place) e = let z : _≡_ {A = ℕ} 0 1 = cc in absurd (omega arith)
+told-silent (okBlock ls) e = let z : _≡_ {A = ℕ} 0 1 = cc in absurd (omega arith)
 told-silent (lists b p) e = let z : _≡_ {A = ℕ} 0 1 = cc in absurd (omega arith)
 told-silent (surveys hs) e = let z : _≡_ {A = ℕ} 0 1 = cc in absurd (omega arith)
 told-silent (refuses k none) e = let z : _≡_ {A = ℕ} 0 1 = cc in absurd (omega arith)
@@ -57,8 +57,8 @@ told-ok : (p : Reply) → told p ≡ Ok → p ≡ ok
 told-ok silent e = let z : _≡_ {A = ℕ} 0 1 = cc in absurd (omega arith)
 told-ok ok e = refl
 told-ok (okNumber k) e = let z : _≡_ {A = ℕ} 0 1 = cc in absurd (omega arith)
-told-ok (okWord v) e = let z : _≡_ {A = ℕ} 0 1 = cc in absurd (omega arith)
-told-ok (okBlock t) e = let z : _≡_ {A = ℕ} 0 1 = cc in absurd (omega arith)
+told-ok (okImage v place) e = let z : _≡_ {A = ℕ} 0 1 = cc in absurd (omega arith)
+told-ok (okBlock ls) e = let z : _≡_ {A = ℕ} 0 1 = cc in absurd (omega arith)
 told-ok (lists b p) e = let z : _≡_ {A = ℕ} 0 1 = cc in absurd (omega arith)
 told-ok (surveys hs) e = let z : _≡_ {A = ℕ} 0 1 = cc in absurd (omega arith)
 told-ok (refuses k none) e = let z : _≡_ {A = ℕ} 0 1 = cc in absurd (omega arith)
@@ -68,8 +68,8 @@ told-number : (p : Reply) (n : ℕ) → told p ≡ Number n → p ≡ okNumber n
 told-number silent n e = let z : _≡_ {A = ℕ} 0 1 = cc in absurd (omega arith)
 told-number ok n e = let z : _≡_ {A = ℕ} 0 1 = cc in absurd (omega arith)
 told-number (okNumber k) n e = cc
-told-number (okWord v) n e = let z : _≡_ {A = ℕ} 0 1 = cc in absurd (omega arith)
-told-number (okBlock t) n e = let z : _≡_ {A = ℕ} 0 1 = cc in absurd (omega arith)
+told-number (okImage v place) n e = let z : _≡_ {A = ℕ} 0 1 = cc in absurd (omega arith)
+told-number (okBlock ls) n e = let z : _≡_ {A = ℕ} 0 1 = cc in absurd (omega arith)
 told-number (lists b p) n e = let z : _≡_ {A = ℕ} 0 1 = cc in absurd (omega arith)
 told-number (surveys hs) n e = let z : _≡_ {A = ℕ} 0 1 = cc in absurd (omega arith)
 told-number (refuses k none) n e = let z : _≡_ {A = ℕ} 0 1 = cc in absurd (omega arith)
@@ -79,8 +79,8 @@ pub told-refused : (p : Reply) (n : ℕ) → told p ≡ Refused n → p ≡ refu
 told-refused silent n e = let z : _≡_ {A = ℕ} 0 1 = cc in absurd (omega arith)
 told-refused ok n e = let z : _≡_ {A = ℕ} 0 1 = cc in absurd (omega arith)
 told-refused (okNumber k) n e = let z : _≡_ {A = ℕ} 0 1 = cc in absurd (omega arith)
-told-refused (okWord v) n e = let z : _≡_ {A = ℕ} 0 1 = cc in absurd (omega arith)
-told-refused (okBlock t) n e = let z : _≡_ {A = ℕ} 0 1 = cc in absurd (omega arith)
+told-refused (okImage v place) n e = let z : _≡_ {A = ℕ} 0 1 = cc in absurd (omega arith)
+told-refused (okBlock ls) n e = let z : _≡_ {A = ℕ} 0 1 = cc in absurd (omega arith)
 told-refused (lists b p) n e = let z : _≡_ {A = ℕ} 0 1 = cc in absurd (omega arith)
 told-refused (surveys hs) n e = let z : _≡_ {A = ℕ} 0 1 = cc in absurd (omega arith)
 told-refused (refuses k none) n e = cc
@@ -90,8 +90,8 @@ pub told-column : (p : Reply) (n l : ℕ) → told p ≡ RefusedIn n l → (c : 
 told-column silent n l e = let z : _≡_ {A = ℕ} 0 1 = cc in absurd (omega arith)
 told-column ok n l e = let z : _≡_ {A = ℕ} 0 1 = cc in absurd (omega arith)
 told-column (okNumber k) n l e = let z : _≡_ {A = ℕ} 0 1 = cc in absurd (omega arith)
-told-column (okWord v) n l e = let z : _≡_ {A = ℕ} 0 1 = cc in absurd (omega arith)
-told-column (okBlock t) n l e = let z : _≡_ {A = ℕ} 0 1 = cc in absurd (omega arith)
+told-column (okImage v place) n l e = let z : _≡_ {A = ℕ} 0 1 = cc in absurd (omega arith)
+told-column (okBlock ls) n l e = let z : _≡_ {A = ℕ} 0 1 = cc in absurd (omega arith)
 told-column (lists b p) n l e = let z : _≡_ {A = ℕ} 0 1 = cc in absurd (omega arith)
 told-column (surveys hs) n l e = let z : _≡_ {A = ℕ} 0 1 = cc in absurd (omega arith)
 told-column (refuses k none) n l e = let z : _≡_ {A = ℕ} 0 1 = cc in absurd (omega arith)
@@ -106,8 +106,8 @@ told-written : (p : Reply) (n : ℕ) → told p ≡ Written n → Standing p n
 told-written silent n e = let z : _≡_ {A = ℕ} 0 1 = cc in absurd (omega arith)
 told-written ok n e = let z : _≡_ {A = ℕ} 0 1 = cc in absurd (omega arith)
 told-written (okNumber k) n e = let z : _≡_ {A = ℕ} 0 1 = cc in absurd (omega arith)
-told-written (okWord v) n e = record { size = cc; whole = refl }
-told-written (okBlock t) n e = record { size = cc; whole = refl }
+told-written (okImage v place) n e = record { size = cc; whole = refl }
+told-written (okBlock ls) n e = record { size = cc; whole = refl }
 told-written (lists b p) n e = record { size = cc; whole = refl }
 told-written (surveys hs) n e = record { size = cc; whole = refl }
 told-written (refuses k none) n e = let z : _≡_ {A = ℕ} 0 1 = cc in absurd (omega arith)
@@ -157,8 +157,8 @@ passes-told : (p : Reply) → NoRefusal p → isRefusal (told p) ≡ true → �
 passes-told silent h e = let z : _≡_ {A = ℕ} 0 1 = cc in omega arith
 passes-told ok h e = let z : _≡_ {A = ℕ} 0 1 = cc in omega arith
 passes-told (okNumber n) h e = let z : _≡_ {A = ℕ} 0 1 = cc in omega arith
-passes-told (okWord v) h e = let z : _≡_ {A = ℕ} 0 1 = cc in omega arith
-passes-told (okBlock t) h e = let z : _≡_ {A = ℕ} 0 1 = cc in omega arith
+passes-told (okImage v place) h e = let z : _≡_ {A = ℕ} 0 1 = cc in omega arith
+passes-told (okBlock ls) h e = let z : _≡_ {A = ℕ} 0 1 = cc in omega arith
 passes-told (lists b p) h e = let z : _≡_ {A = ℕ} 0 1 = cc in omega arith
 passes-told (surveys hs) h e = let z : _≡_ {A = ℕ} 0 1 = cc in omega arith
 passes-told (refuses n c) h e = h

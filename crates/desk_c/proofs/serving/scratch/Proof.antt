@@ -7,7 +7,7 @@ use Rattle.desk_c.proofs.serving.scratch.Tie as tie
 
 returns : tie.Need-returns
 unfolding maxReply
-returns c = length-replicate {A = ℕ} 4618 0
+returns c = length-replicate {A = ℕ} 5127 0
 
 pub scratch-spec : {M : Type 1} → statement M
 scratch-spec = tie.close (tie.spec returns)
