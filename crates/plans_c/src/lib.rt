@@ -256,11 +256,11 @@ pub extern "C" fn plans_same(a: Plan, b: Plan) -> Compared
 pub extern "C" fn plans_unmatched(p: Plan, code: &[u8]) -> Matched
     ensures { λ r. ⌜ r ≡ matchedOf (matching p (now (code .entry))) (matchedPlace p (now (code .entry))) ⌝ }
 {
-    let mut place = 0;
-    let tail = plans::routing::unmatched(p, code, &mut place);
+    let mut found = 0;
+    let tail = plans::routing::unmatched(p, code, &mut found);
     Matched {
         tail: tail.len(),
-        place: place,
+        place: found,
     }
 }
 
