@@ -21,7 +21,8 @@ use Rattle.higman.specs.Listing.{isSlot, slotNumber, listing}
 use Rattle.higman.specs.Buffers.{written, lentInto}
 use Rattle.desk.specs.Desk.{Desk, held}
 use Rattle.desk.specs.Records.{S, W, L}
-use Rattle.desk.specs.Replies.{_>>=_, Outcome, refuse, pass, Effect, planIn, ofComparison, ofRoute, bit, okNumber, okImage, okBlock, lists, job}
+use Rattle.desk.specs.Replies.{_>>=_, Outcome, refuse, pass, Effect, planIn, ofComparison, ofRoute, bit, okNumber, okImage, okBlock, lists}
+use Rattle.desk.specs.Replies.{job}
 use Rattle.operations.specs.declared.Likeness.the-variants as Like
 use Rattle.operations.specs.declared.Listed.the-variants as Told
 use Rattle.operations.specs.declared.Route.{Route}

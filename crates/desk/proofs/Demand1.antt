@@ -140,7 +140,8 @@ job-numbered d (K a k c) =
     numbered-then (numbered-test powerOutside (not (leb (natAbs k) maxPower)) tt) (λ _. numbered-then (numbered-plan d a) (λ p. numbered-then (numbered-answer (powered p k)) (λ _. no-refusal)))
 job-numbered d (S a b) =
     numbered-then (numbered-plan d a) (λ p. numbered-then (numbered-plan d b) (λ q. numbered-then (numbered-comparison (same p q)) (λ _. no-refusal)))
-job-numbered d (W a code) = numbered-then (numbered-plan d a) (λ p. numbered-then (numbered-route p (wordOf code) (routed p (wordOf code))) (λ _. no-refusal))
+job-numbered d (W a code) =
+    numbered-then (numbered-plan d a) (λ p. numbered-then (numbered-route p (wordOf code) (routed p (wordOf code))) (λ _. no-refusal))
 job-numbered d (L a) = numbered-then (numbered-plan d a) (λ _. no-refusal)
 job-numbered d (C a) = numbered-then (numbered-plan d a) (λ _. no-refusal)
 job-numbered d Tᴿ = no-refusal

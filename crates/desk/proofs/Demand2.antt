@@ -176,8 +176,8 @@ Routes d a code e =
 route-steps : (d : Desk) (a : ℕ) (code : Bytes) → Passes (Routes d a code) (operation d (W a code))
 unfolding job
 route-steps d a code =
-    passes-operation d (W a code) (λ _. passes-then (plan-held d a) (λ p x. passes-then (route-made p (wordOf code) (routed p (wordOf code)))
-    (λ reply r. passes (p, reply, x, r, refl))))
+    passes-operation d (W a code) (λ _. passes-then (plan-held d a) (λ p x. passes-then
+    (route-made p (wordOf code) (routed p (wordOf code))) (λ reply r. passes (p, reply, x, r, refl))))
 
 routes : (d : Desk) (a : ℕ) (code : Bytes) (e : Effect) → operation d (W a code) ≡ pass e
     → (p : Plan) × (held d (slotNumber a) ≡ some p) × RoutedBy p (wordOf code) d e

@@ -262,7 +262,10 @@ unfolding _>>=_ routed
 routed-then p c {f} h = by-code (isCode (p .shape) c) (image (p .rows) c)
   where
     by-code : (a : Bool) (o : Option Word)
-        → Says (ofRoute p c (elim a as (λ _. Route) [ true ↦ elim o [ some v ↦ Image v | none ↦ TooShort ] | false ↦ NotRouted BadCode ]) >>= f)
+        → Says (ofRoute p c (elim a as (λ _. Route) [
+          | true ↦ elim o [ some v ↦ Image v | none ↦ TooShort ]
+          | false ↦ NotRouted BadCode
+        ]) >>= f)
         ((badWord if not a) ∷ [])
     by-code false o = record { says = refl }
     by-code true none = record { says = h (okBlock (placedBlock (p .rows) c)) .says }

@@ -355,10 +355,11 @@ fullCount = atCount (changed freshDesk 0 (some (plan21 ψ))) maxChanges
 
 full-count-example : map (λ r. settle fullCount (operation fullCount r) .1)
     (T ∷ C (byte "A") ∷ C (byte "B") ∷ I (byte "A") (byte "B") ∷ K (byte "A") (pos 1001) (byte "B") ∷ X (byte "B") 2 1 2 1 ∷ X (byte "B") 2 1 2 0 ∷ W (byte "A") (bytes "12") ∷ [])
-    ≡ okNumber 4_000_000_000 ∷ refuses 16 none ∷ refuses 9 none ∷ refuses 16 none ∷ refuses 12 none ∷ refuses 16 none ∷ refuses 17 none ∷ okImage (spell 122) 3 ∷ []
+    ≡ okNumber 4_000_000_000 ∷ refuses 16 none ∷ refuses 9 none ∷ refuses 16 none ∷ refuses 12 none ∷ refuses 16 none
+    ∷ refuses 17 none ∷ okImage (spell 122) 3 ∷ []
 unfolding _>>=_ operation admission job kind neededRight freshDesk changed slotCount stationCount maxRight maxChanges maxPower inverted
-    inverse keep normalForm normal joined routed placeOf isCode maxCode digitOf shapeInRange seedInRange maxPairs maxDigits exercise exercised
-    grown shuffled drawn nextDraw
+    inverse keep normalForm normal joined routed placeOf isCode maxCode digitOf shapeInRange seedInRange maxPairs maxDigits exercise
+    exercised grown shuffled drawn nextDraw
 full-count-example = refl
 
 -- ψ in slot A and φ in slot B

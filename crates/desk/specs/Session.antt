@@ -142,5 +142,6 @@ overlong-example = refl
 session-in-full : session inputInFull ≡ outputInFull
 unfolding session run replyBytes _>>=_ respondLine lineOperation operation admission job kind neededRight parse grammar freshDesk changed
     withDraft dropped slotCount stationCount maxRight maxChanges maxLine maxNumeral isPlanWord digitOf maxPairs maxDigits maxCode maxPower
-    shapeInRange granted isCode verdict followed inverted raised powered routed placeOf placedBlock keep compose inverse identity normalForm normal joined
+    shapeInRange granted isCode verdict followed inverted raised powered routed placeOf placedBlock keep compose inverse identity
+    normalForm normal joined
 session-in-full = refl

@@ -1,7 +1,8 @@
 -- The definitions, in reading order: words, and words as text; bases; tables; the normal form and the group; what is granted; the numbers
 -- of the refusals; the answers of the calls; the listing; lent buffers; the statements of the theorems; the papers' figures; why a column
--- is refused; fronts of codes and their blocks; places in the listing; plans made by numbers; that no table with the same action is shorter; Higman's algebras,
--- and the statement that the plans are their automorphisms; and the worked cases. proofs/ has a term of each statement.
+-- is refused; fronts of codes and their blocks; places in the listing; plans made by numbers; that no table with the same action is
+-- shorter; Higman's algebras, and the statement that the plans are their automorphisms; and the worked cases. proofs/ has a term of each
+-- statement.
 pub mod Words
 pub mod Text
 pub mod Bases

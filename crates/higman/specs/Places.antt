@@ -7,9 +7,8 @@ use mathlib.Core.Logic.{_↔_}
 use mathlib.Core.Bool.{true, false}
 use mathlib.Core.List.{List, [], _∷_, _++_, map, List·Memᴰ}
 use mathlib.Core.Option.{none, some, Option·getD}
-use lib.Dec.{T}
 use lib.ListN.{length}
-use Rattle.higman.specs.Words.{Word, begins, beginsProperly, spell}
+use Rattle.higman.specs.Words.{Word, beginsProperly, spell}
 use Rattle.higman.specs.Tables.{Pair, Table, froms, firstMatch, image, row, ψ}
 use Rattle.higman.specs.Limits.{Plan, Kept}
 use Rattle.higman.specs.Listing.{openRecord, pairRecord, pairRecords, closeRecord, joinLines, listing}

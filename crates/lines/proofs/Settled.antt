@@ -11,7 +11,8 @@ use Rattle.higman.specs.Refusals.{Letter, letterByte}
 use Rattle.higman.specs.Buffers.{written}
 use Rattle.words.specs.Writing.{Wrote}
 use Rattle.desk.specs.Desk.{Desk, IsDesk, dropped}
-use Rattle.desk.specs.Replies.{Reply, silent, ok, okNumber, okImage, okBlock, lists, surveys, refuses, Outcome, refuse, pass, Effect, settle}
+use Rattle.desk.specs.Replies.{Reply, silent, ok, okNumber, okImage, okBlock, lists, surveys, refuses, Outcome, refuse, pass, Effect}
+use Rattle.desk.specs.Replies.{settle}
 use Rattle.desk.specs.Replies.{lineOperation, respondLine}
 use Rattle.desk.specs.Bytes.{okLine, noLine, replyBytes}
 use Rattle.desk.proofs.Outcomes.{Passes, stops, passes, NoRefusal, Answered as Replied, line-answers}

@@ -1,5 +1,5 @@
--- Codes under a plan: what the library's match hands back, at which place it was found, and what a route replies and leaves in the lent buffer. The images are those
--- of higman; 15 comes before all other refusals. Read Listing.antt next.
+-- Codes under a plan: what the library's match hands back, at which place it was found, and what a route replies and leaves in the lent
+-- buffer. The images are those of higman; 15 comes before all other refusals. Read Listing.antt next.
 use Prim.Native.Nat.{ℕ}
 use mathlib.Core.Path.{_≡_, refl}
 use mathlib.Core.Bool.{true, false}
@@ -61,8 +61,11 @@ unfolding matchedPlace placeOf isPlan inTable Of.isKept isCode maxCode shapeInRa
 matchedPlace-example = (refl, refl)
 
 -- 1122 goes to 1212 by the second pair, with room for all of it and for three bytes; 11 is too short, and 13 has a wrong digit
-routing-example : (routing value (49 ∷ 49 ∷ 50 ∷ 50 ∷ []) 4 ≡ Image 4 2) × (routing value (49 ∷ 49 ∷ 50 ∷ 50 ∷ []) 3 ≡ Refused 14) × (routing value (49 ∷ 49 ∷ []) 4 ≡ TooShort) × (routing value (49 ∷ 51 ∷ []) 4 ≡ Refused 4)
-unfolding routing placeOf Of.routed isPlan inTable Of.isKept isCode maxCode shapeInRange granted maxPairs maxDigits Of.verdict keep normalForm normal joined packed pack packOn unpack unpackIn digitOf
+routing-example : (routing value (49 ∷ 49 ∷ 50 ∷ 50 ∷ []) 4 ≡ Image 4 2)
+    × (routing value (49 ∷ 49 ∷ 50 ∷ 50 ∷ []) 3 ≡ Refused 14) × (routing value (49 ∷ 49 ∷ []) 4 ≡ TooShort)
+    × (routing value (49 ∷ 51 ∷ []) 4 ≡ Refused 4)
+unfolding routing placeOf Of.routed isPlan inTable Of.isKept isCode maxCode shapeInRange granted maxPairs maxDigits Of.verdict
+    keep normalForm normal joined packed pack packOn unpack unpackIn digitOf
 routing-example = (refl, refl, refl, refl)
 
 routedBuffer-example : map (routedBuffer value (49 ∷ 49 ∷ 50 ∷ 50 ∷ [])) ((7 ∷ 7 ∷ 7 ∷ 7 ∷ 7 ∷ []) ∷ (7 ∷ 7 ∷ 7 ∷ []) ∷ []) ≡ (49 ∷ 50 ∷ 49 ∷ 50 ∷ 7 ∷ []) ∷ (7 ∷ 7 ∷ 7 ∷ []) ∷ []

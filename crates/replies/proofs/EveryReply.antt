@@ -29,7 +29,8 @@ use Rattle.desk.proofs.OpenPlans.{close-steps}
 use Rattle.desk.proofs.Demand1.{demand1}
 use Rattle.desk.proofs.Demand2.{demand2}
 use Rattle.replies.specs.Sizes.{maxReply, RepliesFit}
-use Rattle.replies.proofs.Sizes.{rooms, few-pairs, listing-fits, image-fits, image-line-size, block-fits, ok-number-size, no-size, survey-size}
+use Rattle.replies.proofs.Sizes.{rooms, few-pairs, listing-fits, image-fits, image-line-size, block-fits, ok-number-size, no-size}
+use Rattle.replies.proofs.Sizes.{survey-size}
 
 -- 1 to 12, and 16 to 20
 number-small : (n : ℕ) → List·Memᴰ n refusalNumbers → n < 10 ^ 3

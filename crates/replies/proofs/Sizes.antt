@@ -96,8 +96,9 @@ module _ (p : Plan) (w : Word) (k : Kept p) where
   inside-fits : (l : Placed) → List·Memᴰ l inside → length (lineOf (partFields l)) ≤ 40
   inside-fits l m =
       let y = places-exact .places (p .rows) w l m in
-      let own = block-own (p .rows) w (l .pair) (subst (List·Memᴰ (l .pair)) (places-exact .pairs (p .rows) w) (Memᴰ·map (λ n. n .pair) m)) .0 in
-      part-fits (l .pair) (words-fit p k (l .pair) own) (l .place) (place-few p k (l .place) (l .pair) y)
+      let among = subst (List·Memᴰ (l .pair)) (places-exact .pairs (p .rows) w) (Memᴰ·map (λ n. n .pair) m) in
+      let fits = words-fit p k (l .pair) (block-own (p .rows) w (l .pair) among .0) in
+      part-fits (l .pair) fits (l .place) (place-few p k (l .place) (l .pair) y)
 
   pub block-lines-fit : length (joinLines (map (λ l. lineOf (partFields l)) inside)) ≤ maxPairs * 40
   unfolding maxPairs

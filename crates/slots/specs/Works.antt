@@ -14,7 +14,8 @@ use Rattle.higman.specs.Refusals.{Letter, letterByte}
 use Rattle.higman.specs.Buffers.{written}
 use Rattle.desk.specs.Desk.{Desk}
 use Rattle.desk.specs.Records.{Record, SlotUse, reading, writing, kind, ofSlots, isChange}
-use Rattle.desk.specs.Replies.{Reply as ReplyOf, silent, ok, okNumber, okImage, okBlock, lists, surveys, refuses, Outcome, refuse, pass, Effect}
+use Rattle.desk.specs.Replies.{Reply as ReplyOf, silent, ok, okNumber, okImage, okBlock, lists, surveys, refuses}
+use Rattle.desk.specs.Replies.{Outcome, refuse, pass, Effect}
 use Rattle.desk.specs.Replies.{admission, operation, _>>=_, job, ofAnswer, keepIn}
 use Rattle.desk.specs.Bytes.{replyBytes}
 use Rattle.operations.specs.declared.Making.{Making}

@@ -2,23 +2,20 @@
 -- and the image, in bytes, is the to-word's bytes and then that part.
 use Prim.Native.Nat.{ℕ, suc, _+_, _-_, _≤_, _<_}
 use mathlib.Core.Path.{_≡_, refl, sym, _∙_, ap, ap₂, subst}
-use mathlib.Core.Logic.{_⊎_, inl, inr}
-use mathlib.Core.Bool.{true, false}
-use mathlib.Core.List.{List, [], _∷_, _++_, append-nil, append-assoc, map-append}
+use mathlib.Core.Bool.{true}
+use mathlib.Core.List.{List, _++_, append-nil, append-assoc, map-append}
 use mathlib.Core.Option.{Option, none, some, Option·getD}
 use native.Mathlib.Nat.{zero-add}
 use native.Mathlib.Numerals.{add-one}
 use native.Mathlib.Omega.{arith}
-use lib.Dec.{leb}
 use lib.ListN.{length, take, drop, length-append, length-drop, length-map, take-append-drop, drop-of-length-le}
 use lib.Seq.{take-all, take-at, drop-at, drop-drop}
-use borrow.Author.Tests.{leb-true, leb-false}
 use Rattle.higman.specs.Words.{Word, begins}
 use Rattle.higman.specs.Tables.{firstMatch, image}
 use Rattle.higman.specs.Places.{placeOf}
 use Rattle.higman.specs.Text.{digitByte, wordBytes, digitOf, wordOf}
 use Rattle.higman.specs.Limits.{maxDigits}
-use Rattle.higman.proofs.Tests.{passes, Ways, ways-of-test}
+use Rattle.higman.proofs.Tests.{Ways, ways-of-test}
 use Rattle.higman.proofs.Prefixes.{tail-of-begins, ways-right}
 use Rattle.higman.proofs.Matches.{match-found, match-nowhere, match-map}
 use Rattle.words.specs.Packed.{unpack}
@@ -26,7 +23,7 @@ use Rattle.higman.specs.Buffers.{written}
 use Rattle.higman.proofs.Buffers.{with-room, without-room, lent-written, lent-as-it-was}
 use Rattle.words.specs.Writing.{Wrote}
 use Rattle.words.proofs.Packed.{packed-length}
-use Rattle.higman.proofs.Text.{bytes-of-word, digit-over, digit-under, digit-within}
+use Rattle.higman.proofs.Text.{bytes-of-word}
 use Rattle.words.proofs.Codes.{digits-drop, begins-take, after-drop}
 use Rattle.columns.specs.Packed.{wordsOf, table}
 use Rattle.columns.specs.Columns.{wordAt, placeIn}

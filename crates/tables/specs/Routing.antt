@@ -55,7 +55,8 @@ unfolding matchedDigits digitOf
 unmatched-example = refl
 
 -- room for all four bytes, for three of them, and a code that is too short
-routedIn-example : (routedIn 2 (some (spell 1212)) 4 ≡ Image 4 2) × (routedIn 2 (some (spell 1212)) 3 ≡ NoRoom) × (routedIn 0 none 4 ≡ TooShort)
+routedIn-example : (routedIn 2 (some (spell 1212)) 4 ≡ Image 4 2) × (routedIn 2 (some (spell 1212)) 3 ≡ NoRoom)
+    × (routedIn 0 none 4 ≡ TooShort)
 routedIn-example = (refl, refl, refl)
 
 routedInto-example : map (routedInto (some (spell 12))) ((7 ∷ 7 ∷ 7 ∷ []) ∷ (7 ∷ []) ∷ []) ≡ (49 ∷ 50 ∷ 7 ∷ []) ∷ (7 ∷ []) ∷ []

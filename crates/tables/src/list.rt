@@ -1,5 +1,6 @@
 // The listing of a plan as P, M and E records, and the pairs of a block, written into a lent buffer (document 01, "Records"; change
-// requests E1 and E7). Each function writes its bytes from a place on and returns the place behind them; the rest of the buffer stays as it was.
+// requests E1 and E7). Each function writes its bytes from a place on and returns the place behind them; the rest of the buffer stays as it
+// was.
 ghost use mathlib.Core.Path.{_≡_};
 ghost use Prim.Native.Nat.{ℕ, _+_, _≤_};
 ghost use lib.ListN.{length};

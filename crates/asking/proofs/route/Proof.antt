@@ -217,8 +217,10 @@ returns-3 c =
     let n = numbered p in
     let s = asked n in
     let a = s .args in
-    let line = image-line (out p) (wordBytes (sent d .image)) (decimal (d .digits .given .0 .1 .0)) (wide p) (sent d .size) (placed d) (o .ok-image .ensures) in
-    answered (a .t1) (a .columns .now) (typed s) (out p) (asks (n .before)) (okImage (sent d .image) (d .digits .given .0 .1 .0)) (job-told p ∙ sent d .reply)
+    let place = d .digits .given .0 .1 .0 in
+    let image = wordBytes (sent d .image) in
+    let line = image-line (out p) image (decimal place) (wide p) (sent d .size) (placed d) (o .ok-image .ensures) in
+    answered (a .t1) (a .columns .now) (typed s) (out p) (asks (n .before)) (okImage (sent d .image) place) (job-told p ∙ sent d .reply)
     (Written (o .ok-image .result)) (ap Written (line .place ∙ zero-add _)) _ (line .contents)
 
 -- a route without an image leaves the output as it was
@@ -235,7 +237,8 @@ unmoved c e =
 unsent : (c : tie.After-route) (n : ℕ) → let p = lender c in
     let s = asked (numbered p) in
     let a = s .args in
-    Stopped (desk p) (plan p) (code p) (answer p) (behind p) n → Tells (typed s) (a .t1) (a .columns .now) (out p) (Refused n) (routed-out c)
+    Stopped (desk p) (plan p) (code p) (answer p) (behind p) n
+    → Tells (typed s) (a .t1) (a .columns .now) (out p) (Refused n) (routed-out c)
 unsent c n stopped =
     let p = lender c in
     let s = asked (numbered p) in
@@ -282,7 +285,8 @@ returns-4 c =
     let whole = subst (λ x. Wrote (blockReply (p .before .part .result .now) (p .part2 .result .now) (a .code .now)) x 0 left reply)
     (unmoved r (short e .buffer)) (w .write-block .ensures) in
     let line = subst (λ t. Wrote (replyBytes (okBlock t)) (out p) 0 left reply) (ap (λ q. placedBlock (q .rows) (code p)) (lent p)) whole in
-    answered (a .t1) (a .columns .now) (typed s) (out p) (asks (n .before)) (okBlock (placedBlock (plan p .rows) (code p))) (job-told p ∙ short e .reply)
+    answered (a .t1) (a .columns .now) (typed s) (out p) (asks (n .before)) (okBlock (placedBlock (plan p .rows) (code p)))
+    (job-told p ∙ short e .reply)
     (Written reply) (ap Written (line .place ∙ zero-add _)) _ (line .contents)
 
 returns-5 : tie.Need-returns-5

@@ -1,13 +1,13 @@
--- `tables::list::block_lines` meets its contract. The invariant: the lines of the pairs before i are written, each with its place, and those
--- of the others are left. The measure is the number of pairs that are left.
-use Prim.Native.Nat.{ℕ, _+_, _-_}
+-- `tables::list::block_lines` meets its contract. The invariant: the lines of the pairs before i are written, each with its place, and
+-- those of the others are left. The measure is the number of pairs that are left.
+use Prim.Native.Nat.{ℕ, _+_, _-_, _≤_, _<_}
 use mathlib.Core.Path.{_≡_, ap, subst}
-use mathlib.Core.List.{List}
+use mathlib.Core.List.{List, _++_}
 use native.Mathlib.Omega.{arith}
 use lib.ListN.{length, getD, drop}
 use Rattle.higman.specs.Limits.{maxPairs}
 use Rattle.words.specs.Writing.{Wrote}
-use Rattle.tables.specs.Lines.{placed, blockLine, blockLines}
+use Rattle.tables.specs.Lines.{placed, blockLine, blockLines, BlockFits}
 use Rattle.tables.proofs.Records.{block-step, block-none, LinesWritten, none-written, line-room, line-written, all-written}
 use Rattle.tables.proofs.list.block_lines.Statement.{statement}
 use Rattle.tables.proofs.list.block_lines.Tie as tie
@@ -26,7 +26,9 @@ abbrev μ-loop : tie.MeasureT-loop
 μ-loop from to first out₀ at next₀ i₀ out next i = length from - i
 
 loop-holds : tie.Need-loop-holds Inv-loop μ-loop
-loop-holds c = let a = c .before .before .before .args in none-written (linesFrom (a .first) (a .from .now) (a .to .now)) (length (a .from .now)) (a .out .now) (a .at)
+loop-holds c =
+    let a = c .before .before .before .args in
+    none-written (linesFrom (a .first) (a .from .now) (a .to .now)) (length (a .from .now)) (a .out .now) (a .at)
 
 -- places are small
 add-block-line : tie.Need-add-block-line Inv-loop μ-loop
@@ -37,6 +39,18 @@ cast-block-line : tie.Need-cast-block-line Inv-loop μ-loop
 unfolding maxPairs
 cast-block-line c = omega (arith, c .before .before .before .before .before .before .before .pre .places)
 
+-- the line of the i-th pair, the room for all lines, and that the line is the first of those that are left
+abbrev lineHere : ℕ → List ℕ → List ℕ → ℕ → List ℕ
+lineHere first from to i = blockLine (placed (first + i) (getD from i 0) (getD to i 0))
+
+room : {first : ℕ} {from to : List ℕ} {at size : ℕ} → BlockFits first from to at size
+    → at + length (linesFrom first from to 0) ≤ size
+room {first} {from} {to} f = omega (arith, f .room, ap length (from-start first from to))
+
+step : {first : ℕ} {from to : List ℕ} {at size : ℕ} (i : ℕ) → BlockFits first from to at size → i < length from
+    → linesFrom first from to i ≡ lineHere first from to i ++ linesFrom first from to (i + 1)
+step {first} {from} {to} i f h = block-step from to i h (f .paired) (first + i) (first + (i + 1)) (omega arith)
+
 block-line-requires : tie.Need-block-line-requires Inv-loop μ-loop
 block-line-requires c κs =
     let l = c .before .before .before .before in
@@ -44,10 +58,9 @@ block-line-requires c κs =
     let a = s .args in
     let from = a .from .now in
     let to = a .to .now in
-    let first = a .first in
     let i = l .loop .i in
-    line-room (linesFrom first from to) (length from) (a .out .now) (a .at) (l .loop .inv) (blockLine (placed (first + i) (getD from i 0) (getD to i 0)))
-    (omega (arith, s .pre .room, ap length (from-start first from to))) (block-step from to i (omega arith) (s .pre .paired) (first + i) (first + (i + 1)) (omega arith))
+    line-room (linesFrom (a .first) from to) (length from) (a .out .now) (a .at) (l .loop .inv) (lineHere (a .first) from to i)
+    (room (s .pre)) (step i (s .pre) (omega arith))
 
 loop-again : tie.Need-loop-again Inv-loop μ-loop
 loop-again c =
@@ -57,10 +70,9 @@ loop-again c =
     let a = s .args in
     let from = a .from .now in
     let to = a .to .now in
-    let first = a .first in
     let i = l .loop .i in
-    line-written (linesFrom first from to) (length from) (a .out .now) (a .at) (l .loop .inv) (blockLine (placed (first + i) (getD from i 0) (getD to i 0)))
-    (omega (arith, s .pre .room, ap length (from-start first from to))) (block-step from to i (omega arith) (s .pre .paired) (first + i) (first + (i + 1)) (omega arith)) (omega arith) (omega arith) (p .block-line .ensures)
+    line-written (linesFrom (a .first) from to) (length from) (a .out .now) (a .at) (l .loop .inv) (lineHere (a .first) from to i)
+    (room (s .pre)) (step i (s .pre) (omega arith)) (omega arith) (omega arith) (p .block-line .ensures)
 
 same-length : tie.Need-same-length Inv-loop μ-loop
 same-length c = c .before .loop .inv .long

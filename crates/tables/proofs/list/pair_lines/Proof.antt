@@ -22,7 +22,9 @@ abbrev μ-loop : tie.MeasureT-loop
 μ-loop from to out₀ at next₀ i₀ out next i = length from - i
 
 loop-holds : tie.Need-loop-holds Inv-loop μ-loop
-loop-holds c = let a = c .before .before .before .args in none-written (linesFrom (a .from .now) (a .to .now)) (length (a .from .now)) (a .out .now) (a .at)
+loop-holds c =
+    let a = c .before .before .before .args in
+    none-written (linesFrom (a .from .now) (a .to .now)) (length (a .from .now)) (a .out .now) (a .at)
 
 pair-line-requires : tie.Need-pair-line-requires Inv-loop μ-loop
 pair-line-requires c κs =
@@ -54,7 +56,8 @@ returns c =
     let a = l .before .before .before .before .args in
     let from = a .from .now in
     let to = a .to .now in
-    all-written (linesFrom from to) (length from) (a .out .now) (a .at) (l .loop .inv) (lines-none from to (l .loop .i) (c .loop-test .left))
+    all-written (linesFrom from to) (length from) (a .out .now) (a .at) (l .loop .inv)
+    (lines-none from to (l .loop .i) (c .loop-test .left))
 
 pub pair-lines-spec : {M : Type 1} → statement M
 pair-lines-spec =

@@ -17,7 +17,8 @@ use Rattle.columns.specs.Columns.{wordAt}
 use Rattle.columns.proofs.Search.{FirstIn, first-of-place}
 use Rattle.tables.specs.declared.routing.Routed.the-variants.{Image}
 use Rattle.tables.proofs.Lookup.{image-nowhere}
-use Rattle.tables.proofs.Routes.{matched-place, begins-within, routed-word, image-of-code, routed-length, routed-bytes, written-part, route-too-short, route-no-room, route-image}
+use Rattle.tables.proofs.Routes.{matched-place, begins-within, routed-word, image-of-code, routed-length, routed-bytes, written-part}
+use Rattle.tables.proofs.Routes.{route-too-short, route-no-room, route-image}
 use Rattle.tables.proofs.routing.route_into.Statement.{statement}
 use Rattle.tables.proofs.routing.route_into.Tie as tie
 
@@ -137,7 +138,7 @@ returns-4 c =
     let d = w .before .before .before in
     let size : w .write .result + length (b .behind .result .now) ≡ length (wordBytes (routed e)) =
     omega (arith, long e, ap length (b .behind .ensures .0), behind-head w) in
-    let place : k + 1 ≡ placed (e .before) = sym (matched-place (a .from .now) (wordOf (a .code .now)) k (first (e .before)) (e .if1 .left)) in
+    let place = sym (matched-place (a .from .now) (wordOf (a .code .now)) k (first (e .before)) (e .if1 .left)) in
     let answer = route-image (a .out .now) (placed (e .before)) (routed e) (image-is e) (room d) in
     let bytes = routed-bytes (a .from .now) (a .to .now) (s .pre .0) (a .code .now) (s .pre .1) k (e .if1 .left) (first (e .before)) in (
       ap₂ Image size place ∙ answer .0,
