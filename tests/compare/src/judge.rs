@@ -158,10 +158,10 @@ mod tests {
         assert!(judge(&steps, b"P\tA\t2\t1\nM\t12\t11\nM\t11\t12\nE\n").is_some());
     }
 
-    /// E1: "in from order", and closed by how many.
+    /// E1: "in from order", and closed by how many; E7: each with its place.
     #[test]
     fn the_lines_of_a_block_keep_their_order() {
-        let block = "B\t111\t11\nB\t112\t121\nok\t2\n";
+        let block = "B\t111\t11\t1\nB\t112\t121\t2\nok\t2\n";
         let steps = [step("W\tA\t11\n", block), step("T\n", "ok\t1\n")];
         let index = |reply: &str| {
             let output = format!("{reply}ok\t1\n");
@@ -169,12 +169,16 @@ mod tests {
         };
         assert_eq!(index(block), None);
         for other in [
-            "B\t112\t121\nB\t111\t11\nok\t2\n",
-            "B\t111\t11\nok\t2\nB\t112\t121\n",
-            "B\t111\t11\nB\t112\t121\nok\t1\n",
-            "B\t111\t11\nB\t112\t121\n",
-            "B\t111\t11\nok\t1\n",
-            "B\t11\t111\nB\t112\t121\nok\t2\n",
+            "B\t112\t121\t2\nB\t111\t11\t1\nok\t2\n",
+            "B\t111\t11\t1\nok\t2\nB\t112\t121\t2\n",
+            "B\t111\t11\t1\nB\t112\t121\t2\nok\t1\n",
+            "B\t111\t11\t1\nB\t112\t121\t2\n",
+            "B\t111\t11\t1\nok\t1\n",
+            "B\t11\t111\t1\nB\t112\t121\t2\nok\t2\n",
+            "B\t111\t11\t0\nB\t112\t121\t1\nok\t2\n",
+            "B\t111\t11\t1\nB\t112\t121\nok\t2\n",
+            "B\t111\t11\nB\t112\t121\nok\t2\n",
+            "B\t111\t11\t1\nB\t112\t121\t2\nok\t2\t1\n",
             "no\t13\n",
         ] {
             assert_eq!(index(other), Some(0), "{other}");

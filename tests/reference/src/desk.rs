@@ -7,7 +7,7 @@ use std::cmp::Reverse;
 use std::collections::BTreeMap;
 
 use crate::line::Line;
-use crate::plan::{self, Plan, Routed};
+use crate::plan::{self, Image, Placed, Plan, Routed};
 use crate::records::Record;
 use crate::refusal::Refusal;
 use crate::rights::Right;
@@ -240,7 +240,7 @@ impl Desk {
     fn route(&self, operand: u8, code: &[u8]) -> Reply {
         self.may(&[operand], &[])?;
         match self.held(operand)?.route_or_block(code)? {
-            Routed::Image(image) => Ok([b"ok\t", image.as_slice(), b"\n"].concat()),
+            Routed::Image(image) => Ok(image_line(&image)),
             Routed::Block(pairs) => Ok(block_lines(&pairs)),
         }
     }
@@ -320,11 +320,26 @@ fn slots_in_range(slots: &[u8]) -> Result<(), Refusal> {
     }
 }
 
-/// "One line `B⇥from⇥to` for every pair", closed by "`ok⇥` and how many".
-fn block_lines(pairs: &[(Word, Word)]) -> Vec<u8> {
+/// "W's `ok` reply gains a third field, the place of the pair in the listing".
+fn image_line(image: &Image) -> Vec<u8> {
+    let place = image.place.to_string();
+    [
+        b"ok\t",
+        image.digits.as_slice(),
+        b"\t",
+        place.as_bytes(),
+        b"\n",
+    ]
+    .concat()
+}
+
+/// "One line `B⇥from⇥to` for every pair", with "the same field" behind it, closed by
+/// "`ok⇥` and how many".
+fn block_lines(pairs: &[Placed]) -> Vec<u8> {
     let mut lines = Vec::new();
-    for (from, to) in pairs {
-        lines.extend([b"B\t", from.as_slice(), b"\t", to, b"\n"].concat());
+    for Placed { place, from, to } in pairs {
+        lines.extend([b"B\t", from.as_slice(), b"\t", to].concat());
+        lines.extend(format!("\t{place}\n").bytes());
     }
     lines.extend(ok_line(pairs.len() as u64));
     lines

@@ -3,9 +3,9 @@
 //! the definitions word by word: it is made to be read and compared with, not
 //! to be fast. Document 01 decides on records and numbers, with change requests
 //! E1 for the blocks of W, E2 for the order of U's lines, E3 for the plans of X, E5
-//! for the stations and E6 for their rights, and document 004 on words, bases and
-//! maps. The tables of E10, which may be laid beside a listing, have a module of
-//! their own and no limits.
+//! for the stations, E6 for their rights and E7 for the places of W, and document 004
+//! on words, bases and maps. The tables of E10, which may be laid beside a listing,
+//! have a module of their own and no limits.
 
 pub mod basis;
 pub mod desk;
@@ -23,7 +23,7 @@ pub mod words;
 pub use basis::{Fault, Flaw, Side};
 pub use desk::{session, Desk, OpenPlan};
 pub use line::LINE_BYTES;
-pub use plan::{Plan, Routed};
+pub use plan::{Image, Match, Placed, Plan, Routed};
 pub use records::Record;
 pub use refusal::Refusal;
 pub use rights::{Right, Rights};

@@ -35,6 +35,13 @@ pub fn pair_beginning<'a>(pairs: &'a Pairs, code: &[u8]) -> Option<(&'a Word, &'
     last.filter(|(from, _)| code.starts_with(from))
 }
 
+/// The place of the pair with this from-word, "counted from 1" in the order of the
+/// from-words: how many of them are not behind it.
+pub fn place(pairs: &Pairs, from: &[u8]) -> usize {
+    let not_behind = (Bound::Unbounded, Bound::Included(from));
+    pairs.range::<[u8], _>(not_behind).count()
+}
+
 /// "A code that begins with a from-word goes to the paired to-word followed by
 /// the tail." Nothing if no from-word begins the code.
 pub fn image(pairs: &Pairs, code: &[u8]) -> Option<Word> {

@@ -19,14 +19,37 @@ pub struct Plan {
     pairs: Pairs,
 }
 
+/// A pair and its place in the listing of L, "counted from 1" (E7).
+#[derive(Clone, Debug, PartialEq, Eq)]
+pub struct Placed {
+    pub place: usize,
+    pub from: Word,
+    pub to: Word,
+}
+
+/// The match of a code against the from column: how many digits its tail has, and
+/// the place of the pair whose from-word begins it.
+#[derive(Clone, Copy, Debug, PartialEq, Eq)]
+pub struct Match {
+    pub tail: usize,
+    pub place: usize,
+}
+
+/// The image of a code, and the place of the pair that routed it.
+#[derive(Clone, Debug, PartialEq, Eq)]
+pub struct Image {
+    pub digits: Word,
+    pub place: usize,
+}
+
 /// Where a plan sends a code, as W tells it.
 #[derive(Clone, Debug, PartialEq, Eq)]
 pub enum Routed {
     /// The image of a code that a from-word begins.
-    Image(Word),
+    Image(Image),
     /// Of any other code the pairs whose from-words extend it, in order: "the
     /// images of its parts".
-    Block(Vec<(Word, Word)>),
+    Block(Vec<Placed>),
 }
 
 impl Plan {
@@ -155,18 +178,37 @@ impl Plan {
         Ok(maps::act_alike(&self.pairs, &other.pairs))
     }
 
+    /// The library's match of a code. "Where no from-word begins the code, or 15 or
+    /// 4 applies, that part is the whole code", and there "the place is 0".
+    pub fn matched(&self, code: &[u8]) -> Match {
+        let beginning = match self.may_route(code) {
+            Ok(()) => self.pair_beginning(code),
+            Err(_) => None,
+        };
+        match beginning {
+            Some(Placed { place, from, .. }) => Match {
+                tail: code.len() - from.len(),
+                place,
+            },
+            None => Match {
+                tail: code.len(),
+                place: 0,
+            },
+        }
+    }
+
     /// The library's route of a single code: refusal 4, then 13 if the code is
     /// too short for the plan.
-    pub fn route(&self, code: &[u8]) -> Result<Word, Refusal> {
+    pub fn route(&self, code: &[u8]) -> Result<Image, Refusal> {
         self.may_route(code)?;
-        self.image(code).ok_or(Refusal::CodeTooShort)
+        self.placed_image(code).ok_or(Refusal::CodeTooShort)
     }
 
     /// The route of W, which has a block for a code that is too short: refusal
     /// 4 alone.
     pub fn route_or_block(&self, code: &[u8]) -> Result<Routed, Refusal> {
         self.may_route(code)?;
-        Ok(match self.image(code) {
+        Ok(match self.placed_image(code) {
             Some(image) => Routed::Image(image),
             None => Routed::Block(self.block(code)),
         })
@@ -181,15 +223,37 @@ impl Plan {
     }
 
     /// "Every pair whose from-word extends the code, in from order".
-    pub fn block(&self, code: &[u8]) -> Vec<(Word, Word)> {
+    pub fn block(&self, code: &[u8]) -> Vec<Placed> {
         let extending = maps::pairs_extending(&self.pairs, code);
-        extending.map(|(f, t)| (f.clone(), t.clone())).collect()
+        extending.map(|pair| self.placed(pair)).collect()
     }
 
     /// The image of a code of whatever length; nothing if no from-word begins
     /// it.
     pub fn image(&self, code: &[u8]) -> Option<Word> {
         maps::image(&self.pairs, code)
+    }
+
+    /// The same with the place of the pair.
+    fn placed_image(&self, code: &[u8]) -> Option<Image> {
+        let digits = self.image(code)?;
+        let Placed { place, .. } = self.pair_beginning(code)?;
+        Some(Image { digits, place })
+    }
+
+    /// The pair whose from-word begins a code of whatever length.
+    fn pair_beginning(&self, code: &[u8]) -> Option<Placed> {
+        let pair = maps::pair_beginning(&self.pairs, code)?;
+        Some(self.placed(pair))
+    }
+
+    /// A pair of this plan with "the place of the pair in the listing".
+    fn placed(&self, (from, to): (&Word, &Word)) -> Placed {
+        Placed {
+            place: maps::place(&self.pairs, from),
+            from: from.clone(),
+            to: to.clone(),
+        }
     }
 
     /// The listing of L: the plan as P, M and E records for this slot.

@@ -17,7 +17,7 @@ const REFUSALS: &[&str] = &[
 
 /// The other replies that sessions can meet.
 const GRANTED: &[&str] = &[
-    "ok", "ok value", "P line", "M line", "E line", "U line", "B line",
+    "ok", "ok value", "ok image", "P line", "M line", "E line", "U line", "B line",
 ];
 
 /// The replies to U by which orders of its lines can be told apart: the lines
@@ -74,11 +74,14 @@ fn kind(line: &[u8]) -> String {
     match fields.as_slice() {
         [b"ok"] => "ok".to_string(),
         [b"ok", _] => "ok value".to_string(),
+        [b"ok", _, _] => "ok image".to_string(),
         [b"no", ..] => String::from_utf8_lossy(line).replace('\t', " "),
         [b"P", _, _, _] => "P line".to_string(),
         [b"M", _, _] => "M line".to_string(),
         [b"E"] => "E line".to_string(),
-        [b"B", _, _] => "B line".to_string(),
+        // A front has a belt at least, so that its from-words have more than one digit;
+        // n has one.
+        [b"B", from, _, _] if from.len() > 1 => "B line".to_string(),
         [slot, _, _, _] if slot.len() == 1 => "U line".to_string(),
         _ => "other".to_string(),
     }
@@ -156,11 +159,11 @@ mod tests {
     #[test]
     fn each_line_is_counted_under_its_kind() {
         let output =
-            b"ok\t3\nok\nno\t12\nno\t7\tT\nP\tA\t2\t1\nM\t1\t1\nE\nB\t11\t1\nB\t2\t1\t1\nok\t1\n";
+            b"ok\t3\nok\nno\t12\nno\t7\tT\nP\tA\t2\t1\nM\t1\t1\nE\nB\t11\t1\t1\nB\t2\t1\t1\nok\t1\nok\t11\t2\n";
         let tally = tally(output);
         assert_eq!(tally.count("ok value"), 2);
         let once = [
-            "ok", "no 12", "no 7 T", "P line", "M line", "E line", "B line", "U line",
+            "ok", "ok image", "no 12", "no 7 T", "P line", "M line", "E line", "B line", "U line",
         ];
         assert!(once.iter().all(|kind| tally.count(kind) == 1));
         assert_eq!(tally.count("no 7 F"), 0);
@@ -173,7 +176,7 @@ mod tests {
             .iter()
             .map(|kind| kind.replace(' ', "\t") + "\n")
             .collect();
-        let granted = "ok\nP\tA\t2\t1\nM\t1\t1\nE\nB\t11\t1\n";
+        let granted = "ok\nok\t1\t1\nP\tA\t2\t1\nM\t1\t1\nE\nB\t11\t1\t1\n";
         let surveys = "H\t2\t1\t4\nA\t2\t1\t3\nB\t9\t1\t3\nok\t3\n";
         let mut tally = tally((all.clone() + granted + surveys).as_bytes());
         assert!(tally.missing().is_empty());

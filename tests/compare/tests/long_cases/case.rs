@@ -50,12 +50,24 @@ impl Case {
     }
 
     /// W of a front of some from-words of this slot's plan, which has these
-    /// pairs in order.
+    /// pairs in the order of its listing.
     pub fn block(&mut self, slot: &str, front: &str, rows: &[Row]) {
-        let below = rows.iter().filter(|(from, _)| from.starts_with(front));
-        let lines: Vec<String> = below.map(|(from, to)| format!("B|{from}|{to}\n")).collect();
+        let mut lines = Vec::new();
+        for (place, (from, to)) in (1..).zip(rows) {
+            if from.starts_with(front) {
+                lines.push(format!("B|{from}|{to}|{place}\n"));
+            }
+        }
         let reply = format!("{}ok|{}", lines.concat(), lines.len());
         self.ask(&format!("W|{slot}|{front}"), &reply);
+    }
+
+    /// W of the from-word at a place of this slot's plan, with a tail behind it. The
+    /// pairs stand in the order of its listing.
+    pub fn image(&mut self, slot: &str, place: usize, tail: &str, rows: &[Row]) {
+        let (from, to) = &rows[place - 1];
+        let reply = format!("ok|{to}{tail}|{place}");
+        self.ask(&format!("W|{slot}|{from}{tail}"), &reply);
     }
 
     /// Takes the last byte 10 of the input away.

@@ -11,12 +11,15 @@ pub fn long_codes() -> Case {
     let ones = |count: usize| of("1", count);
     route(
         &format!("A|12{}", ones(1022)),
-        &format!("ok|122{}", ones(1022)),
+        &format!("ok|122{}|3", ones(1022)),
     );
-    route(&format!("A|{}", ones(1024)), &format!("ok|{}", ones(1023)));
+    route(
+        &format!("A|{}", ones(1024)),
+        &format!("ok|{}|1", ones(1023)),
+    );
     route(
         &format!("A|112{}", of("2", 1021)),
-        &format!("ok|121{}", of("2", 1021)),
+        &format!("ok|121{}|2", of("2", 1021)),
     );
     route(&format!("A|{}3", ones(1023)), "no|4");
     for slot in ["A|no|4", "B|no|9", "Z|no|8"] {
@@ -28,11 +31,11 @@ pub fn long_codes() -> Case {
     case.ask("K|A|-14|C", "ok|16");
     case.ask(
         &format!("W|B|{}", of("1", 1024)),
-        &format!("ok|{}", of("1", 1025)),
+        &format!("ok|{}|1", of("1", 1025)),
     );
     case.ask(
         &format!("W|C|{}", of("1", 1024)),
-        &format!("ok|{}", of("1", 1038)),
+        &format!("ok|{}|1", of("1", 1038)),
     );
     case.ask(&format!("W|C|{}", of("1", 1025)), "no|4");
     case.ask("T", "ok|3");

@@ -7,6 +7,7 @@ mod blocks;
 mod case;
 mod exercises;
 mod lines;
+mod places;
 mod plans;
 mod rights;
 mod surveys;
@@ -32,6 +33,12 @@ fn all() -> Vec<Case> {
         lines::last_line("long-last-line-9000", 8996, "no|1"),
         blocks::of_128_pairs(),
         blocks::of_long_words(),
+        places::of_128_pairs(),
+        places::of_blocks(),
+        places::of_rows_typed_in_any_order(),
+        places::of_rows_that_join(),
+        places::of_results(),
+        places::of_exercises(),
         surveys::of_large_plans(),
         exercises::of_every_shape(),
         exercises::of_every_s(),
@@ -72,6 +79,9 @@ fn the_rules_have_the_sizes_they_speak_of() {
     let deep = blocks::deep_rows();
     assert!(deep.len() == 128 && deep.is_sorted());
     assert_eq!(deep.iter().filter(|row| row.0.len() == 16).count(), 112);
+    let half = places::half_at_rest();
+    assert_eq!((half.typed.len(), half.kept.len()), (128, 66));
+    assert!(half.kept.is_sorted() && half.kept[1..65].iter().all(|row| row.0 != row.1));
 }
 
 #[test]

@@ -90,10 +90,11 @@ pub fn of_each_record() -> Case {
     for (turn, place) in choices("A").into_iter().enumerate() {
         let station = 7 - turn % 7;
         let listing = "P|A|2|1\nM|11|12\nM|12|11\nE";
+        let block = "B|11|12|1\nB|12|11|2\nok|2";
         for (record, answer) in [
             ("L|A", reply(&place, &[], false, listing)),
-            ("W|A|11", reply(&place, &[], false, "ok|12")),
-            ("W|A|1", reply(&place, &[], false, "B|11|12\nB|12|11\nok|2")),
+            ("W|A|11", reply(&place, &[], false, "ok|12|1")),
+            ("W|A|1", reply(&place, &[], false, block)),
             ("W|A|3", reply(&place, &[], false, "no|4")),
             ("C|A", reply(&[], &place, true, "ok")),
             ("X|A|2|1|0|1", reply(&[], &place, false, "ok|1")),
@@ -132,7 +133,7 @@ pub fn of_every_station() -> Case {
         case.ask(&format!("Z|{station}"), "ok");
         let has = |need| move |slot: &char| right(station, *slot) >= need;
         for slot in 'A'..='H' {
-            let read = if has(1)(&slot) { "ok|12" } else { "no|20" };
+            let read = if has(1)(&slot) { "ok|12|1" } else { "no|20" };
             case.ask(&format!("W|{slot}|11"), read);
             let written = if has(2)(&slot) { "ok|2" } else { "no|20" };
             case.ask(&format!("I|{slot}|{slot}"), written);

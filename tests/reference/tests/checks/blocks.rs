@@ -5,7 +5,7 @@
 
 use std::collections::{BTreeMap, BTreeSet};
 
-use reference::{Desk, Plan, Refusal, Routed, Shape, Stations, Word};
+use reference::{Desk, Placed, Plan, Refusal, Routed, Shape, Stations, Word};
 
 use crate::random::{shapes, Random};
 
@@ -31,9 +31,14 @@ fn reply(plan: &Plan, code: &[u8]) -> Vec<u8> {
     replies(plan, plan, &[b"W\tA\t", code, b"\n"].concat())
 }
 
-/// The lines that a block of these pairs has, closed by how many they are.
-fn written(rows: &[(&Word, &Word)]) -> Vec<u8> {
-    let line = |(from, to): &(&Word, &Word)| [b"B\t", from.as_slice(), b"\t", to, b"\n"].concat();
+/// The lines that a block of these pairs has, each with its place, closed by how
+/// many they are.
+fn written(rows: &[(usize, (&Word, &Word))]) -> Vec<u8> {
+    let line = |(place, (from, to)): &(usize, (&Word, &Word))| {
+        let place = place.to_string();
+        let fields = [b"B", from.as_slice(), to, place.as_bytes()];
+        [fields.join(&b'\t'), b"\n".to_vec()].concat()
+    };
     let lines: Vec<u8> = rows.iter().flat_map(line).collect();
     [lines, format!("ok\t{}\n", rows.len()).into_bytes()].concat()
 }
@@ -47,9 +52,9 @@ fn blocks_by_looking_at_every_pair() {
             let size = random.size();
             let plan = random.plan(shape, size);
             for front in fronts(&plan) {
-                let mut rows: Vec<_> = plan.pairs().iter().collect();
-                rows.retain(|(from, _)| from.starts_with(&front));
-                assert!(rows.is_sorted());
+                let mut rows: Vec<_> = (1..).zip(plan.pairs()).collect();
+                rows.retain(|(_, (from, _))| from.starts_with(&front));
+                assert!(rows.iter().is_sorted_by_key(|(_, pair)| pair));
                 assert_eq!(reply(&plan, &front), written(&rows));
                 assert_eq!(plan.route(&front), Err(Refusal::CodeTooShort));
                 blocks += 1;
@@ -75,7 +80,7 @@ fn a_block_is_the_images_of_its_parts() {
             let plan = random.plan(shape, 60);
             for front in fronts(&plan) {
                 let parts = shape.parts(&front).into_iter();
-                let rows: Rows = parts.flat_map(|part| part_rows(&plan, part)).collect();
+                let rows = parts.flat_map(|part| part_rows(&plan, part)).collect();
                 assert_eq!(plan.route_or_block(&front), Ok(Routed::Block(rows)));
                 parted += 1;
             }
@@ -84,9 +89,13 @@ fn a_block_is_the_images_of_its_parts() {
     assert!(parted > 2000, "{parted}");
 }
 
-fn part_rows(plan: &Plan, part: Word) -> Rows {
+fn part_rows(plan: &Plan, part: Word) -> Vec<Placed> {
     match plan.route_or_block(&part).expect("a code of the shape") {
-        Routed::Image(image) => vec![(part, image)],
+        Routed::Image(image) => vec![Placed {
+            place: image.place,
+            from: part,
+            to: image.digits,
+        }],
         Routed::Block(rows) => rows,
     }
 }
@@ -99,10 +108,11 @@ fn codes_without_a_block() {
     for shape in shapes() {
         let plan = random.plan(shape, 40);
         assert_eq!(reply(&plan, b""), b"no\t4\n");
-        for (from, to) in plan.pairs() {
+        for (place, (from, to)) in (1..).zip(plan.pairs()) {
             let tail = random.ways(shape, 3);
             for tail in [&b""[..], &tail] {
-                let image = [b"ok\t", to.as_slice(), tail, b"\n"].concat();
+                let behind = format!("\t{place}\n");
+                let image = [b"ok\t", to.as_slice(), tail, behind.as_bytes()].concat();
                 assert_eq!(reply(&plan, &[from, tail].concat()), image);
             }
         }
@@ -115,7 +125,7 @@ fn codes_without_a_block() {
 }
 
 /// With one belt all pairs extend it, unless they are one: the block of the
-/// belt has the lines of L with B for M.
+/// belt has the lines of L with B for M, numbered from 1.
 #[test]
 fn the_block_of_the_only_belt() {
     let mut random = Random::new(44);
@@ -128,7 +138,10 @@ fn the_block_of_the_only_belt() {
             }
             let listing = String::from_utf8(plan.list(b'A')).expect("a listing is text");
             let rows = listing.lines().filter(|line| line.starts_with('M'));
-            let lines: String = rows.map(|row| row.replacen('M', "B", 1) + "\n").collect();
+            let numbered = (1..).zip(rows);
+            let lines: String = numbered
+                .map(|(place, row)| format!("{}\t{place}\n", row.replacen('M', "B", 1)))
+                .collect();
             let expected = format!("{lines}ok\t{}\n", plan.size());
             assert_eq!(reply(&plan, b"1"), expected.as_bytes());
             full += usize::from(plan.size() > 100);
@@ -141,9 +154,9 @@ fn the_block_of_the_only_belt() {
 fn block_rows(reply: &[u8]) -> Option<Rows> {
     let text = std::str::from_utf8(reply).expect("a reply is text");
     let (lines, closing) = text.trim_end().rsplit_once('\n')?;
-    let row = |line: &str| {
-        let pair = line.strip_prefix("B\t")?.split_once('\t')?;
-        Some((pair.0.into(), pair.1.into()))
+    let row = |line: &str| match line.split('\t').collect::<Vec<_>>()[..] {
+        ["B", from, to, _] => Some((from.into(), to.into())),
+        _ => None,
     };
     let rows: Rows = lines.lines().map(row).collect::<Option<_>>()?;
     assert_eq!(closing, format!("ok\t{}", rows.len()));

@@ -149,7 +149,7 @@ fn following_moves_codes_in_turn() {
                 let code = random.code(shape, 40);
                 let in_turn = b.image(&a.image(&code).unwrap());
                 assert_eq!(c.image(&code), in_turn);
-                assert_eq!(c.route(&code).ok(), in_turn);
+                assert_eq!(c.route(&code).ok().map(|image| image.digits), in_turn);
             }
         }
     }

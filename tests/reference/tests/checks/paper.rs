@@ -1,8 +1,8 @@
 //! The cases document 01 prints: the session in full, with the block that E1
-//! puts into it, the plans to try and the ways a desk goes wrong. Spaces stand
+//! puts into it and the places of E7, the plans to try and the ways a desk goes wrong. Spaces stand
 //! for tabs in the texts below.
 
-use reference::{session, Desk, Plan, Refusal, Routed, Shape, Word};
+use reference::{session, Desk, Image, Match, Placed, Plan, Refusal, Routed, Shape, Word};
 
 const BINARY: Shape = Shape { arity: 2, roots: 1 };
 
@@ -42,8 +42,8 @@ fn phi() -> Plan {
 fn the_session_in_full() {
     let input = "P\tA\t2\t1\nM\t111\t11\nM\t112\t121\nM\t12\t122\nE\nW\tA\t1122\n\
                  K\tA\t2\tB\nL\tB\nW\tA\t11\nT\n";
-    let output = "ok\t3\nok\t1212\nok\t4\nP\tB\t2\t1\nM\t1111\t11\nM\t1112\t121\n\
-                  M\t112\t1221\nM\t12\t1222\nE\nB\t111\t11\nB\t112\t121\nok\t2\nok\t2\n";
+    let output = "ok\t3\nok\t1212\t2\nok\t4\nP\tB\t2\t1\nM\t1111\t11\nM\t1112\t121\n\
+                  M\t112\t1221\nM\t12\t1222\nE\nB\t111\t11\t1\nB\t112\t121\t2\nok\t2\nok\t2\n";
     assert_eq!(session(input.as_bytes()), output.as_bytes());
 }
 
@@ -155,10 +155,22 @@ fn phi_has_order_four() {
 #[test]
 fn psi_and_its_powers() {
     assert_eq!(psi().then(&psi().inverse()), Ok(Plan::identity(BINARY)));
-    assert_eq!(psi().route(b"12"), Ok(b"122".to_vec()));
+    let image = |digits: &str, place| Image {
+        digits: digits.into(),
+        place,
+    };
+    assert_eq!(psi().route(b"12"), Ok(image("122", 3)));
     assert_eq!(psi().route(b"11"), Err(Refusal::CodeTooShort));
-    let block = words(&[("111", "11"), ("112", "121")]);
-    assert_eq!(psi().route_or_block(b"11"), Ok(Routed::Block(block)));
+    let line = |(place, from, to): (usize, &str, &str)| Placed {
+        place,
+        from: from.into(),
+        to: to.into(),
+    };
+    let block = [(1, "111", "11"), (2, "112", "121")].map(line);
+    assert_eq!(
+        psi().route_or_block(b"11"),
+        Ok(Routed::Block(block.to_vec()))
+    );
     let fourteenth = psi().power(14).expect("within the limits");
     assert_eq!(fourteenth.size(), 16);
     let longest = fourteenth.pairs().keys().map(Vec::len).max();
@@ -170,12 +182,54 @@ fn psi_and_its_powers() {
     assert_eq!(psi().power(0), Ok(Plan::identity(BINARY)));
 }
 
+/// "The place is 0 where nothing matches or 15 or 4 applies."
+#[test]
+fn matches_of_psi() {
+    for (code, tail, place) in [
+        ("111", 0, 1),
+        ("1112", 1, 1),
+        ("1122", 1, 2),
+        ("12", 0, 3),
+        ("12111", 3, 3),
+        ("11", 2, 0),
+        ("1", 1, 0),
+        ("", 0, 0),
+        ("13", 2, 0),
+        ("123", 3, 0),
+    ] {
+        assert_eq!(
+            psi().matched(code.as_bytes()),
+            Match { tail, place },
+            "{code}"
+        );
+    }
+    for (ways, matched) in [
+        (
+            1022,
+            Match {
+                tail: 1022,
+                place: 3,
+            },
+        ),
+        (
+            1023,
+            Match {
+                tail: 1025,
+                place: 0,
+            },
+        ),
+    ] {
+        let code = [b"12".to_vec(), vec![b'1'; ways]].concat();
+        assert_eq!(psi().matched(&code), matched);
+    }
+}
+
 /// "a then b applies a first": ψ then φ and φ then ψ differ on 12.
 #[test]
 fn the_first_plan_is_applied_first() {
-    let image = |plan: Result<Plan, Refusal>| plan.unwrap().route(b"1211");
-    assert_eq!(image(psi().then(&phi())), Ok(b"11211".to_vec()));
-    assert_eq!(image(phi().then(&psi())), Ok(b"111".to_vec()));
+    let image = |plan: Result<Plan, Refusal>| plan.unwrap().image(b"1211");
+    assert_eq!(image(psi().then(&phi())), Some(b"11211".to_vec()));
+    assert_eq!(image(phi().then(&psi())), Some(b"111".to_vec()));
     check(
         "P A 2 1
          M 111 11
@@ -197,8 +251,8 @@ fn the_first_plan_is_applied_first() {
          ok 3
          ok 4
          ok 4
-         ok 11211
-         ok 111
+         ok 11211 4
+         ok 111 3
          ok 0
          ok 1",
     );

@@ -59,11 +59,11 @@ fn granted_neighbours() {
         ("K A 14 A", "ok 16"),
         ("S A A", "ok 1"),
         ("S A D", "ok 0"),
-        ("W A 12", "ok 122"),
-        ("W A 11", "B 111 11\nB 112 121\nok 2"),
-        ("W A 1", "B 111 11\nB 112 121\nB 12 122\nok 3"),
-        ("W B 133", "ok 233"),
-        ("W B 2", "ok 1"),
+        ("W A 12", "ok 122 3"),
+        ("W A 11", "B 111 11 1\nB 112 121 2\nok 2"),
+        ("W A 1", "B 111 11 1\nB 112 121 2\nB 12 122 3\nok 3"),
+        ("W B 133", "ok 233 1"),
+        ("W B 2", "ok 1 2"),
         ("C A", "ok"),
         ("T", "ok 3"),
     ] {
@@ -75,11 +75,11 @@ fn granted_neighbours() {
 #[test]
 fn codes_of_1024_digits() {
     let code = |length: usize| [b"W\tA\t".as_slice(), &vec![b'1'; length]].concat();
-    let image = |length: usize| format!("ok\t{}\n", "1".repeat(length - 1));
+    let image = |length: usize| format!("ok\t{}\t1\n", "1".repeat(length - 1));
     check_on(prepared(3), &code(1024), &image(1024));
     check_on(prepared(3), &code(1025), "no\t4\n");
     let longer_image = [b"W\tA\t12".as_slice(), &[b'1'; 1022]].concat();
-    let reply = format!("ok\t122{}\n", "1".repeat(1022));
+    let reply = format!("ok\t122{}\t3\n", "1".repeat(1022));
     check_on(prepared(3), &longer_image, &reply);
 }
 
@@ -172,7 +172,7 @@ fn operands_are_read_first() {
         ),
         &mut out,
     );
-    let replies = "ok 3\nok 1\nok 1\nP A 2 1\nM 1 1\nE\nok 3\nok 4\nok 4\nok 12\n";
+    let replies = "ok 3\nok 1\nok 1\nP A 2 1\nM 1 1\nE\nok 3\nok 4\nok 4\nok 12 4\n";
     let expected = replies.replace(' ', "\t");
     assert_eq!(String::from_utf8(out).unwrap(), expected);
 }

@@ -242,7 +242,7 @@ fn station_0_always_has_2() {
     let given: String = given.collect();
     replies(&mut desk, &given, &"ok\n".repeat(56));
     let all = "P E 2 1\nM 1 1\nE\nF A E F\nI A G\nK A 2 H\nX C 2 1 2 1\nC C\nS A D\nW A 12";
-    let answers = "ok 1\nok 3\nok 3\nok 4\nok 2\nok\nok 0\nok 122";
+    let answers = "ok 1\nok 3\nok 3\nok 4\nok 2\nok\nok 0\nok 122 3";
     replies(&mut desk, all, answers);
     let refused = "no 20\n".repeat(10);
     let all = "P E 2 1\nF A E F\nI A G\nK A 2 H\nX C 2 1 2 1\nC C\nS A D\nW A 12\nL A\nC H";

@@ -1,7 +1,7 @@
-//! Routes on random plans of all shapes, by looking at every pair: images,
-//! codes too short and wrong codes, all of them counted.
+//! Routes and matches on random plans of all shapes, by looking at every pair:
+//! images with their places, codes too short and wrong codes, all of them counted.
 
-use reference::{Plan, Refusal, Word};
+use reference::{Image, Match, Plan, Refusal};
 
 use crate::random::{shapes, Random};
 
@@ -19,17 +19,14 @@ fn routes_and_short_codes() {
                     let place = random.below(code.len());
                     code[place] = *random.pick(b"0:/ 9");
                 }
-                match expected_route(&plan, &code) {
-                    Ok(image) => {
-                        images += 1;
-                        assert_eq!(plan.route(&code), Ok(image));
-                    }
-                    Err(refusal) => {
-                        short += usize::from(refusal == Refusal::CodeTooShort);
-                        wrong += usize::from(refusal == Refusal::BadWord);
-                        assert_eq!(plan.route(&code), Err(refusal));
-                    }
+                let (matched, expected) = expected_route(&plan, &code);
+                assert_eq!(plan.matched(&code), matched);
+                match &expected {
+                    Ok(_) => images += 1,
+                    Err(Refusal::CodeTooShort) => short += 1,
+                    Err(_) => wrong += 1,
                 }
+                assert_eq!(plan.route(&code), expected);
             }
         }
     }
@@ -39,21 +36,29 @@ fn routes_and_short_codes() {
     );
 }
 
-/// A route by looking at every pair.
-fn expected_route(plan: &Plan, code: &[u8]) -> Result<Word, Refusal> {
+/// A match and a route by looking at every pair of the listing.
+fn expected_route(plan: &Plan, code: &[u8]) -> (Match, Result<Image, Refusal>) {
+    let none = Match {
+        tail: code.len(),
+        place: 0,
+    };
     if !plan.shape().is_code(code) {
-        return Err(Refusal::BadWord);
+        return (none, Err(Refusal::BadWord));
     }
-    let mut matching = plan.pairs().iter().filter(|(f, _)| code.starts_with(f));
+    let listed = plan.pair_list();
+    let mut matching = (1..).zip(&listed).filter(|(_, (f, _))| code.starts_with(f));
     match matching.next() {
-        Some((from, to)) => {
+        Some((place, (from, to))) => {
             assert!(matching.next().is_none(), "no from-word begins another");
-            Ok([to, &code[from.len()..]].concat())
+            let (_, tail) = code.split_at(from.len());
+            let digits = [to, tail].concat();
+            let tail = tail.len();
+            (Match { tail, place }, Ok(Image { digits, place }))
         }
         None => {
-            let mut longer = plan.pairs().keys().filter(|f| f.starts_with(code));
+            let mut longer = listed.iter().filter(|(f, _)| f.starts_with(code));
             assert!(longer.next().is_some(), "each belt is covered");
-            Err(Refusal::CodeTooShort)
+            (none, Err(Refusal::CodeTooShort))
         }
     }
 }

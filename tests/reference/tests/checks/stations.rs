@@ -66,7 +66,7 @@ fn changes_are_those_of_the_named_station() {
         ("C A", "ok", true),
         ("X C 2 1 2 1", "ok 2", true),
         ("S A A", "ok 1", false),
-        ("W A 12", "ok 122", false),
+        ("W A 12", "ok 122 3", false),
         ("L B", "P B 3 2\nM 1 2\nM 2 1\nE", false),
         ("U", "D 2 1 16\nA 2 1 3\nB 3 2 2\nok 3", false),
         ("T", "ok 12", false),

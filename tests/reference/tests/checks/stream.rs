@@ -106,7 +106,7 @@ fn tally(replies: &[u8]) -> BTreeMap<String, usize> {
         let fields: Vec<&str> = line.split('\t').collect();
         let kind = match fields[..] {
             ["no", ..] => line,
-            ["B", _, _] => "block",
+            ["B", from, _, _] if from.len() > 1 => "block",
             _ => "other",
         };
         *counts.entry(kind.to_string()).or_insert(0) += 1;
@@ -209,7 +209,7 @@ fn the_program_answers_line_by_line() {
     for (records, reply) in [
         ("T\n", "ok\t0"),
         ("P\tA\t2\t1\nM\t11\t12\nM\t12\t11\nE\n", "ok\t2"),
-        ("W\tA\t112\n", "ok\t122"),
+        ("W\tA\t112\n", "ok\t122\t1"),
         ("X\n", "no\t1"),
         ("T\n", "ok\t1"),
         ("Z\t7\n", "ok"),
