@@ -77,7 +77,7 @@ mod tests {
     use super::*;
     use crate::judge::expected;
     use reference::Desk;
-    use sessions::SURVEYS;
+    use sessions::{PLACES, SURVEYS};
     use std::collections::BTreeSet;
 
     #[test]
@@ -100,8 +100,10 @@ mod tests {
         assert_eq!(verdict(&replies, FULL_RANGE), None);
         let all = total(&replies);
         assert!(all.count("B line") > 10_000, "{}", all.line());
-        for kind in SURVEYS {
-            assert!(all.count(kind) > 200, "{}", all.line());
+        for (kinds, least) in [(SURVEYS, 200), (PLACES, 40)] {
+            for kind in kinds {
+                assert!(all.count(kind) > least, "{kind}: {}", all.line());
+            }
         }
         assert_eq!(all.count("no 13") + all.count("other"), 0);
         for (letter, kinds) in OWN {

@@ -2,7 +2,8 @@
 //! kinds that a long run of sessions has to have met. Refusals 13, 14 and 15
 //! are given by library calls alone, and 16 needs four thousand million
 //! changes, so no session meets them. Of U not only the lines are counted but
-//! also the replies that show something of their order; X, Z and G have to meet
+//! also the replies that show something of their order, and of W where in the listing
+//! its images are and its blocks begin; X, Z and G have to meet
 //! their own refusals, some of which other records have too, and each record that
 //! names slots has to lack a right now and then.
 
@@ -24,6 +25,18 @@ const GRANTED: &[&str] = &[
 /// don't stand by their letters, or two of them have as many pairs.
 pub const SURVEYS: &[&str] = &["U moved", "U tie"];
 
+/// The replies of W by their places (E7): images with places of one, two and three
+/// digits, and blocks that begin at the start of the listing and behind it.
+pub const PLACES: &[&str] = &[
+    "image at 1",
+    "image to 9",
+    "image to 99",
+    "image to 128",
+    "block at 1",
+    "block to 99",
+    "block to 128",
+];
+
 /// The replies that X alone has to meet.
 pub const EXERCISES: &[&str] = &[
     "ok value", "no 1", "no 2", "no 3", "no 4", "no 5", "no 8", "no 17",
@@ -44,11 +57,13 @@ pub struct Tally {
     counts: BTreeMap<String, u64>,
 }
 
-/// Counts the reply lines of an output by their kind, and the replies to U,
-/// whose lines are closed by another, by what they show.
+/// Counts the reply lines of an output by their kind, the replies to U, whose lines
+/// are closed by another, by what they show, and those of W by their places, a block
+/// by that of its first line.
 pub fn tally(output: &[u8]) -> Tally {
     let mut tally = Tally::default();
     let mut held = Vec::new();
+    let mut in_block = false;
     for line in output.split_inclusive(|&byte| byte == b'\n') {
         let line = line.strip_suffix(b"\n").unwrap_or(line);
         let kind = kind(line);
@@ -58,12 +73,31 @@ pub fn tally(output: &[u8]) -> Tally {
             tally.count_survey(&held);
             held.clear();
         }
+        let begins_block = kind == "B line" && !in_block;
+        in_block = kind == "B line";
+        if begins_block {
+            tally.raise(&format!("block {}", reach(line)));
+        } else if kind == "ok image" {
+            tally.raise(&format!("image {}", reach(line)));
+        }
         tally.raise(&kind);
     }
     tally
 }
 
-/// The last field of a line, of one of U the number of pairs.
+/// How far down the listing the place of a line is. A block that doesn't begin at its
+/// start is behind it, whether its place has one digit or two.
+fn reach(line: &[u8]) -> &'static str {
+    let block = line.starts_with(b"B");
+    match last_field(line) {
+        b"1" => "at 1",
+        [_] if !block => "to 9",
+        [_] | [_, _] => "to 99",
+        _ => "to 128",
+    }
+}
+
+/// The last field of a line, of one of U the number of pairs, of one of W the place.
 fn last_field(line: &[u8]) -> &[u8] {
     let mut fields = line.rsplit(|&byte| byte == b'\t');
     fields.next().unwrap_or(line)
@@ -126,7 +160,7 @@ impl Tally {
     /// The kinds that a full range of sessions has to meet and that this
     /// tally has not; each refusal for a column counts on its own.
     pub fn missing(&self) -> Vec<&'static str> {
-        let known = [REFUSALS, GRANTED, SURVEYS].concat();
+        let known = [REFUSALS, GRANTED, SURVEYS, PLACES].concat();
         self.missing_of(&known)
     }
 
@@ -139,13 +173,14 @@ impl Tally {
 
 impl fmt::Display for Tally {
     fn fmt(&self, out: &mut fmt::Formatter<'_>) -> fmt::Result {
-        let known = GRANTED.iter().chain(SURVEYS).chain(REFUSALS).copied();
+        let granted = GRANTED.iter().chain(SURVEYS).chain(PLACES);
+        let known = granted.chain(REFUSALS).copied();
         for kind in known.clone() {
-            writeln!(out, "  {kind:<9} {:>9}", self.count(kind))?;
+            writeln!(out, "  {kind:<12} {:>9}", self.count(kind))?;
         }
         for (kind, count) in &self.counts {
             if !known.clone().any(|name| name == kind) {
-                writeln!(out, "  {kind:<9} {count:>9}")?;
+                writeln!(out, "  {kind:<12} {count:>9}")?;
             }
         }
         Ok(())
@@ -176,7 +211,8 @@ mod tests {
             .iter()
             .map(|kind| kind.replace(' ', "\t") + "\n")
             .collect();
-        let granted = "ok\nok\t1\t1\nP\tA\t2\t1\nM\t1\t1\nE\nB\t11\t1\t1\n";
+        let granted = "ok\nok\t1\t1\nP\tA\t2\t1\nM\t1\t1\nE\nB\t11\t1\t1\nok\t1\t2\n\
+                       ok\t1\t10\nB\t11\t1\t9\nok\t1\t128\nB\t11\t1\t127\n";
         let surveys = "H\t2\t1\t4\nA\t2\t1\t3\nB\t9\t1\t3\nok\t3\n";
         let mut tally = tally((all.clone() + granted + surveys).as_bytes());
         assert!(tally.missing().is_empty());
@@ -220,6 +256,27 @@ mod tests {
             let tally = tally(output.as_bytes());
             let seen = SURVEYS.iter().map(|kind| tally.count(kind));
             assert_eq!(seen.collect::<Vec<u64>>(), [moved, tie], "{output}");
+        }
+    }
+
+    /// A block is counted by its first line; an ok of two fields closes it.
+    #[test]
+    fn the_places_of_w_are_counted() {
+        for (output, seen) in [
+            ("ok\t1\nok\t12\n", [0, 0, 0, 0, 0, 0, 0]),
+            ("ok\t1\t1\nok\t1\t1\n", [2, 0, 0, 0, 0, 0, 0]),
+            ("ok\t1\t2\nok\t1\t9\nok\t1\t10\n", [0, 2, 1, 0, 0, 0, 0]),
+            ("ok\t1\t99\nok\t1\t100\nok\t1\t128\n", [0, 0, 1, 2, 0, 0, 0]),
+            ("B\t11\t1\t1\nB\t12\t2\t2\nok\t2\n", [0, 0, 0, 0, 1, 0, 0]),
+            ("B\t11\t1\t2\nB\t12\t2\t3\nok\t2\n", [0, 0, 0, 0, 0, 1, 0]),
+            (
+                "B\t11\t1\t99\nB\t12\t2\t100\nok\t2\nB\t11\t1\t100\nok\t1\n",
+                [0, 0, 0, 0, 0, 1, 1],
+            ),
+        ] {
+            let tally = tally(output.as_bytes());
+            let counts = PLACES.iter().map(|kind| tally.count(kind));
+            assert_eq!(counts.collect::<Vec<u64>>(), seen, "{output}");
         }
     }
 

@@ -9,13 +9,18 @@ pub fn here() -> PathBuf {
     PathBuf::from(env!("CARGO_MANIFEST_DIR"))
 }
 
-/// The part of an edit from one heading to the next.
-fn part<'a>(edit: &'a str, heading: &str) -> &'a str {
-    let heading = format!("--- {heading}\n");
-    let start = edit.find(&heading).expect("the heading is there") + heading.len();
-    let rest = &edit[start..];
-    let end = rest.find("--- ").unwrap_or(rest.len());
-    rest[..end].trim_end_matches('\n')
+/// The places of an edit, of which there is mostly one: file, old text and new text.
+fn places(edit: &str) -> Vec<&str> {
+    let mut places = edit.split("--- file\n");
+    places.next().expect("what is spoiled comes first");
+    places.collect()
+}
+
+/// The parts of one place, each up to the next heading: file, old text and new text.
+fn parts(place: &str) -> [&str; 3] {
+    let (file, rest) = place.split_once("--- old\n").expect("an old text");
+    let (old, new) = rest.split_once("--- new").expect("a new text");
+    [file, old, new].map(|part| part.trim_matches('\n'))
 }
 
 /// Copies the sources of the reference, as a workspace of their own.
@@ -32,12 +37,15 @@ fn copy_reference(target: &Path) {
 }
 
 fn apply(edit: &str, target: &Path) {
-    let file = target.join(part(edit, "file"));
-    let text = fs::read_to_string(&file).unwrap();
-    let (old, new) = (part(edit, "old"), part(edit, "new"));
-    let times = text.matches(old).count();
-    assert_eq!(times, 1, "the old text is there {times} times: {old}");
-    fs::write(&file, text.replacen(old, new, 1)).unwrap();
+    let places = places(edit);
+    assert!(!places.is_empty(), "an edit has a place");
+    for [file, old, new] in places.into_iter().map(parts) {
+        let file = target.join(file);
+        let text = fs::read_to_string(&file).unwrap();
+        let times = text.matches(old).count();
+        assert_eq!(times, 1, "the old text is there {times} times: {old}");
+        fs::write(&file, text.replacen(old, new, 1)).unwrap();
+    }
 }
 
 /// Builds a copy of the reference, spoiled by the edit of this name if it is
@@ -94,7 +102,7 @@ pub fn failures(desk: &Path) -> (usize, usize) {
     let desk = [desk.to_str().unwrap()];
     // Making the faults small takes its time, and their number is enough.
     let on_cases = compare(&["--details", "0", "--cases", &cases()], &desk);
-    let on_seeds = compare(&["--details", "0", "--seeds", "0..24"], &desk);
+    let on_seeds = compare(&["--details", "0", "--seeds", "0..36"], &desk);
     let (on_cases, on_seeds) = (counts(&on_cases), counts(&on_seeds));
     (on_cases.1, on_seeds.1)
 }
@@ -106,6 +114,15 @@ pub fn is_found(name: &str) -> PathBuf {
     assert!(on_cases > 0, "{name} is not found by the cases");
     assert!(on_seeds > 0, "{name} is not found by the sessions");
     desk
+}
+
+/// The same of a copy that has to be found by several cases and by several sessions,
+/// since all sessions bring what it does wrong.
+pub fn is_found_often(name: &str) {
+    let (on_cases, on_seeds) = failures(&build(name, true));
+    println!("{name}: {on_cases} cases, {on_seeds} sessions");
+    assert!(on_cases > 1, "{name} is found by {on_cases} cases");
+    assert!(on_seeds > 3, "{name} is found by {on_seeds} sessions");
 }
 
 /// The pairs of sessions in which a station can tell the sides apart.

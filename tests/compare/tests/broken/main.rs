@@ -1,9 +1,11 @@
 //! The comparison tried out: on the reference program as it is, where nothing
 //! may fail, and on copies of it with one place spoiled, each of which has to
 //! be found. The edits are in `broken/` beside this folder's: what is spoiled, the
-//! file, the old text, which has to be there exactly once, and the new text.
+//! file, the old text, which has to be there exactly once, and the new text; a few
+//! spoil a second place so.
 
 mod copies;
+mod places;
 mod rights;
 
 use std::fs;

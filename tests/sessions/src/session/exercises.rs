@@ -24,11 +24,16 @@ impl Session {
     /// A plan of X and a record or a few on it.
     pub(super) fn exercise(&mut self) {
         let (a, b, c) = (self.some_slot(), self.some_slot(), self.some_slot());
-        let shape = match self.rng.chance(35) {
-            true => plans::any_shape(&mut self.rng),
-            false => self.some_shape(),
+        let shape = match self.rng.below(20) {
+            0..=6 => plans::any_shape(&mut self.rng),
+            // with one split every other plan of this shape joins
+            7..=9 => Shape { n: 2, r: 1 },
+            _ => self.some_shape(),
         };
-        let (splits, seed) = (self.some_splits(shape), self.some_seed());
+        let (mut splits, seed) = (self.some_splits(shape), self.some_seed());
+        if (shape.n, shape.r) == (2, 1) && self.rng.chance(50) {
+            splits = 1;
+        }
         self.keep_exercise(a, shape, splits, seed);
         match self.rng.below(9) {
             0 => self.record(&[b"L", name(a)]),

@@ -1,14 +1,15 @@
 //! The course of a session: it loads a few plans and then takes steps, chosen
 //! by weight, that load plans (`loading`) or have X make them (`exercises`), work
-//! on them and ask about them (`operations`), name the stations that do it
-//! (`stations`), give them rights (`rights`), or bring what a desk has to refuse
-//! (`mischief`). A book (`book`) says what the slots are thought to hold and who may
+//! on them and ask about them (`operations`), ask for places (`places`), name the
+//! stations that do it (`stations`), give them rights (`rights`), or bring what a desk
+//! has to refuse (`mischief`). A book (`book`) says what the slots are thought to hold and who may
 //! touch them.
 
 mod book;
 mod exercises;
 mod loading;
 mod operations;
+mod places;
 mod rights;
 mod stations;
 #[cfg(test)]
@@ -106,7 +107,7 @@ impl Session {
 
     /// One step of the session, chosen by weight.
     fn step(&mut self) {
-        match self.rng.below(136) {
+        match self.rng.below(140) {
             0..=12 => self.load_some_plan(),
             13..=20 => mischief::load_near_miss(self),
             21..=34 => self.follow(),
@@ -127,6 +128,7 @@ impl Session {
             93..=98 => self.give_rights(),
             99 => self.give_all_rights(),
             100..=104 => self.try_rights(),
+            105..=108 => self.places(),
             _ => mischief::step(self),
         }
     }

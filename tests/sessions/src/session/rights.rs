@@ -91,8 +91,12 @@ impl Session {
     /// One record that names this slot, often beside another.
     pub fn try_slot(&mut self, slot: usize) {
         let (one, other) = (name(slot), name(self.held_slot()));
-        let target = name(self.some_slot());
-        match self.rng.below(16) {
+        // now and then over the operand itself
+        let target = match self.rng.chance(25) {
+            true => one,
+            false => name(self.some_slot()),
+        };
+        match self.rng.below(18) {
             0 => self.record(&[b"U"]),
             1 => self.record(&[b"L", one]),
             2 => self.record(&[b"W", one, b"1"]),
@@ -100,12 +104,15 @@ impl Session {
             4 => self.record(&[b"S", other, one]),
             5 => self.record(&[b"I", one, target]),
             6 => self.record(&[b"I", other, one]),
-            7 => self.record(&[b"K", one, b"1", target]),
+            7 => {
+                let k = *self.rng.pick(&["1", "-2", "1001"]);
+                self.record(&[b"K", one, k.as_bytes(), target]);
+            }
             8 => self.record(&[b"K", other, b"-1", one]),
             9 => self.record(&[b"F", one, other, target]),
             10 => self.record(&[b"F", other, one, target]),
             11 => self.record(&[b"F", other, other, one]),
-            12 => self.record(&[b"C", one]),
+            12..=14 => self.record(&[b"C", one]),
             _ => self.try_writing(one),
         }
     }

@@ -84,6 +84,19 @@ fn fronts_of_every_length_come_up() {
     }
 }
 
+/// W comes up in runs of images and fronts, and behind L and I too.
+#[test]
+fn places_come_up() {
+    let lines = all_lines(0..200);
+    let starts = |line: &[u8], letter| line.first() == Some(&letter);
+    for (first, second, least) in [(b'W', b'W', 4000), (b'L', b'W', 100), (b'I', b'W', 100)] {
+        let behind = |pair: &&[Vec<u8>]| starts(&pair[0], first) && starts(&pair[1], second);
+        let found = lines.windows(2).filter(behind).count();
+        let [first, second] = [first, second].map(char::from);
+        assert!(found > least, "{found} times {second} behind {first}");
+    }
+}
+
 /// What U lists has just changed: a plan is kept or typed, or a slot emptied.
 #[test]
 fn surveys_come_up_behind_changes() {
