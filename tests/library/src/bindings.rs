@@ -3,7 +3,7 @@
 //! codes and buffers are lent as a pointer and a length.
 
 use crate::calls::Calls;
-use crate::values::{Compared, Kept, Made, Plan, Verdict, Written};
+use crate::values::{Compared, Kept, Made, Matched, Plan, Routed, Verdict, Written};
 
 #[link(name = "plans_c", kind = "static")]
 extern "C" {
@@ -14,14 +14,14 @@ extern "C" {
     fn plans_inverse(a: Plan) -> Made;
     fn plans_power(a: Plan, k: i32) -> Made;
     fn plans_same(a: Plan, b: Plan) -> Compared;
-    fn plans_unmatched(p: Plan, code: *const u8, code_length: usize) -> usize;
+    fn plans_unmatched(p: Plan, code: *const u8, code_length: usize) -> Matched;
     fn plans_route(
         p: Plan,
         code: *const u8,
         code_length: usize,
         out: *mut u8,
         out_length: usize,
-    ) -> Written;
+    ) -> Routed;
     fn plans_list(p: Plan, slot: u8, out: *mut u8, out_length: usize) -> Written;
 }
 
@@ -67,12 +67,12 @@ impl Calls for Library {
         unsafe { plans_same(*first, *second) }
     }
 
-    fn unmatched(&self, plan: &Plan, code: &[u8]) -> usize {
+    fn unmatched(&self, plan: &Plan, code: &[u8]) -> Matched {
         // SAFETY: the code is a live slice that the call only reads.
         unsafe { plans_unmatched(*plan, code.as_ptr(), code.len()) }
     }
 
-    fn route(&self, plan: &Plan, code: &[u8], out: &mut [u8]) -> Written {
+    fn route(&self, plan: &Plan, code: &[u8], out: &mut [u8]) -> Routed {
         let (read, write) = (code.as_ptr(), out.as_mut_ptr());
         // SAFETY: two live slices; the one that is written is lent to us alone.
         unsafe { plans_route(*plan, read, code.len(), write, out.len()) }

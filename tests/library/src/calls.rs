@@ -2,7 +2,7 @@
 //! the proved library, the second implementation, or a version written for
 //! speed. The checks and the benchmark are written over this trait.
 
-use crate::values::{Compared, Kept, Made, Plan, Verdict, Written};
+use crate::values::{Compared, Kept, Made, Matched, Plan, Routed, Verdict, Written};
 
 /// Each call answers for every value: a refusal is an answer too.
 pub trait Calls {
@@ -27,12 +27,12 @@ pub trait Calls {
     /// Whether the plans act alike: 15, 10.
     fn same(&self, first: &Plan, second: &Plan) -> Compared;
 
-    /// The length of the unmatched tail of the code; the whole code's where no
-    /// from-word begins it, or 15 or 4 applies.
-    fn unmatched(&self, plan: &Plan, code: &[u8]) -> usize;
+    /// The length of the unmatched tail of the code and the place of the pair whose
+    /// from-word begins it; the whole code's and 0 where none does, or 15 or 4 applies.
+    fn unmatched(&self, plan: &Plan, code: &[u8]) -> Matched;
 
-    /// Writes the image of the code: 15, 4, 13, 14.
-    fn route(&self, plan: &Plan, code: &[u8], out: &mut [u8]) -> Written;
+    /// Writes the image of the code and says the place of the pair: 15, 4, 13, 14.
+    fn route(&self, plan: &Plan, code: &[u8], out: &mut [u8]) -> Routed;
 
     /// Writes the plan as P, M and E records: 15, 8, 14.
     fn list(&self, plan: &Plan, slot: u8, out: &mut [u8]) -> Written;

@@ -5,13 +5,14 @@
 //! bytes of codes, `table` says what each is, a `split_path` shows what it was read
 //! as, and `misread` has copies of the second implementation that read one wrongly.
 //! For the pairs of listings, `listed` has what E10 says of them, and `misjoined`
-//! copies that join wrongly.
+//! copies that join wrongly; `misplaced` has copies that tell wrong places.
 
 pub mod bindings;
 pub mod calls;
 pub mod checks;
 pub mod listed;
 pub mod misjoined;
+pub mod misplaced;
 pub mod misread;
 pub mod packed;
 pub mod random;
@@ -23,4 +24,4 @@ pub mod values;
 pub use bindings::Library;
 pub use calls::Calls;
 pub use second::Second;
-pub use values::{Compared, Kept, Made, Plan, Verdict, Written, PLACES};
+pub use values::{Compared, Kept, Made, Matched, Plan, Routed, Verdict, Written, PLACES};

@@ -10,7 +10,7 @@ use reference::{Shape, Word, PAIRS, WORD_DIGITS};
 use crate::calls::Calls;
 use crate::packed::{unpack, value, Row};
 use crate::second::{write, Second};
-use crate::values::{Compared, Kept, Made, Plan, Verdict, Written};
+use crate::values::{Compared, Kept, Made, Matched, Plan, Routed, Verdict, Written};
 
 /// What is wrong.
 #[derive(Clone, Copy, Debug, PartialEq, Eq)]
@@ -242,11 +242,11 @@ impl Calls for Misjoined {
         }
     }
 
-    fn unmatched(&self, plan: &Plan, code: &[u8]) -> usize {
+    fn unmatched(&self, plan: &Plan, code: &[u8]) -> Matched {
         Second.unmatched(&sound(plan), code)
     }
 
-    fn route(&self, plan: &Plan, code: &[u8], out: &mut [u8]) -> Written {
+    fn route(&self, plan: &Plan, code: &[u8], out: &mut [u8]) -> Routed {
         Second.route(&sound(plan), code, out)
     }
 

@@ -9,9 +9,9 @@ use reference::Shape;
 
 use crate::calls::Calls;
 use crate::packed::kept;
-use crate::second::{unmatched, write, Second};
+use crate::second::{matched, write_image, Second};
 use crate::table;
-use crate::values::{Compared, Kept, Made, Plan, Verdict, Written};
+use crate::values::{Compared, Kept, Made, Matched, Plan, Routed, Verdict, Written};
 
 /// A step from byte to value with a wrong case.
 #[derive(Clone, Copy, Debug, PartialEq, Eq)]
@@ -138,22 +138,23 @@ impl Calls for Misread {
         Second.same(first, second)
     }
 
-    fn unmatched(&self, plan: &Plan, code: &[u8]) -> usize {
-        self.held(plan).map_or(code.len(), |plan| {
-            unmatched(&plan, &self.read(Call::Unmatched, &plan, code))
-        })
+    fn unmatched(&self, plan: &Plan, code: &[u8]) -> Matched {
+        self.held(plan)
+            .map_or(Matched::nothing(code.len()), |plan| {
+                matched(&plan, &self.read(Call::Unmatched, &plan, code))
+            })
     }
 
-    fn route(&self, plan: &Plan, code: &[u8], out: &mut [u8]) -> Written {
+    fn route(&self, plan: &Plan, code: &[u8], out: &mut [u8]) -> Routed {
         let Some(plan) = self.held(plan) else {
-            return Written::refused(15);
+            return Routed::refused(15);
         };
         let read = self.read(Call::Route, &plan, code);
         match plan.route(&read) {
-            Err(refusal) => Written::refused(refusal.number()),
+            Err(refusal) => Routed::refused(refusal.number()),
             Ok(mut image) => {
-                put_tail(&mut image, code, unmatched(&plan, &read));
-                write(&image, out)
+                put_tail(&mut image.digits, code, matched(&plan, &read).tail);
+                write_image(&image, out)
             }
         }
     }

@@ -4,11 +4,11 @@
 //! stands here.
 
 use reference::basis::Fault;
-use reference::{maps, Refusal, Side, CODE_DIGITS};
+use reference::{Image, Match, Refusal, Side};
 
 use crate::calls::Calls;
 use crate::packed::{draft, kept, plan_value};
-use crate::values::{Compared, Kept, Made, Plan, Verdict, Written};
+use crate::values::{Compared, Kept, Made, Matched, Plan, Routed, Verdict, Written};
 
 /// "A slot byte outside A to H".
 const BAD_SLOT: u8 = 8;
@@ -77,15 +77,15 @@ impl Calls for Second {
         }
     }
 
-    fn unmatched(&self, plan: &Plan, code: &[u8]) -> usize {
-        kept(plan).map_or(code.len(), |plan| unmatched(&plan, code))
+    fn unmatched(&self, plan: &Plan, code: &[u8]) -> Matched {
+        kept(plan).map_or(Matched::nothing(code.len()), |plan| matched(&plan, code))
     }
 
-    fn route(&self, plan: &Plan, code: &[u8], out: &mut [u8]) -> Written {
+    fn route(&self, plan: &Plan, code: &[u8], out: &mut [u8]) -> Routed {
         match kept(plan).map(|plan| plan.route(code)) {
-            None => Written::refused(NO_PLAN),
-            Some(Err(refusal)) => Written::refused(refusal.number()),
-            Some(Ok(image)) => write(&image, out),
+            None => Routed::refused(NO_PLAN),
+            Some(Err(refusal)) => Routed::refused(refusal.number()),
+            Some(Ok(image)) => write_image(&image, out),
         }
     }
 
@@ -98,14 +98,18 @@ impl Calls for Second {
     }
 }
 
-/// "Where no from-word begins the code, or 15 or 4 applies, that part is the
-/// whole code."
-pub fn unmatched(plan: &reference::Plan, code: &[u8]) -> usize {
-    if code.len() > CODE_DIGITS || !plan.shape().is_code(code) {
-        return code.len();
+/// The match of a code by a plan, as the library hands it back.
+pub fn matched(plan: &reference::Plan, code: &[u8]) -> Matched {
+    let Match { tail, place } = plan.matched(code);
+    Matched { tail, place }
+}
+
+/// The image with the place of its pair, or 14 with neither.
+pub fn write_image(image: &Image, out: &mut [u8]) -> Routed {
+    match write(&image.digits, out) {
+        Written { number: 0, length } => Routed::image(length, image.place),
+        Written { number, .. } => Routed::refused(number),
     }
-    let matched = maps::pair_beginning(plan.pairs(), code);
-    code.len() - matched.map_or(0, |(from, _)| from.len())
 }
 
 fn fault_verdict(fault: Fault) -> Verdict {

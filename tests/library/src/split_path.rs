@@ -51,10 +51,10 @@ impl SplitPath {
         SplitPath::along(shape, &digits_in_turn(shape, deepest.min(WORD_DIGITS)))
     }
 
-    /// The pair whose from-word begins these digits.
-    pub fn pair_beginning(&self, digits: &[u8]) -> Option<&Pair> {
-        let mut pairs = self.pairs.iter();
-        pairs.find(|(from, _)| digits.starts_with(from))
+    /// The pair whose from-word begins these digits, and its place, counted from 1.
+    pub fn pair_beginning(&self, digits: &[u8]) -> Option<(usize, &Pair)> {
+        let mut pairs = (1..).zip(&self.pairs);
+        pairs.find(|(_, (from, _))| digits.starts_with(from))
     }
 
     /// The pairs as they are typed.

@@ -138,3 +138,50 @@ impl Written {
         Written { number, length: 0 }
     }
 }
+
+/// How many digits of a code are left behind the from-word that begins it, and the
+/// place of that pair, counted from 1; the whole length and 0 where none does.
+#[repr(C)]
+#[derive(Clone, Copy, Debug, PartialEq, Eq)]
+pub struct Matched {
+    pub tail: usize,
+    pub place: usize,
+}
+
+impl Matched {
+    /// No from-word begins a code of this length, or 15 or 4 applies.
+    pub fn nothing(length: usize) -> Matched {
+        Matched {
+            tail: length,
+            place: 0,
+        }
+    }
+}
+
+/// How many digits stand at the start of the lent buffer, and the place of the pair
+/// that routed the code; both are 0 in a refusal.
+#[repr(C)]
+#[derive(Clone, Copy, Debug, PartialEq, Eq)]
+pub struct Routed {
+    pub number: u8,
+    pub length: usize,
+    pub place: usize,
+}
+
+impl Routed {
+    pub fn image(length: usize, place: usize) -> Routed {
+        Routed {
+            number: 0,
+            length,
+            place,
+        }
+    }
+
+    pub fn refused(number: u8) -> Routed {
+        Routed {
+            number,
+            length: 0,
+            place: 0,
+        }
+    }
+}

@@ -1,7 +1,7 @@
 //! The proved library against the second implementation: the calls that read a
 //! lent code or write into a lent buffer.
 
-use library::checks::{bytes, listings, routes};
+use library::checks::{bytes, listings, places, routes};
 use library::Library;
 
 #[test]
@@ -22,6 +22,21 @@ fn routes_by_damaged_values() {
 #[test]
 fn routes_of_every_byte() {
     routes::of_bytes(&Library);
+}
+
+#[test]
+fn every_place_of_plans() {
+    places::of_every_place(&Library);
+}
+
+#[test]
+fn no_place_without_a_match() {
+    places::of_no_match(&Library);
+}
+
+#[test]
+fn no_place_in_a_refusal() {
+    places::of_no_route(&Library);
 }
 
 #[test]

@@ -70,27 +70,28 @@ fn each_of_the_bytes_is_tried() {
 }
 
 /// Two digits exchanged, only where both are in range, so that no refusal tells:
-/// the values themselves must show. Images show all of them; the length of a tail
-/// doesn't.
+/// the values themselves must show. Images show all of them, and so do the places of
+/// the pairs.
 #[test]
 fn each_of_the_values_shows() {
-    for (one, other) in product(1..=9, 1..=9).filter(|(one, other)| one < other) {
+    let digits = product(1..=9, 1..=9).filter(|(one, other)| one < other);
+    for ((one, other), call) in product(digits, CALLS) {
         for (part, places) in [("belts", 0..1), ("ways", 1..16)] {
             let name = format!("{part} {one} and {other}");
-            let calls = exchanged(one, other, places);
-            caught(&name, at_every_place, Call::Route, &calls);
+            let calls = exchanged(call, one, other, places);
+            caught(&name, at_every_place, call, &calls);
         }
     }
-    for place in 0..WORD_DIGITS {
-        let calls = exchanged(8, 9, place..place + 1);
-        caught(&format!("at {place}"), at_every_place, Call::Route, &calls);
+    for (place, call) in product(0..WORD_DIGITS, CALLS) {
+        let calls = exchanged(call, 8, 9, place..place + 1);
+        caught(&format!("at {place}"), at_every_place, call, &calls);
     }
 }
 
-/// Routes with two digits, the smaller one first, exchanged at these places.
-fn exchanged(one: u8, other: u8, places: Range<usize>) -> Misread {
+/// A call with two digits, the smaller one first, exchanged at these places.
+fn exchanged(call: Call, one: u8, other: u8, places: Range<usize>) -> Misread {
     let [here, there] = [one, other].map(table::byte);
-    Misread::new(Call::Route, move |shape, code| {
+    Misread::new(call, move |shape, code| {
         let mut read = code.to_vec();
         for (place, byte) in read.iter_mut().enumerate() {
             let most = if place == 0 { shape.roots } else { shape.arity };

@@ -4,7 +4,7 @@
 
 use crate::calls::Calls;
 use crate::second::Second;
-use crate::values::Written;
+use crate::values::{Routed, Written};
 
 /// The bytes of the room before and behind the buffer.
 const GUARD: usize = 64;
@@ -12,8 +12,26 @@ const GUARD: usize = 64;
 /// More than any image or listing needs: 128 lines of 36 bytes and two more.
 pub const AMPLE: usize = 5000;
 
+/// The answer of a call that writes into a buffer.
+pub trait Answer: PartialEq + std::fmt::Debug {
+    /// How many bytes it wrote; 0 in a refusal.
+    fn length(&self) -> usize;
+}
+
+impl Answer for Written {
+    fn length(&self) -> usize {
+        self.length
+    }
+}
+
+impl Answer for Routed {
+    fn length(&self) -> usize {
+        self.length
+    }
+}
+
 /// A call that writes into a buffer.
-pub type Ask<'a> = &'a dyn Fn(&dyn Calls, &mut [u8]) -> Written;
+pub type Ask<'a, A> = &'a dyn Fn(&dyn Calls, &mut [u8]) -> A;
 
 /// The lengths of buffer worth trying for an output of this length.
 pub fn lengths(output: usize) -> Vec<usize> {
@@ -22,13 +40,13 @@ pub fn lengths(output: usize) -> Vec<usize> {
 }
 
 /// The length of the output, by the second implementation; 0 in a refusal.
-pub fn output_length(ask: Ask) -> usize {
-    ask(&Second, &mut [0; AMPLE]).length
+pub fn output_length<A: Answer>(ask: Ask<A>) -> usize {
+    ask(&Second, &mut [0; AMPLE]).length()
 }
 
 /// Asks with a buffer of this length, and the second implementation with one
 /// like it; answers and rooms must agree. The salt varies the pattern.
-pub fn compare(calls: &dyn Calls, ask: Ask, length: usize, salt: usize) -> Written {
+pub fn compare<A: Answer>(calls: &dyn Calls, ask: Ask<A>, length: usize, salt: usize) -> A {
     let (mut room, mut expected_room) = (pattern(length, salt), pattern(length, salt));
     let lent = GUARD..GUARD + length;
     let answer = ask(calls, &mut room[lent.clone()]);

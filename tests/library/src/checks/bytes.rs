@@ -1,9 +1,9 @@
 //! Each of the 256 bytes at every place of a code. Within the from-word the image
-//! shows the value that it was given; behind it, where digits are copied, only
+//! and the pair's place show the value that it was given; behind it, where digits are copied, only
 //! whether it was taken for a digit. The answers are held to the table of ISO 646
 //! (E4), and so is the second implementation.
 
-use reference::{Shape, CODE_DIGITS, PAIRS, WORD_DIGITS};
+use reference::{Image, Shape, CODE_DIGITS, PAIRS, WORD_DIGITS};
 
 use super::tally::Tally;
 use crate::calls::Calls;
@@ -13,7 +13,7 @@ use crate::random::{plans, Rng};
 use crate::second;
 use crate::split_path::{digits_in_turn, SplitPath};
 use crate::table;
-use crate::values::{Plan, Written};
+use crate::values::{Matched, Plan, Routed};
 
 /// The digits of a code in which each place is tried: all that the longest
 /// from-words have, and a tail long enough to be read sixteen bytes at a time.
@@ -126,8 +126,8 @@ struct Asked<'a> {
     plan: reference::Plan,
 }
 
-/// The length of the unmatched tail, and the image or the number of the refusal.
-type Answer = (usize, Result<Vec<u8>, u8>);
+/// The match, and the image with its place or the number of the refusal.
+type Answer = (Matched, Result<Image, u8>);
 
 impl Asked<'_> {
     fn new(calls: &dyn Calls, split: SplitPath) -> Asked<'_> {
@@ -150,13 +150,18 @@ impl Asked<'_> {
     fn expected(&self, code: &[u8]) -> Answer {
         let read = table::read(self.split.shape, code);
         let Some(digits) = read.filter(|digits| digits.len() <= CODE_DIGITS) else {
-            return (code.len(), Err(4));
+            return (Matched::nothing(code.len()), Err(4));
         };
         match self.split.pair_beginning(&digits) {
-            None => (code.len(), Err(13)),
-            Some((from, to)) => {
+            None => (Matched::nothing(code.len()), Err(13)),
+            Some((place, (from, to))) => {
                 let tail = &digits[from.len()..];
-                (tail.len(), Ok(table::written(&[to, tail].concat())))
+                let image = Image {
+                    digits: table::written(&[to, tail].concat()),
+                    place,
+                };
+                let tail = tail.len();
+                (Matched { tail, place }, Ok(image))
             }
         }
     }
@@ -176,23 +181,29 @@ impl Asked<'_> {
     fn compare(&self, code: &[u8]) -> u8 {
         let expected = self.expected(code);
         let image = self.plan.route(code).map_err(|refusal| refusal.number());
-        let second = (second::unmatched(&self.plan, code), image);
+        let second = (second::matched(&self.plan, code), image);
         assert_eq!(second, expected, "second to {}", self.case(code));
-        let (tail, image) = expected;
+        let (matched, image) = expected;
         let unmatched = self.calls.unmatched(&self.value, code);
-        assert_eq!(unmatched, tail, "unmatched of {}", self.case(code));
+        assert_eq!(unmatched, matched, "unmatched of {}", self.case(code));
 
         // just enough for an image; more than enough for one that should be none
-        let (written, room) = match &image {
-            Ok(image) => (Written::bytes(image.len()), image.len()),
-            Err(number) => (Written::refused(*number), code.len() + WORD_DIGITS),
+        let (routed, digits, room) = match image {
+            Ok(Image { digits, place }) => {
+                let length = digits.len();
+                (Routed::image(length, place), digits, length)
+            }
+            Err(number) => {
+                let room = code.len() + WORD_DIGITS;
+                (Routed::refused(number), Vec::new(), room)
+            }
         };
         let mut lent = vec![b'.'; GUARD + room + GUARD];
         let mut expected = lent.clone();
-        expected[GUARD..GUARD + written.length].copy_from_slice(&image.unwrap_or_default());
+        expected[GUARD..GUARD + digits.len()].copy_from_slice(&digits);
         let out = &mut lent[GUARD..GUARD + room];
         let answer = self.calls.route(&self.value, code, out);
-        assert_eq!(answer, written, "route of {}", self.case(code));
+        assert_eq!(answer, routed, "route of {}", self.case(code));
         assert!(lent == expected, "image of {}", self.case(code));
         answer.number
     }

@@ -53,7 +53,7 @@ pub fn of_slots(calls: &dyn Calls) {
 }
 
 fn compare(calls: &dyn Calls, plan: &Plan, slot: u8, tally: &mut Tally) {
-    let ask: buffers::Ask = &|calls, out| calls.list(plan, slot, out);
+    let ask: buffers::Ask<_> = &|calls, out| calls.list(plan, slot, out);
     let output = output_length(ask);
     for length in lengths(output) {
         let answer = compare_buffer(calls, ask, length, length);

@@ -9,6 +9,7 @@ pub mod every_table;
 pub mod laws;
 pub mod listings;
 pub mod paper;
+pub mod places;
 pub mod powers;
 pub mod products;
 pub mod routes;

@@ -6,7 +6,7 @@ use reference::Shape;
 
 use crate::calls::Calls;
 use crate::packed::{value, Row};
-use crate::values::{Made, Plan, Verdict, Written};
+use crate::values::{Made, Matched, Plan, Routed, Verdict, Written};
 
 const PSI: [(&str, &str); 3] = [("111", "11"), ("112", "121"), ("12", "122")];
 const PHI: [(&str, &str); 3] = [("111", "122"), ("112", "121"), ("12", "11")];
@@ -133,25 +133,31 @@ pub fn of_orders(calls: &dyn Calls) {
 pub fn of_bytes(calls: &dyn Calls) {
     let psi = typed(&PSI);
     let routes = [
-        ("1122", "1212"),
-        ("12", "122"),
-        ("111", "11"),
-        ("12121", "122121"),
+        ("1122", "1212", 2),
+        ("12", "122", 3),
+        ("111", "11", 1),
+        ("12121", "122121", 3),
     ];
-    for (code, image) in routes {
+    for (code, image, place) in routes {
         let mut out = [b'.'; 8];
-        let written = calls.route(&psi, code.as_bytes(), &mut out);
-        assert_eq!(written, Written::bytes(image.len()));
+        let routed = calls.route(&psi, code.as_bytes(), &mut out);
+        assert_eq!(routed, Routed::image(image.len(), place), "{code}");
         assert_eq!(&out[..image.len()], image.as_bytes());
         assert!(out[image.len()..].iter().all(|byte| *byte == b'.'));
     }
     for (code, number) in [("11", 13), ("1", 13), ("", 4), ("2", 4), ("113", 4)] {
-        let written = calls.route(&psi, code.as_bytes(), &mut [0; 8]);
-        assert_eq!(written, Written::refused(number), "{code}");
-        assert_eq!(calls.unmatched(&psi, code.as_bytes()), code.len());
+        let routed = calls.route(&psi, code.as_bytes(), &mut [0; 8]);
+        assert_eq!(routed, Routed::refused(number), "{code}");
+        let matched = calls.unmatched(&psi, code.as_bytes());
+        assert_eq!(matched, Matched::nothing(code.len()), "{code}");
     }
-    assert_eq!(calls.unmatched(&psi, b"1122"), 1);
-    assert_eq!(calls.unmatched(&psi, b"12"), 0);
+    for (code, tail, place) in [("1122", 1, 2), ("12", 0, 3), ("111221", 3, 1)] {
+        let matched = calls.unmatched(&psi, code.as_bytes());
+        assert_eq!(matched, Matched { tail, place }, "{code}");
+    }
+    let mut out = [b'.'; 3];
+    assert_eq!(calls.route(&psi, b"1122", &mut out), Routed::refused(14));
+    assert_eq!(out, [b'.'; 3]);
 
     let listing = "P\tB\t2\t1\nM\t1111\t11\nM\t1112\t121\nM\t112\t1221\nM\t12\t1222\nE\n";
     let square = calls.power(&psi, 2).plan;

@@ -1,5 +1,6 @@
-//! Unmatched and route: every kind of code, with buffers of just the right
-//! length, longer, shorter and empty, on plans and on damaged values.
+//! Unmatched and route, with the places that they tell: every kind of code, with
+//! buffers of just the right length, longer, shorter and empty, on plans and on
+//! damaged values.
 
 use reference::Shape;
 
@@ -31,7 +32,13 @@ pub fn of_plans(calls: &dyn Calls) {
     tally.demand(100, &["route 0", "route 4", "route 13", "route 14"]);
     tally.demand(
         100,
-        &["no tail", "a tail", "a whole code", "13 with no room"],
+        &[
+            "no tail",
+            "a tail",
+            "a whole code",
+            "a later place",
+            "13 with no room",
+        ],
     );
     tally.demand(100, &["an image of more than 1,024 digits"]);
 }
@@ -89,18 +96,19 @@ pub fn of_bytes(calls: &dyn Calls) {
     tally.demand(500, &["route 0", "route 4"]);
 }
 
-fn compare(calls: &dyn Calls, plan: &Plan, code: &[u8], tally: &mut Tally) {
-    let tail = calls.unmatched(plan, code);
+pub fn compare(calls: &dyn Calls, plan: &Plan, code: &[u8], tally: &mut Tally) {
+    let matched = calls.unmatched(plan, code);
     let expected = Second.unmatched(plan, code);
-    assert_eq!(tail, expected, "unmatched of {code:?} by {plan:?}");
-    let kind = match tail {
+    assert_eq!(matched, expected, "unmatched of {code:?} by {plan:?}");
+    let kind = match matched.tail {
         0 => "no tail",
         whole if whole == code.len() => "a whole code",
         _ => "a tail",
     };
     tally.count(kind);
+    tally.count_if(matched.place > 1, "a later place");
 
-    let ask: buffers::Ask = &|calls, out| calls.route(plan, code, out);
+    let ask: buffers::Ask<_> = &|calls, out| calls.route(plan, code, out);
     let output = output_length(ask);
     for length in lengths(output) {
         let answer = compare_buffer(calls, ask, length, code.len() + length);
