@@ -242,6 +242,18 @@ impl Broken {
         }
     }
 
+    /// Wrong places in the reply to W, where there is room for them.
+    fn spoil_places(&self, before: &Desk, line: &[u8], answer: &mut Written, out: &mut [u8]) {
+        let Fault::Misplaced(placing) = self.fault else {
+            return;
+        };
+        let wrong = placing.reply(before, line, &out[..answer.length]);
+        if let Some(front) = out.get_mut(..wrong.len()) {
+            front.copy_from_slice(&wrong);
+            answer.length = wrong.len();
+        }
+    }
+
     /// The reply to U as the fault has it: with other lines of slots, or with
     /// these in another order.
     fn wrong_survey(&self, reply: &[u8]) -> Vec<u8> {
@@ -321,6 +333,7 @@ impl Calls for Broken {
         *desk = after;
         self.leave(&before, desk, answer.number, line.starts_with(b"X"));
         self.spoil_buffer(line, &mut answer, out);
+        self.spoil_places(&before, line, &mut answer, out);
         if let Fault::Misread(Text::Code, _) = self.fault {
             misread::keep_tail(&before, came, line, &mut out[..answer.length]);
         }

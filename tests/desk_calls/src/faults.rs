@@ -5,11 +5,13 @@ use library::misread::{Step, STEPS};
 
 use crate::calls::Calls;
 use crate::checks::{
-    buffers, bytes, damage, jobs, lines, paper, refusals, rights, sessions, stations, tables,
+    buffers, bytes, damage, jobs, lines, paper, places, refusals, rights, sessions, stations,
+    tables,
 };
 use crate::misgiven::{Giving, GIVINGS};
 use crate::mislisted::{Listing, LISTINGS};
 use crate::misnamed::{Naming, NAMINGS};
+use crate::misplaced::{Placing, PLACINGS};
 use crate::misread::{Text, TEXTS};
 use crate::missplit::{Limit, LIMITS};
 
@@ -113,6 +115,8 @@ pub enum Fault {
     Misread(Text, Step),
     /// Other pairs are listed than are held, or compared.
     Mislisted(Listing),
+    /// W tells wrong places.
+    Misplaced(Placing),
     /// Jobs of X are held to a wrong limit of splits.
     Missplit(Limit),
 }
@@ -200,6 +204,21 @@ pub fn mislistings() -> Vec<(Fault, Check)> {
         (Fault::Mislisted(listing), check)
     });
     checks.into()
+}
+
+/// Each wrong place (E7), and the checks that have to see it: one by the words of E7
+/// alone, and two beside the second implementation.
+pub fn misplacings() -> Vec<(Fault, Check)> {
+    let checks: [Check; 3] = [
+        paper::places::listed,
+        places::of_full_plans,
+        sessions::of_lines,
+    ];
+    let mut faults: Vec<(Fault, Check)> = Vec::new();
+    for placing in PLACINGS {
+        faults.extend(checks.map(|check| (Fault::Misplaced(placing), check)));
+    }
+    faults
 }
 
 /// Each wrong limit of splits (E3), and the checks that have to see it: one by the

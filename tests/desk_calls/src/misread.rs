@@ -50,8 +50,9 @@ pub fn keep_tail(desk: &Desk, came: &[u8], read: &[u8], reply: &mut [u8]) {
     }
     let slot = usize::from(read[2] - b'A');
     let plan = packed::kept(&desk.value(slot)).expect("it was routed by this plan");
-    let tail = second::unmatched(&plan, &read[4..]);
-    let end = reply.len() - 1;
+    let tail = second::matched(&plan, &read[4..]).tail;
+    let end = reply.iter().rposition(|byte| *byte == b'\t');
+    let end = end.expect("the place stands behind the image");
     put_tail(&mut reply[3..end], &came[4..], tail);
 }
 

@@ -15,6 +15,10 @@ pub const BLOCKS: usize = SLOTS + 1;
 /// The stations, each with a count and, but for station 0, with rights.
 pub const STATIONS: usize = 8;
 
+/// No reply has more bytes, DESK_LONGEST_REPLY of the header: a block of 128 lines
+/// with two words of 16 digits and a place each, and a line.
+pub const LONGEST_REPLY: usize = 128 * 40 + 7;
+
 /// Two columns of words for each block.
 pub const WORDS: usize = BLOCKS * 2 * PLACES;
 

@@ -5,7 +5,8 @@ use std::panic::{catch_unwind, AssertUnwindSafe};
 
 use desk_calls::broken::Broken;
 use desk_calls::checks::ALL;
-use desk_calls::faults::{misgivings, mislistings, misnamings, misreadings, missplits, FAULTS};
+use desk_calls::faults::{misgivings, mislistings, misnamings, misplacings, misreadings};
+use desk_calls::faults::{missplits, FAULTS};
 use desk_calls::misgiven::Misgiven;
 use desk_calls::misnamed::Misnamed;
 use desk_calls::{Calls, Second};
@@ -44,6 +45,7 @@ fn broken_copies_are_caught() {
     let others = misreadings()
         .into_iter()
         .chain(mislistings())
+        .chain(misplacings())
         .chain(missplits());
     for (fault, check) in FAULTS.into_iter().chain(others) {
         assert_caught(&format!("{fault:?}"), check, &Broken::new(fault));

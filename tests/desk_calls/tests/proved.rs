@@ -2,7 +2,8 @@
 //! implementation.
 
 use desk_calls::checks::{
-    buffers, bytes, damage, jobs, lines, paper, refusals, rights, sessions, stations, tables,
+    buffers, bytes, damage, jobs, lines, paper, places, refusals, rights, sessions, stations,
+    tables,
 };
 use desk_calls::Library;
 
@@ -19,6 +20,21 @@ fn the_session_of_the_paper_in_jobs() {
 #[test]
 fn a_block_without_room() {
     paper::block_without_room(&Library);
+}
+
+#[test]
+fn places_in_the_listing() {
+    paper::places::listed(&Library);
+}
+
+#[test]
+fn every_place_and_every_block() {
+    places::of_full_plans(&Library);
+}
+
+#[test]
+fn the_longest_blocks() {
+    places::of_long_words(&Library);
 }
 
 #[test]

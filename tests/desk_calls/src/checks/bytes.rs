@@ -116,8 +116,9 @@ fn keep_and_list(both: &mut SideBySide, split: &SplitPath) {
     assert_eq!(both.desk().value(2), split.value(), "by the table after E");
     listing.extend(b"E\n");
     reply(both, b"L\tC", &listing);
-    for (from, to) in &typed {
-        let image = [b"ok\t", &to[..], b"\n"].concat();
+    for (place, (from, to)) in (1..).zip(&typed) {
+        let place: usize = place;
+        let image = line(&[b"ok", to, place.to_string().as_bytes()]);
         reply(both, &[b"W\tC\t", &from[..]].concat(), &image);
     }
 }
@@ -176,23 +177,27 @@ fn route(both: &mut SideBySide, split: &SplitPath, code: &[u8]) {
     assert!(both.reply() == reply, "{}", asked());
 }
 
-/// The image of these digits, or the block of the pairs that extend them.
+/// The image of these digits, or the block of the pairs that extend them, with the
+/// places of the pairs.
 fn routed(split: &SplitPath, digits: &[u8]) -> Vec<u8> {
-    if let Some((from, to)) = split.pair_beginning(digits) {
+    if let Some((place, (from, to))) = split.pair_beginning(digits) {
         let image = table::written(&[to, &digits[from.len()..]].concat());
-        return [b"ok\t", &image[..], b"\n"].concat();
+        return line(&[b"ok", &image, place.to_string().as_bytes()]);
     }
-    let extend = split
-        .pairs
-        .iter()
-        .filter(|(from, _)| from.starts_with(digits));
-    let lines = extend.map(|(from, to)| {
+    let placed = (1..).zip(&split.pairs);
+    let extend = placed.filter(|(_, (from, _))| from.starts_with(digits));
+    let lines = extend.map(|(place, (from, to))| {
         let [from, to] = [from, to].map(|word| table::written(word));
-        [b"B\t", &from[..], b"\t", &to, b"\n"].concat()
+        line(&[b"B", &from, &to, place.to_string().as_bytes()])
     });
     let mut lines: Vec<Vec<u8>> = lines.collect();
     lines.push(format!("ok\t{}\n", lines.len()).into_bytes());
     lines.concat()
+}
+
+/// A line of a reply, from its fields.
+fn line(fields: &[&[u8]]) -> Vec<u8> {
+    [fields.join(&b'\t'), b"\n".to_vec()].concat()
 }
 
 /// Counts what a byte in a word or a code came to.

@@ -8,6 +8,7 @@ pub mod damage;
 pub mod jobs;
 pub mod lines;
 pub mod paper;
+pub mod places;
 pub mod refusals;
 pub mod rights;
 pub mod sessions;
@@ -21,7 +22,7 @@ use crate::calls::Calls;
 pub type Check = (&'static str, fn(&dyn Calls));
 
 /// Every check, those that take long behind the others.
-pub const ALL: [Check; 47] = [
+pub const ALL: [Check; 50] = [
     ("paper::session", paper::session),
     ("paper::session_in_jobs", paper::session_in_jobs),
     ("paper::block_without_room", paper::block_without_room),
@@ -37,6 +38,7 @@ pub const ALL: [Check; 47] = [
     ("paper::rights::needed", paper::rights::needed),
     ("paper::rights::shown", paper::rights::shown),
     ("paper::rights::damage", paper::rights::damage),
+    ("paper::places::listed", paper::places::listed),
     ("paper::refusals_of_calls", paper::refusals_of_calls),
     ("lines::of_any_bytes", lines::of_any_bytes),
     ("lines::at_the_limit", lines::at_the_limit),
@@ -57,6 +59,8 @@ pub const ALL: [Check; 47] = [
     ("rights::of_every_record", rights::of_every_record),
     ("rights::in_chains", rights::in_chains),
     ("rights::damaged", rights::damaged),
+    ("places::of_full_plans", places::of_full_plans),
+    ("places::of_long_words", places::of_long_words),
     ("buffers::of_every_length", buffers::of_every_length),
     ("buffers::of_every_line", buffers::of_every_line),
     ("refusals::one_after_another", refusals::one_after_another),

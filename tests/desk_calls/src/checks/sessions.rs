@@ -11,7 +11,7 @@ use crate::calls::Calls;
 use crate::random::desks::full;
 use crate::random::jobs::some_job;
 use crate::random::Rng;
-use crate::values::Desk;
+use crate::values::{Desk, LONGEST_REPLY};
 
 /// Every answer that a sound desk can get, and blocks of W.
 const ANSWERS: [&str; 20] = [
@@ -107,7 +107,7 @@ fn run(calls: &dyn Calls, seed: u64, jobs: usize, tally: &mut Tally) {
         if rng.chance(2) {
             both.line_into(line, *rng.pick(&[0, 1, 4, 5, 8, 30]));
         }
-        both.line_into(line, *rng.pick(&[AMPLE, AMPLE, 4618]));
+        both.line_into(line, *rng.pick(&[AMPLE, AMPLE, LONGEST_REPLY]));
         if rng.chance(2) {
             assert!(both.is_desk(), "a desk stays a desk");
         }

@@ -11,13 +11,13 @@ use sessions::SURVEYS;
 
 use crate::calls::Calls;
 use crate::second::Second;
-use crate::values::{Desk, Done, Job, Written};
+use crate::values::{Desk, Done, Job, Written, LONGEST_REPLY};
 
 /// The bytes of the room before and behind the buffer.
 const GUARD: usize = 64;
 
-/// More than any reply needs: 128 lines of 36 bytes and two more.
-pub const AMPLE: usize = 5000;
+/// More than any reply needs.
+pub const AMPLE: usize = LONGEST_REPLY + 400;
 
 pub struct SideBySide<'a> {
     calls: &'a dyn Calls,

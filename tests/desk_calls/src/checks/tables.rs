@@ -185,14 +185,15 @@ pub fn that_act_otherwise(calls: &dyn Calls) {
 fn tell_apart(asked: &mut Asked, slot: char, listed: &Listed, table: &[Row], tally: &mut Tally) {
     let code = telling_code(listed.shape, &listed.rows, table);
     let code = code.unwrap_or_else(|| panic!("nothing tells {table:?} from {listed}"));
-    let places = [&listed.rows, table].map(|rows| {
+    let images = [&listed.rows, table].map(|rows| {
         let image = image(rows, &code).expect("it is long enough for both");
-        format!("ok\t{}\n", String::from_utf8_lossy(&image))
+        String::from_utf8_lossy(&image).into_owned()
     });
-    assert_ne!(places[0], places[1], "{code:?} goes to one place");
-    let code = String::from_utf8_lossy(&code);
-    let routed = asked.reply(&format!("W\t{slot}\t{code}"));
-    assert_eq!(routed.as_ref(), Ok(&places[0]), "to W of {code}");
+    assert_ne!(images[0], images[1], "{code:?} goes to one place");
+    let text = String::from_utf8_lossy(&code);
+    let routed = asked.reply(&format!("W\t{slot}\t{text}"));
+    let reply = ok_line(&images[0], listed, &code);
+    assert_eq!(routed, Ok(reply), "to W of {text}");
     tally.count("told");
     if !can_be_typed(table) {
         return;
@@ -203,11 +204,20 @@ fn tell_apart(asked: &mut Asked, slot: char, listed: &Listed, table: &[Row], tal
             tally.count("no basis");
         }
         Ok(_) => {
-            let routed = asked.reply(&format!("W\t{BESIDE}\t{code}"));
-            assert_eq!(routed.as_ref(), Ok(&places[1]), "to W of {code}");
+            let routed = asked.reply(&format!("W\t{BESIDE}\t{text}"));
+            let reply = ok_line(&images[1], &asked.listed(BESIDE), &code);
+            assert_eq!(routed, Ok(reply), "to W of {text}");
             let same = asked.reply(&format!("S\t{slot}\t{BESIDE}"));
             assert_eq!(same, Ok("ok\t0\n".into()), "to S beside {listed}");
             tally.count("kept");
         }
     }
+}
+
+/// W's reply: the image, and which of the listed pairs begins the code.
+fn ok_line(image: &str, listed: &Listed, code: &[u8]) -> String {
+    let begins = |(from, _): &Row| code.starts_with(from);
+    let place = listed.rows.iter().position(begins);
+    let place = 1 + place.expect("a listed from-word begins the code");
+    format!("ok\t{image}\t{place}\n")
 }

@@ -1,9 +1,10 @@
-//! The session of document 01 in full, with the replies that it and E1 give, in
+//! The session of document 01 in full, with the replies that it, E1 and E7 give, in
 //! lines and as far as that goes in jobs; the slots of U in the order of E2; two
 //! plans of X (E3) that were worked by hand, in tests/cases/README.md; what only calls
-//! refuse, in so many words; in `stations` those of E5 and in `rights` those of E6.
-//! Nothing here asks the second implementation.
+//! refuse, in so many words; in `stations` those of E5, in `rights` those of E6 and in
+//! `places` those of E7. Nothing here asks the second implementation.
 
+pub mod places;
 pub mod rights;
 pub mod stations;
 
@@ -12,8 +13,8 @@ use crate::values::{Desk, Done, Job, Written};
 
 const PLAN: [&str; 4] = ["P\tA\t2\t1", "M\t111\t11", "M\t112\t121", "M\t12\t122"];
 
-/// What E1 puts in the place of the session's 13.
-const BLOCK: &str = "B\t111\t11\nB\t112\t121\nok\t2\n";
+/// What E1 puts in the place of the session's 13, with the places of E7.
+const BLOCK: &str = "B\t111\t11\t1\nB\t112\t121\t2\nok\t2\n";
 
 /// Asserts the reply to a line, in a buffer that it fills and in one that is
 /// longer.
@@ -44,7 +45,7 @@ pub fn session(calls: &dyn Calls) {
     reply(calls, &mut desk, "E", "ok\t3\n");
     assert_eq!((desk.opened, *desk.count()), (0, 1));
     assert!(desk.is_empty(8));
-    reply(calls, &mut desk, "W\tA\t1122", "ok\t1212\n");
+    reply(calls, &mut desk, "W\tA\t1122", "ok\t1212\t2\n");
     reply(calls, &mut desk, "K\tA\t2\tB", "ok\t4\n");
     let listing = "P\tB\t2\t1\nM\t1111\t11\nM\t1112\t121\nM\t112\t1221\nM\t12\t1222\nE\n";
     reply(calls, &mut desk, "L\tB", listing);
@@ -110,7 +111,7 @@ pub fn block_without_room(calls: &dyn Calls) {
         assert_eq!(desk, before, "with {room} bytes");
     }
     reply(calls, &mut desk, "W\tA\t11", BLOCK);
-    reply(calls, &mut desk, "W\tA\t112", "ok\t121\n");
+    reply(calls, &mut desk, "W\tA\t112", "ok\t121\t2\n");
     reply(calls, &mut desk, "T", "ok\t1\n");
 }
 

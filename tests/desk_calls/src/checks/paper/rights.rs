@@ -158,7 +158,7 @@ fn needs() -> Vec<Need> {
             [2, 0],
         ),
         ("S\tA\tH", job(b'S', b'A', b'H', 0, 0), "ok\t1\n", [1, 1]),
-        ("W\tH\t112", None, "ok\t122\n", [0, 1]),
+        ("W\tH\t112", None, "ok\t122\t1\n", [0, 1]),
         (
             "L\tA",
             None,
