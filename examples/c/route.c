@@ -20,7 +20,15 @@ static struct desk_written say(struct desk *d, const char *line, char reply[DESK
     return w;
 }
 
-/* Lines of "B", a from-word and a to-word, parted by tabs, and then one of "ok". */
+/* Where a code or word goes, and which pair of the plan sends it there: the image and the place of the pair, separated by a tab. */
+static void print_image(const char *code, size_t length, const char *image)
+{
+    const char *place = strchr(image, '\t');
+
+    printf("%.*s -> %.*s, pair %d\n", (int)length, code, (int)(place - image), image, atoi(place + 1));
+}
+
+/* Lines of "B", a from-word, a to-word and a place, separated by tabs, and then one of "ok". */
 static void print_block(const char *code, char *lines)
 {
     char *from, *to;
@@ -29,7 +37,8 @@ static void print_block(const char *code, char *lines)
     for (lines = strtok(lines, "\n"); lines != NULL && *lines == 'B'; lines = strtok(NULL, "\n")) {
         from = lines + strlen("B\t");
         to = strchr(from, '\t');
-        printf("  %.*s -> %s\n", (int)(to - from), from, to + 1);
+        printf("  ");
+        print_image(from, (size_t)(to - from), to + 1);
     }
 }
 
@@ -48,8 +57,8 @@ static int route(struct desk *d, const char *code)
     }
     if (*reply == 'B')
         print_block(code, reply);
-    else /* "ok", a tab, the image and byte 10 */
-        printf("%s -> %s", code, reply + strlen("ok\t"));
+    else /* "ok", the image and the place, separated by tabs, and byte 10 */
+        print_image(code, strlen(code), reply + strlen("ok\t"));
     return EXIT_SUCCESS;
 }
 

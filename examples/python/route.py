@@ -37,7 +37,7 @@ REASONS = [
     "the station has no such right on the slot",
 ]
 
-LONGEST_REPLY = 4618  # DESK_LONGEST_REPLY of include/desk.h
+LONGEST_REPLY = 5127  # DESK_LONGEST_REPLY of include/desk.h
 
 
 class Block(ctypes.Structure):
@@ -106,14 +106,15 @@ def say(library, desk, line):
 
 
 def route(library, desk, code):
-    """Prints the image of a code, or where its parts go if it is too short."""
+    """Prints the image of a code and which pair of the plan sent it there, or so for its parts if it is too short."""
     *parts, last = [line.split("\t") for line in say(library, desk, f"W\tA\t{code}").splitlines()]
     if not parts:
-        print(f"{code} -> {last[1]}")
+        _, image, place = last
+        print(f"{code} -> {image}, pair {place}")
         return
     print(f"{code}, part by part:")
-    for _, source, target in parts:
-        print(f"  {source} -> {target}")
+    for _, source, target, place in parts:
+        print(f"  {source} -> {target}, pair {place}")
 
 
 def main(path, codes):

@@ -74,7 +74,7 @@ struct Written {
 }
 
 /// DESK_LONGEST_REPLY.
-const LONGEST_REPLY: usize = 4618;
+const LONGEST_REPLY: usize = 5127;
 
 extern "C" {
     fn desk_fresh() -> Desk;
@@ -109,31 +109,52 @@ impl Desk {
 
     fn route(&mut self, code: &str) -> Result<Routed, u8> {
         let reply = self.line(&format!("W\tA\t{code}"))?;
-        if let Some(image) = reply.strip_prefix("ok\t") {
-            return Ok(Routed::Image(image.trim_end().to_string()));
+        let lines = reply.lines().map(|line| line.split('\t').collect());
+        let lines: Vec<Vec<&str>> = lines.collect();
+        if let [line] = &lines[..] {
+            // "ok", the image and the place
+            return Ok(Routed::Image(Image::new(code, line[1], line[2])));
         }
-        let rows = reply.lines().filter_map(|line| line.strip_prefix("B\t"));
-        let rows = rows.filter_map(|row| row.split_once('\t'));
-        let part = |(from, to): (&str, &str)| (from.to_string(), to.to_string());
-        Ok(Routed::Block(rows.map(part).collect()))
+        // "B", a from-word, a to-word and a place, and last of all "ok" and how many
+        let parts = lines.iter().filter(|line| line[0] == "B");
+        let parts = parts.map(|line| Image::new(line[1], line[2], line[3]));
+        Ok(Routed::Block(parts.collect()))
+    }
+}
+
+/// Where a code or word goes, and which pair of the plan sends it there.
+struct Image {
+    code: String,
+    image: String,
+    place: String,
+}
+
+impl Image {
+    fn new(code: &str, image: &str, place: &str) -> Image {
+        let [code, image, place] = [code, image, place].map(String::from);
+        Image { code, image, place }
+    }
+
+    fn text(&self) -> String {
+        format!("{} -> {}, pair {}", self.code, self.image, self.place)
     }
 }
 
 /// Where the plan sends a code: to its image, or, where it is too short, each
 /// from-word that it begins to a to-word.
 enum Routed {
-    Image(String),
-    Block(Vec<(String, String)>),
+    Image(Image),
+    Block(Vec<Image>),
 }
 
 impl Routed {
     fn print(&self, code: &str) {
         match self {
-            Routed::Image(image) => println!("{code} -> {image}"),
+            Routed::Image(image) => println!("{}", image.text()),
             Routed::Block(parts) => {
                 println!("{code}, part by part:");
-                for (from, to) in parts {
-                    println!("  {from} -> {to}");
+                for part in parts {
+                    println!("  {}", part.text());
                 }
             }
         }
