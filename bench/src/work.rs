@@ -8,7 +8,7 @@ use library::packed::{plan_value, value};
 use library::random::bases::{even_basis, splits_within};
 use library::random::codes::{code, Kind};
 use library::random::{plans, Rng};
-use library::{Calls, Compared, Kept, Made, Plan, Verdict, Written};
+use library::{Calls, Compared, Kept, Made, Matched, Plan, Routed, Verdict, Written};
 use reference::Shape;
 
 /// The shape of all plans that are measured: that of binary trees.
@@ -42,7 +42,8 @@ pub enum Answer {
     IsPlan(bool),
     Made(Box<Made>),
     Compared(Compared),
-    Unmatched(usize),
+    Unmatched(Matched),
+    Routed(Routed, Vec<u8>),
     Written(Written, Vec<u8>),
 }
 
@@ -59,7 +60,7 @@ impl Task {
             Task::Power(plan, k) => Answer::Made(Box::new(calls.power(plan, *k))),
             Task::Same(a, b) => Answer::Compared(calls.same(a, b)),
             Task::Unmatched(plan, code) => Answer::Unmatched(calls.unmatched(plan, code)),
-            Task::Route(plan, code) => Answer::Written(calls.route(plan, code, &mut out), out),
+            Task::Route(plan, code) => Answer::Routed(calls.route(plan, code, &mut out), out),
             Task::List(plan) => Answer::Written(calls.list(plan, b'A', &mut out), out),
         }
     }

@@ -3,7 +3,7 @@
 
 use bench::arrays::Arrays;
 use library::checks::{bytes, drafts, every_table, laws, listings};
-use library::checks::{paper, powers, products, routes, tables};
+use library::checks::{paper, places, powers, products, routes, tables};
 
 #[test]
 fn cases_of_the_paper() {
@@ -50,6 +50,9 @@ fn codes_and_buffers() {
     routes::of_beginnings(&Arrays);
     routes::of_damaged(&Arrays);
     routes::of_bytes(&Arrays);
+    places::of_every_place(&Arrays);
+    places::of_no_match(&Arrays);
+    places::of_no_route(&Arrays);
     listings::of_plans(&Arrays);
     listings::of_slots(&Arrays);
 }

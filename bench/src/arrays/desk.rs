@@ -263,16 +263,16 @@ impl Desk {
         if !words::is_code(shape(plan), code) {
             return no(WRONG_CODE);
         }
-        let Some(place) = matching(plan, code) else {
+        let Some(index) = matching(plan, code) else {
             write_block(plan, code, out);
             return Ok(());
         };
         let mut image = [0; 16];
-        let length = words::write(plan.to[place], &mut image);
+        let length = words::write(plan.to[index], &mut image);
         out.extend_from_slice(b"ok\t");
         out.extend_from_slice(&image[..length]);
-        out.extend_from_slice(&code[digits(plan.from[place]) as usize..]);
-        out.push(b'\n');
+        out.extend_from_slice(&code[digits(plan.from[index]) as usize..]);
+        write_place(index + 1, out);
         Ok(())
     }
 
@@ -348,15 +348,31 @@ fn shape(plan: &Plan) -> Shape {
     }
 }
 
-/// The pairs whose from-words extend the code, a line each, and how many.
+/// The pairs whose from-words extend the code, a line with its place each, and how
+/// many.
 fn write_block(plan: &Plan, code: &[u8], out: &mut Vec<u8>) {
-    let places = extending(plan, code);
-    for place in places.clone() {
+    let indices = extending(plan, code);
+    for index in indices.clone() {
         let mut row = [0; ROW_BYTES];
-        let length = words::write_row(b'B', plan.from[place], plan.to[place], &mut row);
-        out.extend_from_slice(&row[..length]);
+        let length = words::write_row(b'B', plan.from[index], plan.to[index], &mut row);
+        // the row without its byte 10
+        out.extend_from_slice(&row[..length - 1]);
+        write_place(index + 1, out);
     }
-    writeln!(out, "ok\t{}", places.len()).expect("a vector takes all");
+    writeln!(out, "ok\t{}", indices.len()).expect("a vector takes all");
+}
+
+/// A tab, a place from 1 to 128 and byte 10: the end of a line that names a pair.
+fn write_place(place: usize, out: &mut Vec<u8>) {
+    let digit = |value: usize| b'0' + (value % 10) as u8;
+    out.push(b'\t');
+    if place > 99 {
+        out.push(digit(place / 100));
+    }
+    if place > 9 {
+        out.push(digit(place / 10));
+    }
+    out.extend([digit(place), b'\n']);
 }
 
 fn packed(word: &[u8]) -> u64 {

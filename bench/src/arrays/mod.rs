@@ -11,7 +11,7 @@ mod words;
 
 use std::ops::Range;
 
-use library::{Calls, Compared, Kept, Made, Plan, Verdict, Written, PLACES};
+use library::{Calls, Compared, Kept, Made, Matched, Plan, Routed, Verdict, Written, PLACES};
 
 use columns::{draft, plan, Column};
 use table::{product, Table};
@@ -90,32 +90,34 @@ impl Calls for Arrays {
         Compared::plans(first == second)
     }
 
-    fn unmatched(&self, value: &Plan, code: &[u8]) -> usize {
+    fn unmatched(&self, value: &Plan, code: &[u8]) -> Matched {
         let matched = plan(value)
             .filter(|shape| words::is_code(*shape, code))
-            .and_then(|_| matching(value, code))
-            .map_or(0, |place| digits(value.from[place]) as usize);
-        code.len() - matched
+            .and_then(|_| matching(value, code));
+        matched.map_or(Matched::nothing(code.len()), |index| Matched {
+            tail: code.len() - digits(value.from[index]) as usize,
+            place: index + 1,
+        })
     }
 
-    fn route(&self, value: &Plan, code: &[u8], out: &mut [u8]) -> Written {
+    fn route(&self, value: &Plan, code: &[u8], out: &mut [u8]) -> Routed {
         let Some(shape) = plan(value) else {
-            return Written::refused(NO_PLAN);
+            return Routed::refused(NO_PLAN);
         };
         if !words::is_code(shape, code) {
-            return Written::refused(WRONG_CODE);
+            return Routed::refused(WRONG_CODE);
         }
-        let Some(place) = matching(value, code) else {
-            return Written::refused(SHORT_CODE);
+        let Some(index) = matching(value, code) else {
+            return Routed::refused(SHORT_CODE);
         };
-        let tail = &code[digits(value.from[place]) as usize..];
-        let length = digits(value.to[place]) as usize + tail.len();
+        let tail = &code[digits(value.from[index]) as usize..];
+        let length = digits(value.to[index]) as usize + tail.len();
         let Some(out) = out.get_mut(..length) else {
-            return Written::refused(SHORT_BUFFER);
+            return Routed::refused(SHORT_BUFFER);
         };
-        let image = words::write(value.to[place], out);
+        let image = words::write(value.to[index], out);
         out[image..].copy_from_slice(tail);
-        Written::bytes(length)
+        Routed::image(length, index + 1)
     }
 
     fn list(&self, value: &Plan, slot: u8, out: &mut [u8]) -> Written {
@@ -194,17 +196,17 @@ fn power(shape: Shape, base: &Plan, times: u32) -> Option<Plan> {
     Some(power)
 }
 
-/// The place of the from-word that begins the code, if one does: it is the last
+/// The index of the from-word that begins the code, if one does: it is the last
 /// one not behind the first 16 digits of the code.
 fn matching(value: &Plan, code: &[u8]) -> Option<usize> {
     let start = words::beginning(code);
     let from = &value.from[..value.pairs];
     let behind = from.partition_point(|word| aligned(*word) <= start);
-    let place = behind.checked_sub(1)?;
-    begins(aligned(from[place]), start).then_some(place)
+    let index = behind.checked_sub(1)?;
+    begins(aligned(from[index]), start).then_some(index)
 }
 
-/// The places of the from-words that a code begins, where none begins the code:
+/// The indices of the from-words that a code begins, where none begins the code:
 /// they stand together, behind all words that are before the code.
 fn extending(value: &Plan, code: &[u8]) -> Range<usize> {
     let start = words::beginning(code);
