@@ -113,7 +113,7 @@ fn same<T: PartialEq + std::fmt::Debug>(ask: Ask<T>) -> T {
 
 /// A call that writes, with a buffer of a length by chance: one that fits, one
 /// that is too short, or any other.
-fn written(chance: usize, ask: buffers::Ask) {
+fn written<A: buffers::Answer>(chance: usize, ask: buffers::Ask<A>) {
     let output = buffers::output_length(ask);
     let lengths = buffers::lengths(output);
     let length = match chance % 8 {
