@@ -14,7 +14,8 @@ use crate::calls::Calls;
 use crate::random::Rng;
 use crate::values::{Desk, LONGEST_REPLY};
 
-/// Every from-word of full plans of some shapes, and every front of one.
+/// Every from-word and every front of full plans with one belt or two, and of the
+/// others some from-words and the belts.
 pub fn of_full_plans(calls: &dyn Calls) {
     let mut rng = Rng::new(901);
     let mut both = SideBySide::new(calls, &Desk::FRESH);
@@ -30,7 +31,6 @@ pub fn of_full_plans(calls: &dyn Calls) {
         let mut desk = Desk::FRESH;
         desk.put(5, &plan_value(&plan));
         both.start(&desk);
-        // of the narrow shapes alone, which have the most fronts, and of (2,1) twice
         let every = shape.roots < 3;
         let words = plan.pairs().keys();
         for (place, word) in (1..).zip(words) {
