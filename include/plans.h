@@ -9,8 +9,8 @@
  *
  * Calls keep nothing: plans go in and out by value, any number of threads may call at once, and no call allocates, prints or ends
  * the program. No call asks anything of the plan that it is handed: any bytes may stand there, and what is no plan is refused with
- * REFUSED_VALUE (15) before anything else is looked at. Every answer begins with a number, 0 for a job done and else that of the
- * first refusal, in the order given at each call, that holds.
+ * REFUSED_VALUE (15) before anything else is looked at. Every answer but those of plans_is_plan and plans_unmatched, which refuse
+ * nothing, begins with a number, 0 for a job done and else that of the first refusal, in the order given at each call, that holds.
  *
  * Bytes are lent as a pointer and a length. The pointer isn't null, even where the length is 0; it points to that many bytes, which
  * stay as they are during the call; and what is written doesn't lie over what is read. After a refusal a lent buffer holds what it
