@@ -2,10 +2,10 @@
  * The sort plan desk for C and C++: link with libdesk_c.a (`rt staticlib desk_c`). It needs memcpy and the like, nothing else. A
  * program may link libplans_c.a beside it and use plans.h too: block i of a desk and its words are a `struct plan`, part by part.
  *
- * A desk has eight slots 'A' to 'H' for plans (plans.h says what a plan is), at most one open plan, and for each of eight stations,
- * 0 to 7, a count of the changes done while that station was named and its rights on the slots. It is a value of the caller's: the library keeps nothing,
- * allocates nothing and prints nothing. Calls on different desks may run at the same time, calls on one desk may not. A desk may be
- * copied and stored like any other struct. A call needs some 140 KB of stack.
+ * A desk has eight slots 'A' to 'H' for plans (plans.h says what a plan is), at most one open plan, the sum of the pairs in its slots,
+ * and for each of eight stations, 0 to 7, a count of the changes done while that station was named and its rights on the slots. It is a
+ * value of the caller's: the library keeps nothing, allocates nothing and prints nothing. Calls on different desks may run at the same
+ * time, calls on one desk may not. A desk may be copied and stored like any other struct. A call needs some 140 KB of stack.
  *
  * desk_line takes the records that the desk program reads, one line a call, and desk_do those that have no text, by number:
  *
@@ -18,9 +18,10 @@
  *     X  makes a plan of n ways and r belts from s splits and a seed, and keeps it in a slot
  *     Z  names a station for the records after it; before the first Z it is station 0
  *     G  gives a station from 1 to 7 a right on a slot: 0 nothing, 1 read, 2 read and write; station 0 alone may
+ *     H  the number of pairs in all slots, which is kept and not added up afresh; station 0 alone may ask
  *
  * Every station starts with the right 2 on every slot, and station 0 always has it. The named station needs 1 on a slot that is read,
- * and 2 on the slot of P, X or C and on a target; G needs none. U lists the readable slots alone.
+ * and 2 on the slot of P, X or C and on a target; G and H need none. U lists the readable slots alone.
  *
  * W's reply to a code that a from-word begins is "ok", the image and the place of that pair in the listing, counted from 1: the place-th
  * M line of L is the pair's. A block is W's reply to any other code: for each pair whose from-word extends the code, in the order of
@@ -41,6 +42,7 @@
  *     P: 8, 20, 3      M: 4, 5      E: 6 and 7 of the from column, 6 and 7 of the to column, 16      F: 8, 20, 9, 10, 11, 16
  *     I: 8, 20, 9, 16  C: 8, 20, 9, 16  K: 8, 20, 12, 9, 11, 16    S: 8, 20, 9, 10    L: 8, 20, 9    W: 8, 20, 9, 4    T, U: no more
  *     X: 8, 20, 3, 17, 5, 4, 16, of which 5 and 4 are those of the pairs before they are reduced      Z: 18      G: 18, 8, 19
+ *     H: 19
  *
  * and last of all, in desk_line, 14.
  */
@@ -83,13 +85,14 @@ struct desk_block {
     size_t pairs;  /* 1 to 128, of the open plan 0 to 128 */
 };
 
-/* The named station, the changes of each station, and the rights of stations 1 to 7. A station that has DESK_MOST_CHANGES is refused
- * further ones with 16; the others are not. The right of station s, from 1 on, on slot 'A' + i is the two bits
- * `rights[s - 1] >> 2 * i & 3`, and never 3. */
+/* The named station, the changes of each station, the rights of stations 1 to 7, and the pairs in all slots. A station that has
+ * DESK_MOST_CHANGES is refused further ones with 16; the others are not. The right of station s, from 1 on, on slot 'A' + i is the two
+ * bits `rights[s - 1] >> 2 * i & 3`, and never 3. The open plan's pairs are not in the sum. */
 struct desk_control {
     uint32_t station;                   /* 0 to 7 */
     uint32_t changes[DESK_STATIONS];    /* 0 to DESK_MOST_CHANGES each; E, F, I, K, X and C raise the named station's by one */
     uint16_t rights[DESK_STATIONS - 1]; /* of stations 1 to 7, two bits for each slot; all are 2 at first, which is 0xAAAA */
+    uint16_t pairs;                     /* the sum of the pairs of blocks 0 to 7, 0 to 1024; with any other the struct is no desk */
 };
 
 /*
@@ -133,7 +136,7 @@ struct desk_done {
     uint32_t value;
 };
 
-/* A desk with empty slots and no open plan, station 0 named, all counts 0 and all rights 2. */
+/* A desk with empty slots and no open plan, station 0 named, all counts 0, all rights 2 and no pairs. */
 struct desk desk_fresh(void);
 
 /* The size of the struct as the library has it. Compare it with sizeof (struct desk) where the two might have been compiled apart. */
@@ -169,6 +172,7 @@ struct desk_written desk_line(struct desk *d, const uint8_t *line, size_t line_l
  *     'Z'  a = station (a number, not a digit)               value 0
  *     'G'  a = station (a number), b slot, c = right         value 0
  *          (a number)
+ *     'H'                                                    value: the pairs in all slots
  *
  * Every other letter is refused with 1, those of records with text or a listing (M, W, L, U) too, and so is X with more splits than 99,
  * which no line has digits for, and G with a right above 2: a job that is done does what a line does. No 14 here: nothing is written.

@@ -1,5 +1,6 @@
 -- Two desks that are alike to the station that is named answer its records alike (change request E6): a record reads a slot only behind the
--- right on it, U goes by what is seen, T and 16 by the station's own count, and G by the station alone.
+-- right on it, U goes by what is seen, T and 16 by the station's own count, G by the
+-- station alone, and H by the sum, for station 0, which sees all that is summed.
 use Prim.Native.Nat.{ℕ, _+_, _≤_, _<_}
 use native.Mathlib.Omega.{arith}
 use mathlib.Core.Path.{_≡_, refl, sym, _∙_, ap, ap₂, subst}
@@ -7,7 +8,7 @@ use mathlib.Core.Bool.{Bool, true, false, _&&_, _||_, not}
 use mathlib.Core.List.{List, [], _∷_, List·Memᴰ, List·Memᴰ·head, List·Memᴰ·tail}
 use mathlib.Core.Option.{Option, none, some, Option·none-ne-some}
 use lib.Dec.{T as So, leb, leb→le, le→leb, eqb}
-use borrow.Author.Tests.{not-false}
+use borrow.Author.Tests.{not-false, eqb-true}
 use lib.ListN.{length}
 use Rattle.higman.specs.Words.{given, Shape}
 use Rattle.higman.specs.Answers.{verdict, followed, inverted, powered, same, routed}
@@ -23,7 +24,7 @@ use Rattle.higman.proofs.Tests.{T-of, all-at, all-head, all-tail}
 use Rattle.desk.specs.Limits.{maxChanges}
 use Rattle.desk.specs.Desk.{Draft, Desk, stationOf, countOf, ownRight, readable, held, seen, changed, withDraft, withRight}
 use Rattle.desk.specs.Desk.{withPair, isStation}
-use Rattle.desk.specs.Records.{Record, P, M, E, F, I, K, S, W, L, C, T, U, X, Z, G, Use, reads, target, SlotUse, neededRight}
+use Rattle.desk.specs.Records.{Record, P, M, E, F, I, K, S, W, L, C, T, U, X, Z, G, H, Use, reads, target, SlotUse, neededRight}
 use Rattle.desk.specs.Records.{needsOpen}
 use Rattle.desk.specs.Records.{stationsNamed, slotsNamed, isChange, kind}
 use Rattle.desk.specs.Replies.{Reply, silent, ok, okNumber, lists, surveys, Outcome, refuse, pass, _>>=_, _when_, Effect, openAmiss}
@@ -42,6 +43,7 @@ pub record Alike (d c : Desk) : Type 0 where
   pub rights : (i : ℕ) → i < slotCount → ownRight d i ≡ ownRight c i
   pub reads : (i : ℕ) → i < slotCount → So (readable d i) → held d i ≡ held c i
   pub sees : seen d ≡ seen c
+  pub sums : stationOf d ≡ 0 → d .control .pairs ≡ c .control .pairs
   -- each counts a change of the named station
   pub counts : (i : ℕ) (x : Option Plan) → countOf (changed d i x) ≡ countOf d + 1
   pub counts′ : (i : ℕ) (x : Option Plan) → countOf (changed c i x) ≡ countOf c + 1
@@ -69,9 +71,9 @@ test-fails {Q} n b b′ e k = subst (λ x. Agree (λ _ _. Q) (n when b) (n when 
     go true k = refuses
     go false k = passes (k refl)
 
-agree-then : {A B C D : Type 0} {H : A → B → Type 0} {Q : C → D → Type 0} {o : Outcome A} {p : Outcome B} {f : A → Outcome C} {g : B
+agree-then : {A B C D : Type 0} {R : A → B → Type 0} {Q : C → D → Type 0} {o : Outcome A} {p : Outcome B} {f : A → Outcome C} {g : B
     → Outcome D}
-    → Agree H o p → ((a : A) (b : B) → H a b → Agree Q (f a) (g b)) → Agree Q (o >>= f) (p >>= g)
+    → Agree R o p → ((a : A) (b : B) → R a b → Agree Q (f a) (g b)) → Agree Q (o >>= f) (p >>= g)
 unfolding _>>=_
 agree-then refuses k = refuses
 agree-then (passes {a} {b} h) k = k a b h
@@ -186,6 +188,10 @@ module _ (d c : Desk) (h : Alike d c) where
   job-agrees (G s a x) e t =
       test-then stationRefused (not (eqb (stationOf d) 0) || eqb s 0) _ (ap (λ k. not (eqb k 0) || eqb s 0) (h .station))
       (λ _ _ _. passes (record { reply = refl; draft = h .draft; count = h .count; station = h .station }))
+  job-agrees H e t =
+      test-then stationRefused (not (eqb (stationOf d) 0)) _ (ap (λ k. not (eqb k 0)) (h .station)) (λ _ _ q.
+      let first = eqb-true (stationOf d) 0 (not-false _ q) in
+      passes (same-asked (okNumber (d .control .pairs)) _ (ap Reply.okNumber (h .sums first))))
 
   amiss-same : (r : Record) → openAmiss d r ≡ openAmiss c r
   amiss-same r = ap (λ (x : Option Draft). elim (needsOpen r) [ true ↦ not (given x) | false ↦ given x ]) (h .draft)

@@ -20,7 +20,7 @@ use Rattle.higman.specs.Refusals.{rootUncovered, slotEmpty, shapesDiffer, limit
 use Rattle.higman.specs.Refusals.{stationRefused, rightMissing, Letter}
 use Rattle.higman.proofs.Tests.{so, clash}
 use Rattle.desk.specs.Desk.{Desk, stationOf, ownRight, IsDesk, isStation}
-use Rattle.desk.specs.Records.{Record, P, M, E, F, I, K, S, W, L, C, T as Tᴿ, U, X, Z, G, stationsNamed, slotsNamed}
+use Rattle.desk.specs.Records.{Record, P, M, E, F, I, K, S, W, L, C, T as Tᴿ, U, X, Z, G, H, stationsNamed, slotsNamed}
 use Rattle.desk.specs.Records.{neededRight, isChange, kind}
 use Rattle.higman.specs.Listing.{slotNumber}
 use Rattle.higman.specs.Text.{wordOf}
@@ -74,6 +74,7 @@ ownConditions d (X a n r s seed) =
     []
 ownConditions d (Z s) = []
 ownConditions d (G s a x) = (stationRefused if not (eqb (stationOf d) 0) || eqb s 0) ∷ []
+ownConditions d H = (stationRefused if not (eqb (stationOf d) 0)) ∷ []
 
 own-says : (d : Desk) → IsDesk d → (r : Record) → openAmiss d r ≡ false → Says (job d r) (ownConditions d r)
 unfolding job ownConditions kind
@@ -98,6 +99,7 @@ own-says d D (X a n r s seed) o =
     when-then (not (shapeInRange (record { arity = n; roots = r }))) (λ _ _. exercise-then (record { arity = n; roots = r }) s seed (λ p. done))
 own-says d D (Z s) o = done
 own-says d D (G s a x) o = when-then (not (eqb (stationOf d) 0) || eqb s 0) (λ _ _. done)
+own-says d D H o = when-then (not (eqb (stationOf d) 0)) (λ _ _. done)
 
 -- the order of all operations
 abbrev shared : Desk → Record → List Condition
@@ -172,6 +174,7 @@ shared-table d (C a) = refl
 shared-table d Tᴿ = refl
 shared-table d U = refl
 shared-table d (X a n r s seed) = refl
+shared-table d H = refl
 shared-table d (Z s) = by (isStation s)
   where
     known : Bool → Bool

@@ -9,15 +9,16 @@ use mathlib.Core.List.{List, [], _∷_}
 use mathlib.Core.Option.{Option, none}
 use borrow.Author.Tests.{eqb-true, eqb-false}
 use lib.Dec.{eqb}
+use lib.ListN.{getD}
 use Rattle.higman.specs.Limits.{Plan}
 use Rattle.higman.specs.Text.{Bytes}
 use Rattle.higman.specs.Refusals.{Letter}
 use Rattle.higman.specs.Words.{given}
 use Rattle.higman.proofs.Tests.{all-head, all-cons}
 use Rattle.desk.specs.Limits.{stationCount}
-use Rattle.desk.specs.Desk.{Desk, freshDesk, stationOf, changesOf, countOf, IsDesk, counted, changed, withDraft, dropped, atStation}
+use Rattle.desk.specs.Desk.{Desk, freshDesk, stationOf, changesOf, countOf, IsDesk, raisedCounts, changed, withDraft, dropped, atStation}
 use Rattle.desk.specs.Desk.{isStation, withRight}
-use Rattle.desk.specs.Records.{Record, P, M, E, F, I, K, S, W, L, C, T, U, X, Z, stationsNamed, isChange, kind, Right, G}
+use Rattle.desk.specs.Records.{Record, P, M, E, F, I, K, S, W, L, C, T, U, X, Z, stationsNamed, isChange, kind, Right, G, H}
 use Rattle.desk.specs.Replies.{ok, okNumber, Outcome, refuse, pass, _>>=_, Effect, bit, job, operation, recordOf, lineOperation}
 use Rattle.desk.specs.Replies.{settle, respondLine, run, deskAfter}
 use Rattle.desk.specs.Conditions.{conditions, firstOf, refusalOf}
@@ -40,9 +41,9 @@ module _ (d : Desk) (D : IsDesk d) (s : ℕ) where
   unfolding changed
   changed-adds i x = by (eqb (stationOf d) s) refl
     where
-      by : (b : Bool) → eqb (stationOf d) s ≡ b → changesOf (counted (d .control)) s ≡ bit b + made d
+      by : (b : Bool) → eqb (stationOf d) s ≡ b → getD (raisedCounts (d .control)) s 0 ≡ bit b + made d
       by true e =
-          subst (λ k. changesOf (counted (d .control)) k ≡ 1 + changesOf (d .control) k) (eqb-true (stationOf d) s e)
+          subst (λ k. getD (raisedCounts (d .control)) k 0 ≡ 1 + changesOf (d .control) k) (eqb-true (stationOf d) s e)
           (omega (arith, counted-own (d .control) (D .control)))
       by false e = omega (arith, counted-other (d .control) s (eqb-false (stationOf d) s e))
 
@@ -66,6 +67,7 @@ module _ (d : Desk) (D : IsDesk d) (s : ℕ) where
   job-adds (X a n r k seed) = any-then _ (λ _. any-then _ (λ _. passes (changed-adds _ _)))
   job-adds (Z k) = passes none-added
   job-adds (G k a x) = any-then _ (λ _. passes none-added)
+  job-adds H = any-then _ (λ _. passes none-added)
 
   pub line-adds : (l : Bytes) → made (respondLine d l .0) ≡ bit (madeChange d l && eqb (stationOf d) s) + made d
   unfolding respondLine lineOperation _>>=_ dropped
@@ -133,6 +135,7 @@ names-none U h k = refl
 names-none (X a n r s seed) h k = refl
 names-none (Z s) h k = absurd (h s refl)
 names-none (G s a x) h k = absurd (k s a x refl)
+names-none H h k = refl
 
 name-steps : (d : Desk) (s : ℕ) → Passes (λ e. (s < stationCount) × (e ≡ (atStation d s, ok))) (operation d (Z s))
 unfolding job kind
@@ -155,6 +158,7 @@ stay-steps d U h = passes refl
 stay-steps d (X a n r s seed) h = any-then _ (λ _. any-then _ (λ _. passes refl))
 stay-steps d (Z s) h = absurd (h s refl)
 stay-steps d (G s a x) h = any-then _ (λ _. passes refl)
+stay-steps d H h = any-then _ (λ _. passes refl)
 
 refused-stays : (d : Desk) (l : Bytes) (n : ℕ) (c : Option Letter) → lineOperation d l ≡ refuse n c
     → respondLine d l .0 .control ≡ d .control
@@ -179,6 +183,7 @@ conditions-agree d c h U = rw (h .draft) refl
 conditions-agree d c h (X a n r s seed) = rw (h .draft, h .own, h .station, h .rights) refl
 conditions-agree d c h (Z s) = rw (h .draft) refl
 conditions-agree d c h (G s a x) = rw (h .draft, h .station) refl
+conditions-agree d c h H = rw (h .draft, h .station) refl
 
 refused-alike : (d c : Desk) → IsDesk d → IsDesk c → OwnCountAgrees d c → (r : Record)
     → refusalOf (operation d r) ≡ refusalOf (operation c r)

@@ -30,7 +30,7 @@ use Rattle.desk.specs.Limits.{maxLine}
 use Rattle.desk.specs.Desk.{Draft, Desk, held, stationOf}
 use Rattle.desk.specs.Records.{Record, P, M, E, F, I, K, S, W, L, C, T as Tᴿ, U, X, Z, parted, parse, stationsNamed, slotsNamed}
 use Rattle.desk.specs.Records.{isChange}
-use Rattle.desk.specs.Records.{kind, G}
+use Rattle.desk.specs.Records.{kind, G, H}
 use Rattle.desk.specs.Replies.{Outcome, refuse, pass, _>>=_, Effect, openAmiss, noStation, outside, atLimit, openPlan, planIn}
 use Rattle.desk.specs.Replies.{ofVerdict}
 use Rattle.desk.specs.Replies.{ofAnswer, ofComparison, ofRoute, settle, job}
@@ -151,6 +151,7 @@ job-numbered d (X a n r s seed) =
     (λ _. numbered-then (numbered-answer (exercise (record { arity = n; roots = r }) s seed)) (λ _. no-refusal))
 job-numbered d (Z s) = no-refusal
 job-numbered d (G s a x) = numbered-then (numbered-test stationRefused (not (eqb (stationOf d) 0) || eqb s 0) tt) (λ _. no-refusal)
+job-numbered d H = numbered-then (numbered-test stationRefused (not (eqb (stationOf d) 0)) tt) (λ _. no-refusal)
 
 numbered-admission : (d : Desk) (r : Record) → Numbered (admission d r)
 unfolding admission among operationNumbers
@@ -330,6 +331,7 @@ one-open d o U e h = rw e
 one-open d o (X a n r s seed) e h = rw e
 one-open d o (Z s) e h = rw e
 one-open d o (G s a x) e h = rw e
+one-open d o H e h = rw e
 
 -- Demand 1.
 pub demand1 : Demand1

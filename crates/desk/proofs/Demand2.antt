@@ -44,6 +44,7 @@ use Rattle.desk.proofs.Replies.{replies-exact, slots-used, desk-parts}
 use Rattle.desk.proofs.Counts.{counts-of-stations}
 use Rattle.desk.proofs.Rights.{rights-exact}
 use Rattle.desk.proofs.Apart.{stations-apart}
+use Rattle.desk.proofs.Pairs.{pairs-held}
 use Rattle.desk.proofs.Surveys.{survey-exact}
 use Rattle.desk.proofs.Exercises.{answer-granted, kept-there, exercises, exercises-fixed}
 
@@ -327,6 +328,7 @@ demand2 =
       stations = counts-of-stations;
       rights = rights-exact;
       stations-apart = stations-apart;
+      pairs-held = pairs-held;
       desk-parts = desk-parts;
       survey = survey-exact;
       typed-in = typed-in;

@@ -16,7 +16,7 @@ use Rattle.higman.specs.Bases.{all}
 use Rattle.higman.proofs.Tests.{and-left, and-right, and-intro, all-head, all-tail, all-cons}
 use Rattle.desk.specs.Limits.{stationCount, maxRight, maxChanges}
 use Rattle.desk.specs.Desk.{Draft, Rights, Control, Desk, rightOf, IsDraft, IsRights, IsControl, IsDesk, allHeld, isDraft}
-use Rattle.desk.specs.Desk.{isStation, areSlotRights, areRights, isControl, isDesk}
+use Rattle.desk.specs.Desk.{isStation, areSlotRights, areRights, isControl, isDesk, pairsOfSlots}
 use Rattle.desk.specs.Theorems.{DeskTest}
 
 held-of : (l : List (Option Plan)) → T (allHeld l) → (i : ℕ) (p : Plan) → getD l i none ≡ some p → Kept p
@@ -164,24 +164,34 @@ module _ (d : Desk) where
   abbrev drafted : Bool
   drafted = filled && isDraft (d .draft)
 
+  abbrev controlled : Bool
+  controlled = drafted && isControl (d .control)
+
+  abbrev summed : Bool
+  summed = eqb (d .control .pairs) (pairsOfSlots (d .slots))
+
   desk-of : T (isDesk d) → IsDesk d
   unfolding isDesk
   desk-of h =
-      let front = and-left drafted (isControl (d .control)) h in
+      let back = and-left controlled summed h in
+      let front = and-left drafted (isControl (d .control)) back in
       let slots = and-left filled (isDraft (d .draft)) front in
       record {
         eight = eqb→eq (length (d .slots)) slotCount (and-left eight (allHeld (d .slots)) slots);
         kept = held-of (d .slots) (and-right eight (allHeld (d .slots)) slots);
         drafted = draft-of (d .draft) (and-right filled (isDraft (d .draft)) front);
-        control = control-test (d .control) .0 (and-right drafted (isControl (d .control)) h);
+        control = control-test (d .control) .0 (and-right drafted (isControl (d .control)) back);
+        summed = eqb→eq (d .control .pairs) (pairsOfSlots (d .slots)) (and-right controlled summed h);
       }
 
   test-desk : IsDesk d → T (isDesk d)
   unfolding isDesk
   test-desk h =
-      and-intro drafted (isControl (d .control))
+      and-intro controlled summed
+      (and-intro drafted (isControl (d .control))
       (and-intro filled (isDraft (d .draft)) (and-intro eight (allHeld (d .slots)) (subst (λ n. T (eqb (length (d .slots)) n)) (h .eight) (eqb-refl (length (d .slots)))) (test-held (d .slots) (h .kept))) (test-draft (d .draft) (h .drafted)))
-      (control-test (d .control) .1 (h .control))
+      (control-test (d .control) .1 (h .control)))
+      (subst (λ n. T (eqb (d .control .pairs) n)) (h .summed) (eqb-refl (d .control .pairs)))
 
 pub desk-test : DeskTest
 desk-test d = (desk-of d, test-desk d)

@@ -18,7 +18,7 @@ use Rattle.higman.specs.Listing.{slotByte, joinLines}
 use Rattle.higman.specs.Places.{Placed}
 use Rattle.higman.proofs.Tests.{passes, and-left, and-right, and-intro, all-cons}
 use Rattle.desk.specs.Limits.{maxNumeral, maxSplitsNumeral, maxSeedNumeral}
-use Rattle.desk.specs.Records.{Record, P, M, E, F, I, K, S, W, L, C, T as Tᴿ, U, X, Z, G, Form, slotField, anyField}
+use Rattle.desk.specs.Records.{Record, P, M, E, F, I, K, S, W, L, C, T as Tᴿ, U, X, Z, G, H, Form, slotField, anyField}
 use Rattle.desk.specs.Records.{numberField, Right, noRight, mayRead, mayWrite, rightNumber, rightNumbered, rightField}
 use Rattle.desk.specs.Records.{field, noMore, Rule}
 use Rattle.desk.specs.Records.{grammar, readBy, readFields, parse, fields, parted, recordFields, recordText, noTab, hasDigits}
@@ -147,7 +147,7 @@ data OnlyRules : List Rule → Type 0 where
   _and_ : {rule : Rule} {rules : List Rule}
       → Only (λ fs. (rule .letter ∷ []) ∷ fs) (rule .reads) → OnlyRules rules → OnlyRules (rule ∷ rules)
 
--- P, M, E, F, I, K, S, W, L, C, T, U, X, Z and G
+-- P, M, E, F, I, K, S, W, L, C, T, U, X, Z, G and H
 grammar-only : OnlyRules grammar
 unfolding grammar
 grammar-only =
@@ -168,6 +168,7 @@ grammar-only =
     only-noMore _ refl (test-of-fits a n r s seed (record { ways = h; belts = k; splits = l; seeds = m }))) and
     (only-digit λ s h. only-noMore _ refl h) and
     (only-digit λ s h. only-slot λ a. only-field right-exact λ x k. only-noMore _ refl h) and
+    only-noMore _ refl tt and
     no-rule
 
 readBy-only : {rules : List Rule} → OnlyRules rules → (b : ℕ) → Only (λ fs. (b ∷ []) ∷ fs) (readBy rules b)
@@ -226,6 +227,7 @@ readFields-recordFields (X a n r s seed) h =
     )
 readFields-recordFields (Z s) h = rw (number-exact 1 .reads s h, field)
 readFields-recordFields (G s a x) h = rw (number-exact 1 .reads s h, field, right-exact .reads x tt, field)
+readFields-recordFields H h = refl
 
 -- fields without a tab that are read as a record are a line that is parsed as it
 parse-parted : (fs : List Bytes) (r : Record) → T (all noTab fs) → readFields fs ≡ some r → parse (parted fs) ≡ some r
@@ -353,6 +355,7 @@ numbers-fit (X a n r s seed) = (
 )
 numbers-fit (Z s) = digits-below 0 s
 numbers-fit (G s a x) = digits-below 0 s
+numbers-fit H = (λ _. tt, λ _. tt)
 
 well-formed-exact : WellFormedExact
 unfolding wellFormed
@@ -388,6 +391,7 @@ record-forms =
       X-text = λ a n r s seed. refl;
       Z-text = λ s. refl;
       G-text = λ s a x. grant-text s a x;
+      H-text = refl;
     }
 
 pub text-exact : TextExact

@@ -11,7 +11,7 @@ use Rattle.higman.specs.Answers.{Route, Image, TooShort, NotRouted, routed}
 use Rattle.higman.specs.Refusals.{wrongState, slotOutside, slotEmpty, countFull, stationOutside, rightMissing, Letter}
 use Rattle.higman.specs.Text.{Bytes, wordOf}
 use Rattle.desk.specs.Desk.{Draft, Desk, held, dropped, isStation}
-use Rattle.desk.specs.Records.{Record, P, M, E, F, I, K, S, W, L, C, T as Tᴿ, U, X, Z, G, stationsNamed, slotsNamed}
+use Rattle.desk.specs.Records.{Record, P, M, E, F, I, K, S, W, L, C, T as Tᴿ, U, X, Z, G, H, stationsNamed, slotsNamed}
 use Rattle.desk.specs.Records.{isChange}
 use Rattle.higman.specs.Listing.{slotNumber, isSlot}
 use Rattle.higman.specs.Words.{Word}
@@ -166,6 +166,7 @@ job-answers d U = passes tt
 job-answers d (X a n r s seed) = any-then _ (λ _. any-then _ (λ _. passes tt))
 job-answers d (Z s) = passes tt
 job-answers d (G s a x) = any-then _ (λ _. passes tt)
+job-answers d H = any-then _ (λ _. passes tt)
 
 -- only a refusal replies as one
 pub operation-answers : (d : Desk) (r : Record) → Passes Answered (operation d r)

@@ -13,9 +13,9 @@ use Rattle.higman.specs.Words.{count}
 use Rattle.higman.specs.Text.{Bytes}
 use Rattle.higman.specs.Limits.{Plan, slotCount}
 use Rattle.higman.proofs.Tests.{so}
-use Rattle.desk.specs.Limits.{stationCount}
-use Rattle.desk.specs.Desk.{Draft, Rights, Desk, stationOf, countOf, changesOf, rightOf, ownRight, readable, held, seenFrom, seen}
-use Rattle.desk.specs.Desk.{IsDesk, changed}
+use Rattle.desk.specs.Limits.{stationCount, maxRight}
+use Rattle.desk.specs.Desk.{Draft, Rights, Control, Desk, stationOf, countOf, changesOf, rightOf, ownRight, readable, held, seenFrom, seen}
+use Rattle.desk.specs.Desk.{IsDesk, changed, pairsOfSlots}
 use Rattle.desk.specs.Sights.{Sight, sightOf}
 use Rattle.desk.proofs.Given.{set-here}
 use Rattle.desk.proofs.Stays.{counted-own}
@@ -59,7 +59,8 @@ rightsAt (suc s) row = replicate s [] ++ (row ∷ [])
 unfoldable pub rebuilt : ℕ → Own → Sight → Desk
 rebuilt s o x =
     let changes = set (replicate stationCount 0) s (o .count) in
-    record { slots = x .slots; draft = o .draft; control = record { station = s; changes = changes; rights = rightsAt s (x .rights) } }
+    let control : Control = record { station = s; changes = changes; rights = rightsAt s (x .rights); pairs = pairsOfSlots (x .slots) } in
+    record { slots = x .slots; draft = o .draft; control = control }
 
 row-behind : (s : ℕ) (row : List ℕ) → getD (replicate s [] ++ (row ∷ [])) s [] ≡ row
 row-behind zero row = refl
@@ -82,6 +83,15 @@ seen-again d c k (x ∷ l) h =
     ap₂ _∷_
     (shown-twice (readable d k) x ∙ ap (λ n. shown (leb 1 n) (shown (readable d k) x)) (h k (omega arith) (omega arith)))
     (seen-again d c (suc k) l (λ i a b. h i (omega arith) (omega arith)))
+
+-- station 0 sees what every slot holds
+seen-all : (d : Desk) (k : ℕ) (l : List (Option Plan)) → ((i : ℕ) → readable d i ≡ true) → seenFrom d k l ≡ l
+seen-all d k [] h = refl
+seen-all d k (x ∷ l) h = ap₂ _∷_ (ap (λ b. shown b x) (h k)) (seen-all d (suc k) l h)
+
+first-reads : (d : Desk) → stationOf d ≡ 0 → (i : ℕ) → readable d i ≡ true
+unfolding maxRight
+first-reads d e i = ap (λ s. leb 1 (rightOf (d .control .rights) s i)) e
 
 -- what two desks show
 shown-same : (b : Bool) (x y : Option Plan) → (b ≡ true → x ≡ y) → shown b x ≡ shown b y
@@ -151,6 +161,7 @@ module _ (d : Desk) (D : IsDesk d) (l : Bytes) where
         rights = same-rights;
         reads = λ i h r. sym (seen-at d i ∙ ap (λ b. shown b (held d i)) (so (readable d i) r));
         sees = seen-again d c 0 (d .slots) (λ i _ b. same-rights i (omega (arith, D .eight)));
+        sums = λ e. D .summed ∙ ap pairsOfSlots (sym (seen-all d 0 (d .slots) (first-reads d e)));
         counts = λ i x. counted-own (d .control) (D .control);
         counts′ = λ i x. set-here (c .control .changes) s (countOf c + 1) 0
             (omega (arith, in-counts, length-set (replicate stationCount 0) s (countOf d)));

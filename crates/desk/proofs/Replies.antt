@@ -1,5 +1,6 @@
 -- What P, M, C, L, T and U do when they are not refused, which records change slots and counts, and what a change is.
 use Prim.Native.Nat.{ℕ, _+_, _<_}
+use native.Mathlib.Omega.{arith}
 use mathlib.Core.Path.{_≡_, refl, sym, _∙_, ap, subst}
 use mathlib.Core.Bool.{Bool, true, false}
 use mathlib.Core.List.{List, [], _∷_, List·Memᴰ, List·Memᴰ·head, List·Memᴰ·tail, List·Memᴰ·cases-cons, List·Memᴰ·not-nil}
@@ -15,7 +16,7 @@ use Rattle.desk.specs.Desk.{Draft, Desk, freshDesk, countOf, held, IsDes
 use Rattle.desk.specs.Desk.{withRight}
 use Rattle.desk.specs.Records.{Record, P, M, E, F, I, K, S, W, L, C, T, U, X, Z, Use, reads, target, SlotUse, reading, writing}
 use Rattle.desk.specs.Records.{mentions, kind}
-use Rattle.desk.specs.Records.{needsOpen, slotsNamed, isChange, G, mentioning}
+use Rattle.desk.specs.Records.{needsOpen, slotsNamed, isChange, G, H, mentioning}
 use Rattle.higman.specs.Listing.{slotNumber, isSlot}
 use Rattle.desk.specs.Replies.{Effect, silent, ok, okNumber, lists, surveys, isOpen, surveyed, newDraft, job, operation}
 use Rattle.desk.specs.Demands.{RepliesExact, Written, SlotsUsed, DeskParts}
@@ -75,9 +76,9 @@ find-steps : (d : Desk) → Passes (λ e. e ≡ (d, surveys (surveyed d))) (oper
 unfolding job
 find-steps d = passes-operation d U (λ _. passes refl)
 
--- slots and counts: as they were, or the count of the named station one higher
+-- slots, counts and the sum of pairs: as they were, or the count of the named station one higher
 abbrev Unchanged : Desk → Effect → Type 0
-Unchanged d e = (e .0 .slots ≡ d .slots) × (e .0 .control .changes ≡ d .control .changes)
+Unchanged d e = (e .0 .slots ≡ d .slots) × (e .0 .control .changes ≡ d .control .changes) × (e .0 .control .pairs ≡ d .control .pairs)
 
 abbrev Raised : Desk → Effect → Type 0
 Raised d e = IsDesk d → countOf (e .0) ≡ countOf d + 1
@@ -92,21 +93,22 @@ raised d i x D = counted-own (d .control) (D .control)
 
 count-of : (d : Desk) (r : Record) → Passes (Counts (isChange r) d) (job d r)
 unfolding job kind withDraft atStation withRight
-count-of d (P a n r) = any-then _ (λ _. passes (refl, refl))
-count-of d (M from to) = any-then _ (λ _. any-then _ (λ _. any-then _ (λ _. passes (refl, refl))))
+count-of d (P a n r) = any-then _ (λ _. passes (refl, refl, refl))
+count-of d (M from to) = any-then _ (λ _. any-then _ (λ _. any-then _ (λ _. passes (refl, refl, refl))))
 count-of d E = any-then _ (λ _. any-then _ (λ _. passes (raised d _ _)))
 count-of d (F a b c) = any-then _ (λ _. any-then _ (λ _. any-then _ (λ _. passes (raised d _ _))))
 count-of d (I a c) = any-then _ (λ _. any-then _ (λ _. passes (raised d _ _)))
 count-of d (K a k c) = any-then _ (λ _. any-then _ (λ _. any-then _ (λ _. passes (raised d _ _))))
-count-of d (S a b) = any-then _ (λ _. any-then _ (λ _. any-then _ (λ _. passes (refl, refl))))
-count-of d (W a code) = any-then _ (λ _. any-then _ (λ _. passes (refl, refl)))
-count-of d (L a) = any-then _ (λ _. passes (refl, refl))
+count-of d (S a b) = any-then _ (λ _. any-then _ (λ _. any-then _ (λ _. passes (refl, refl, refl))))
+count-of d (W a code) = any-then _ (λ _. any-then _ (λ _. passes (refl, refl, refl)))
+count-of d (L a) = any-then _ (λ _. passes (refl, refl, refl))
 count-of d (C a) = any-then _ (λ _. passes (raised d _ _))
-count-of d T = passes (refl, refl)
-count-of d U = passes (refl, refl)
+count-of d T = passes (refl, refl, refl)
+count-of d U = passes (refl, refl, refl)
 count-of d (X a n r s seed) = any-then _ (λ _. any-then _ (λ _. passes (raised d _ _)))
-count-of d (Z s) = passes (refl, refl)
-count-of d (G s a x) = any-then _ (λ _. passes (refl, refl))
+count-of d (Z s) = passes (refl, refl, refl)
+count-of d (G s a x) = any-then _ (λ _. passes (refl, refl, refl))
+count-of d H = any-then _ (λ _. passes (refl, refl, refl))
 
 operation-counts : (d : Desk) (r : Record) → Passes (Counts (isChange r) d) (operation d r)
 operation-counts d r = passes-operation d r (λ _. count-of d r)
@@ -131,16 +133,18 @@ desk-parts =
       fresh-slots = λ i. replicated slotCount i none;
       fresh-open = refl;
       fresh-counts = λ s. replicated stationCount s 0;
+      fresh-pairs = refl;
       changed-here = λ d i x e h. set-here (d .slots) i x none (subst (λ n. i < n) (sym e) h);
       changed-elsewhere = λ d i j x h. set-elsewhere (d .slots) i j x none h;
       changed-station = λ d i x. refl;
       changed-count = λ d i x D. counted-own (d .control) (D .control);
       other-counts = λ d i s x n. counted-other (d .control) s n;
+      changed-pairs = λ d i x h. omega (arith, h);
       changed-rights = λ d i x. refl;
       changed-open = λ d i x. refl;
       drafted = λ d o. (refl, refl, refl);
       dropped-parts = λ d. (refl, refl, refl);
-      station-parts = λ d s. (refl, refl, refl, refl, refl);
+      station-parts = λ d s. (refl, refl, refl, refl, refl, refl);
     }
 
 -- a slot that is read holds a plan, at the first place of some uses and at the others
@@ -197,6 +201,7 @@ job-reads d U = passes (no-uses d)
 job-reads d (X a n r s seed) = any-then _ (λ _. any-then _ (λ _. passes (writing-held d a [] (no-uses d))))
 job-reads d (Z s) = passes (no-uses d)
 job-reads d (G s a x) = any-then _ (λ _. passes (unread-held d (mentioning a) tt [] (no-uses d)))
+job-reads d H = any-then _ (λ _. passes (no-uses d))
 
 -- slots other than the targets are as they were
 abbrev Spares : Desk → Record → Effect → Type 0
@@ -230,6 +235,7 @@ job-spares d (X a n r s seed) =
     (h (writing a) (List·Memᴰ·head refl) refl))))
 job-spares d (Z s) = passes (λ o j h. refl)
 job-spares d (G s a x) = any-then _ (λ _. passes (λ o j h. refl))
+job-spares d H = any-then _ (λ _. passes (λ o j h. refl))
 
 -- a target is written
 abbrev Writes : Desk → List SlotUse → Desk → Type 0
@@ -282,6 +288,7 @@ job-writes d U = passes (no-targets d _)
 job-writes d (X a n r s seed) = any-then _ (λ _. any-then _ (λ p. passes (target-written d a [] _ (inl (some p, refl)) (no-targets d _))))
 job-writes d (Z s) = passes (no-targets d _)
 job-writes d (G s a x) = any-then _ (λ _. passes (no-target d (mentioning a) tt _ _ (no-targets d _)))
+job-writes d H = any-then _ (λ _. passes (no-targets d _))
 
 pub slots-used : SlotsUsed
 slots-used =

@@ -20,7 +20,7 @@ use Rattle.higman.proofs.Tests.{all-at, all-head, all-cons, or-left-false, or-r
 use Rattle.desk.specs.Limits.{stationCount, maxRight}
 use Rattle.desk.specs.Desk.{Draft, Desk, freshDesk, stationOf, ownRight, held, changed, withDraft, dropped, atStation, withRight}
 use Rattle.desk.specs.Desk.{isStation}
-use Rattle.desk.specs.Records.{Right, noRight, mayRead, mayWrite, rightNumber, Record, P, M, E, F, I, K, S, W, L, C, T, U, X, Z, G}
+use Rattle.desk.specs.Records.{Right, noRight, mayRead, mayWrite, rightNumber, Record, P, M, E, F, I, K, S, W, L, C, T, U, X, Z, G, H}
 use Rattle.desk.specs.Records.{needsOpen, isChange, SlotUse, writing, mentioning, neededRight, slotsNamed, stationsNamed, kind}
 use Rattle.desk.specs.Replies.{ok, Outcome, refuse, pass, _>>=_, _when_, Effect, openAmiss, mayUse, atLimit, admission, grantBy}
 use Rattle.desk.specs.Replies.{job, operation, recordOf, lineOperation, settle}
@@ -145,6 +145,7 @@ job-rights d U h = passes refl
 job-rights d (X a n r s seed) h = any-then _ (λ _. any-then _ (λ _. passes refl))
 job-rights d (Z s) h = passes refl
 job-rights d (G s a x) h = absurd (h s a x refl)
+job-rights d H h = any-then _ (λ _. passes refl)
 
 -- what the tests before a job found, whatever the job does
 whatever : {A Q : Type 0} → Q → (o : Outcome A) → Passes (λ _. Q) o
@@ -189,6 +190,7 @@ job-owned d h U t = passes h
 job-owned d h (X a n r s seed) t = any-then _ (λ _. any-then _ (λ _. passes (λ o q. no-draft q)))
 job-owned d h (Z s) t = passes (λ o q. no-draft (sym (none-open (d .draft) (t .admitted .open-fits)) ∙ q))
 job-owned d h (G s a x) t = any-then _ (λ _. passes (λ o q. no-draft (sym (none-open (d .draft) (t .admitted .open-fits)) ∙ q)))
+job-owned d h H t = any-then _ (λ _. passes h)
 
 line-owned : (d : Desk) → Owned d → (l : Bytes) → Owned (respondLine d l .0)
 unfolding respondLine lineOperation dropped
@@ -237,6 +239,7 @@ module _ (d : Desk) (h : Owned d) (i : ℕ) (low : ownRight d i < 2) where
   job-untouched (X a n r s seed) t = any-then _ (λ _. any-then _ (λ p. passes (spared (X a n r s seed) t a (List·Memᴰ·head refl) (some p))))
   job-untouched (Z s) t = passes refl
   job-untouched (G s a x) t = any-then _ (λ _. passes refl)
+  job-untouched H t = any-then _ (λ _. passes refl)
 
   line-untouched : (l : Bytes) → held (respondLine d l .0) i ≡ held d i
   unfolding respondLine lineOperation dropped
@@ -306,6 +309,7 @@ module _ (d : Desk) where
   missing-right U o t u m h = none-named m
   missing-right (X a n r s seed) o t u m h = refused-20 (X a n r s seed) refl refl o t (not-allowed _ u m h)
   missing-right (Z s) o t u m h = none-named m
+  missing-right H o t u m h = none-named m
   missing-right (G s a x) o t u m h = absurd (no-need (List·Memᴰ·cases-cons m))
     where
       no-need : (u ≡ mentioning a) ⊎ List·Memᴰ u [] → ⊥
@@ -324,7 +328,7 @@ rights-exact =
       given = λ d s a x e h. let g = passed (give-steps d s a x) e h in (g .first, g .other, below s (g .known), g .slot, g .effect);
       here = λ d D s i x h k b. given-here (d .control .rights) (D .control .rights) s i x h (omega arith) b;
       elsewhere = λ d s i x t j n. given-elsewhere (d .control .rights) s i x t j n;
-      parts = λ d s i x. (refl, refl, refl, refl);
+      parts = λ d s i x. (refl, refl, refl, refl, refl);
       only = λ d r e n h. passed (passes-operation d r (λ _. job-rights d r n)) e h;
       needs = (refl, refl, refl);
       had = λ d r e h. passed (had-right d r) e h;

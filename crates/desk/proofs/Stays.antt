@@ -5,7 +5,7 @@ use native.Mathlib.Omega.{arith}
 use mathlib.Core.Path.{_≡_, refl, sym, _∙_, subst}
 use mathlib.Core.Logic.{_⊎_, inl, inr}
 use mathlib.Core.Bool.{Bool, true, false, _&&_}
-use mathlib.Core.List.{List, [], _∷_, _++_, map-append, List·Memᴰ, List·Memᴰ·head}
+use mathlib.Core.List.{List, [], _∷_, _++_, map-append, List·Memᴰ, List·Memᴰ·head, List·Memᴰ·tail}
 use mathlib.Core.Option.{Option, none, some, Option·some-injective, Option·none-ne-some}
 use borrow.Author.Tests.{leb-false, eqb-true, eqb-false}
 use lib.Dec.{T, leb, eqb, le→leb, nleb→lt, not-T, lit≤}
@@ -27,15 +27,16 @@ use Rattle.higman.proofs.PlanWords.{word-of-plan-word, plan-word-fits}
 use Rattle.higman.specs.Refusals.{wrongState, shapeOutside, badWord, pairsFull, slotEmpty}
 use Rattle.desk.specs.Limits.{stationCount, maxRight, maxChanges}
 use Rattle.desk.specs.Desk.{Draft, Control, Desk, freshControl, freshDesk, changesOf, countIn, countOf, held, IsDraft, IsControl}
-use Rattle.desk.specs.Desk.{IsDesk, counted, giving, withRight}
+use Rattle.desk.specs.Desk.{IsDesk, raisedCounts, counted, giving, withRight}
 use Rattle.desk.specs.Desk.{changed, withDraft, dropped, naming, atStation, withPair, isStation}
-use Rattle.desk.specs.Records.{Record, P, M, E, F, I, K, S, W, L, C, T as Tᴿ, U, X, Z, G, SlotUse, writing, slotsNamed}
+use Rattle.desk.specs.Records.{Record, P, M, E, F, I, K, S, W, L, C, T as Tᴿ, U, X, Z, G, H, SlotUse, writing, slotsNamed}
 use Rattle.desk.specs.Records.{Right, noRight, mayRead, mayWrite, rightNumber, kind}
 use Rattle.higman.specs.Listing.{slotNumber, isSlot}
 use Rattle.desk.specs.Replies.{Outcome, refuse, pass, openPlan, planIn, atLimit, ofVerdict, ofAnswer, Effect, newDraft, closed, job}
 use Rattle.desk.specs.Replies.{operation, recordOf, lineOperation, settle, respondLine}
 use Rattle.desk.specs.Theorems.{DeskStays}
 use Rattle.desk.proofs.Desks.{station-test}
+use Rattle.desk.proofs.Sums.{no-pairs, pairs-set, pairs-at}
 use Rattle.desk.proofs.Outcomes.{Passes, stops, passes, passes-then, any-then, test-failed, test-held, Tested, passes-operation}
 use Rattle.desk.proofs.Given.{set-here, set-elsewhere, replicated, given-rights, fresh-rights}
 
@@ -53,14 +54,14 @@ below-limit d e = leb-false maxChanges (countOf d) e
 
 -- a change more, of the station that is named: its own count is one higher, and the others are what they were
 module _ (c : Control) where
-  pub counted-own : IsControl c → countIn (counted c) ≡ countIn c + 1
+  pub counted-own : IsControl c → getD (raisedCounts c) (c .station) 0 ≡ countIn c + 1
   counted-own h = set-here (c .changes) (c .station) (countIn c + 1) 0 (omega (arith, h .named, h .each))
 
-  pub counted-other : (s : ℕ) → (c .station ≡ s → ⊥) → changesOf (counted c) s ≡ changesOf c s
+  pub counted-other : (s : ℕ) → (c .station ≡ s → ⊥) → getD (raisedCounts c) s 0 ≡ changesOf c s
   counted-other s n = set-elsewhere (c .changes) (c .station) s (countIn c + 1) 0 n
 
-  pub counted-control : IsControl c → countIn c < maxChanges → IsControl (counted c)
-  counted-control h b =
+  pub counted-control : (lost kept : ℕ) → IsControl c → countIn c < maxChanges → IsControl (counted c lost kept)
+  counted-control lost kept h b =
       record {
         named = h .named;
         each = length-set (c .changes) (c .station) (countIn c + 1) ∙ h .each;
@@ -68,8 +69,8 @@ module _ (c : Control) where
         rights = h .rights;
       }
     where
-      by : (s : ℕ) (t : Bool) → eqb (c .station) s ≡ t → changesOf (counted c) s ≤ maxChanges
-      by s true e = subst (λ k. changesOf (counted c) k ≤ maxChanges) (eqb-true (c .station) s e) (omega (arith, counted-own h))
+      by : (s : ℕ) (t : Bool) → eqb (c .station) s ≡ t → getD (raisedCounts c) s 0 ≤ maxChanges
+      by s true e = subst (λ k. getD (raisedCounts c) k 0 ≤ maxChanges) (eqb-true (c .station) s e) (omega (arith, counted-own h))
       by s false e = omega (arith, counted-other s (eqb-false (c .station) s e), h .within s)
 
   pub naming-control : IsControl c → (s : ℕ) → s < stationCount → IsControl (naming c s)
@@ -95,15 +96,18 @@ fresh-control =
 no-draft : {A : Type 0} {o : Draft} → none ≡ some o → A
 no-draft q = absurd (Option·none-ne-some _ q)
 
-changed-desk : (d : Desk) → IsDesk d → atLimit d ≡ false → (i : ℕ) (x : Option Plan) → ((p : Plan) → x ≡ some p → Kept p)
-    → IsDesk (changed d i x)
+changed-desk : (d : Desk) → IsDesk d → atLimit d ≡ false → (i : ℕ) → i < slotCount → (x : Option Plan)
+    → ((p : Plan) → x ≡ some p → Kept p) → IsDesk (changed d i x)
 unfolding changed
-changed-desk d h e i x k =
+changed-desk d h e i b x k =
     record {
       eight = length-set (d .slots) i x ∙ h .eight;
       kept = λ j p q. by j p (held-set (d .slots) i j x p q);
       drafted = λ o q. no-draft q;
-      control = counted-control (d .control) (h .control) (below-limit d e);
+      control = counted-control (d .control) _ _ (h .control) (below-limit d e);
+      summed =
+          let inside : i < length (d .slots) = omega (arith, h .eight) in
+          omega (arith, pairs-set (d .slots) i x inside, pairs-at (d .slots) i, h .summed);
     }
   where
     by : (j : ℕ) (p : Plan) → (x ≡ some p) ⊎ (held d j ≡ some p) → Kept p
@@ -112,16 +116,16 @@ changed-desk d h e i x k =
 
 pub dropped-desk : (d : Desk) → IsDesk d → IsDesk (dropped d)
 unfolding dropped
-dropped-desk d h = record { eight = h .eight; kept = h .kept; drafted = λ o q. no-draft q; control = h .control }
+dropped-desk d h = record { eight = h .eight; kept = h .kept; drafted = λ o q. no-draft q; control = h .control; summed = h .summed }
 
 drafted-desk : (d : Desk) → IsDesk d → (o : Draft) → IsDraft o → IsDesk (withDraft d o)
 unfolding withDraft
-drafted-desk d h o k = record { eight = h .eight; kept = h .kept; drafted = λ o′ q. subst IsDraft (Option·some-injective o o′ q) k; control = h .control }
+drafted-desk d h o k = record { eight = h .eight; kept = h .kept; drafted = λ o′ q. subst IsDraft (Option·some-injective o o′ q) k; control = h .control; summed = h .summed }
 
 station-desk : (d : Desk) → IsDesk d → (s : ℕ) → s < stationCount → IsDesk (atStation d s)
 unfolding atStation
 station-desk d h s k =
-    record { eight = h .eight; kept = h .kept; drafted = h .drafted; control = naming-control (d .control) (h .control) s k }
+    record { eight = h .eight; kept = h .kept; drafted = h .drafted; control = naming-control (d .control) (h .control) s k; summed = h .summed }
 
 right-desk : (d : Desk) → IsDesk d → (s i : ℕ) (x : Right) → IsDesk (withRight d s i (rightNumber x))
 unfolding withRight rightNumber maxRight
@@ -132,6 +136,7 @@ right-desk d h s i x =
       drafted = h .drafted;
       control =
           giving-control (d .control) (h .control) s i (rightNumber x) (within x);
+      summed = h .summed;
     }
   where
     within : (x : Right) → rightNumber x ≤ maxRight
@@ -147,6 +152,7 @@ fresh-desk =
       kept = λ i p q. absurd (Option·none-ne-some p (sym (replicated slotCount i none) ∙ q));
       drafted = λ o q. no-draft q;
       control = fresh-control;
+      summed = sym (no-pairs slotCount);
     }
 
 -- what each step passes on
@@ -236,32 +242,39 @@ job-stays d h (M from to) t =
     (λ _ x. passes-then (test-failed pairsFull _) (λ _ y. passes (drafted-desk d h _ (longer-draft o k _ x y)))))
 job-stays d h E t =
     passes-then (draft-open d h) (λ o k. passes-then (verdict-accepted (verdict (o .shape) (o .rows)))
-    (λ _ v. passes (changed-desk d h (t .room) (o .slot) _ (some-kept _ (closed-kept o k v)))))
+    (λ _ v. passes (changed-desk d h (t .room) (o .slot) (k .slot-named) _ (some-kept _ (closed-kept o k v)))))
 job-stays d h (F a b c) t =
     passes-then (plan-kept d h a) (λ p x. passes-then (plan-kept d h b) (λ q y. passes-then
     (granted-kept (followed p q) (λ r e. demand3 .followed-kept p q r x y e))
-    (λ r k. passes (changed-desk d h (t .room) _ _ (some-kept r k)))))
+    (λ r k. passes (changed-desk d h (t .room) _
+    (slot-of-record d (F a b c) t (writing c) (List·Memᴰ·tail (List·Memᴰ·tail (List·Memᴰ·head refl)))) _ (some-kept r k)))))
 job-stays d h (I a c) t =
     passes-then (plan-kept d h a) (λ p x. passes-then (granted-kept (inverted p) (λ r e. demand3 .inverted-kept p r x e))
-    (λ r k. passes (changed-desk d h (t .room) _ _ (some-kept r k))))
+    (λ r k. passes (changed-desk d h (t .room) _ (slot-of-record d (I a c) t (writing c) (List·Memᴰ·tail (List·Memᴰ·head refl))) _
+    (some-kept r k))))
 job-stays d h (K a k c) t =
     any-then _ (λ _. passes-then (plan-kept d h a) (λ p x. passes-then
     (granted-kept (powered p k) (λ r e. demand3 .powered-kept p r k x e))
-    (λ r y. passes (changed-desk d h (t .room) _ _ (some-kept r y)))))
+    (λ r y. passes (changed-desk d h (t .room) _ (slot-of-record d (K a k c) t (writing c) (List·Memᴰ·tail (List·Memᴰ·head refl))) _
+    (some-kept r y)))))
 job-stays d h (S a b) t = any-then _ (λ _. any-then _ (λ _. any-then _ (λ _. passes h)))
 job-stays d h (W a code) t = any-then _ (λ _. any-then _ (λ _. passes h))
 job-stays d h (L a) t = any-then _ (λ _. passes h)
-job-stays d h (C a) t = any-then _ (λ _. passes (changed-desk d h (t .room) _ none none-kept))
+job-stays d h (C a) t =
+    let slot = slot-of-record d (C a) t (writing a) (List·Memᴰ·head refl) in
+    any-then _ (λ _. passes (changed-desk d h (t .room) _ slot none none-kept))
 job-stays d h Tᴿ t = passes h
 job-stays d h U t = passes h
 job-stays d h (Z s) t =
     passes (station-desk d h s (station-test s .0 (all-head isStation s [] (t .admitted .stations-known))))
 job-stays d h (G s a x) t = any-then _ (λ _. passes (right-desk d h s (slotNumber a) x))
+job-stays d h H t = any-then _ (λ _. passes h)
 job-stays d h (X a n r s seed) t =
     let shape : Shape = record { arity = n; roots = r } in
     passes-then (test-held shapeOutside (shapeInRange shape)) (λ _ y. passes-then
     (granted-kept (exercise shape s seed) (λ p e. exercises-exact .kept shape y s seed p e))
-    (λ p k. passes (changed-desk d h (t .room) _ _ (some-kept p k))))
+    (λ p k. passes (changed-desk d h (t .room) _ (slot-of-record d (X a n r s seed) t (writing a) (List·Memᴰ·head refl)) _
+    (some-kept p k))))
 
 pub operation-stays : (d : Desk) → IsDesk d → (r : Record) → Passes Stays (operation d r)
 operation-stays d h r = passes-operation d r (job-stays d h r)

@@ -13,7 +13,7 @@ use Rattle.higman.specs.Words.{given}
 use Rattle.higman.proofs.Tests.{so, and-left, and-right, clash, T-of}
 use Rattle.desk.specs.Limits.{stationCount}
 use Rattle.desk.specs.Desk.{Desk, freshDesk, stationOf, changesOf, IsDesk, dropped, atStation, isStation}
-use Rattle.desk.specs.Records.{Record, P, M, E, F, I, K, S, W, L, C, T, U, X, Z, G}
+use Rattle.desk.specs.Records.{Record, P, M, E, F, I, K, S, W, L, C, T, U, X, Z, G, H}
 use Rattle.desk.specs.Replies.{ok, Outcome, refuse, pass, _>>=_, Effect, bit, isOpen, operation, recordOf, lineOperation, settle}
 use Rattle.desk.specs.Replies.{respondLine, run, deskAfter}
 use Rattle.desk.specs.Stations.{madeChange}
@@ -49,6 +49,7 @@ hands-over (Z s) t e = by (isStation s) refl e
     by true k q = let same = Option·some-injective s t q in (ap Record.Z same, subst (λ n. So (isStation n)) same (T-of k))
     by false k q = no-turn q
 hands-over (G s a x) t e = no-turn e
+hands-over H t e = no-turn e
 
 eight : (s : ℕ) → s < stationCount → s ≤ 7
 unfolding stationCount

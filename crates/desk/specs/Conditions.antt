@@ -27,7 +27,7 @@ use Rattle.higman.specs.Refusals.{Letter}
 use Rattle.higman.specs.Text.{byte, wordOf}
 use Rattle.desk.specs.Limits.{maxRight}
 use Rattle.desk.specs.Desk.{Draft, Desk, freshDesk, stationOf, ownRight, held, isStation}
-use Rattle.desk.specs.Records.{Record, P, M, E, F, I, K, S, W, L, C, T, U, X, Z, G}
+use Rattle.desk.specs.Records.{Record, P, M, E, F, I, K, S, W, L, C, T, U, X, Z, G, H}
 use Rattle.higman.specs.Listing.{slotNumber, isSlot}
 use Rattle.desk.specs.Replies.{Outcome, refuse, pass, isOpen, atLimit}
 
@@ -176,6 +176,11 @@ conditions d (G s a x) =
     (stationOutside if not (isStation s)) ∷
     (slotOutside if outsideOf (a ∷ [])) ∷
     (stationRefused if not (eqb (stationOf d) 0) || eqb s 0) ∷
+    []
+-- "Other stations get 19, after 1 and 2" (change request E8)
+conditions d H =
+    (wrongState if isOpen d) ∷
+    (stationRefused if not (eqb (stationOf d) 0)) ∷
     []
 
 -- the first condition that holds: its number and column

@@ -26,8 +26,8 @@ use Rattle.higman.specs.Refusals.{slotEmpty, shapesDiffer, limitBroken, powerOu
 use Rattle.higman.specs.Refusals.{stationRefused, rightMissing, Letter}
 use Rattle.desk.specs.Limits.{stationCount, maxRight, maxChanges, maxLine}
 use Rattle.desk.specs.Desk.{Draft, Desk, freshDesk, stationOf, changesOf, countOf, held, IsDesk, changed, withDraft, withPair}
-use Rattle.desk.specs.Desk.{dropped, atStation, isStation, ownRight}
-use Rattle.desk.specs.Records.{Record, P, M, E, F, I, K, S, W, L, C, T as Tᴿ, U, X, Z, G, SlotUse, reads, target}
+use Rattle.desk.specs.Desk.{dropped, atStation, isStation, ownRight, pairsOfSlot}
+use Rattle.desk.specs.Records.{Record, P, M, E, F, I, K, S, W, L, C, T as Tᴿ, U, X, Z, G, H, SlotUse, reads, target}
 use Rattle.desk.specs.Records.{needsOpen, slotsNamed, isChange, recordText, wellFormed}
 use Rattle.higman.specs.Listing.{slotNumber}
 use Rattle.desk.specs.Replies.{refuse, pass, Effect, silent, ok, okNumber, okImage, okBlock, lists, surveys, refuses, surveyed}
@@ -41,6 +41,7 @@ use Rattle.desk.specs.Grammar.{NoRecord, TextExact}
 use Rattle.desk.specs.Stations.{CountsOfStations}
 use Rattle.desk.specs.Rights.{RightsExact}
 use Rattle.desk.specs.Sights.{StationsApart}
+use Rattle.desk.specs.Pairs.{PairsHeld}
 
 -- the numbers that the operation of a record may be refused with; 13, 14 and 15 are of library calls
 unfoldable pub operationNumbers : List ℕ
@@ -99,6 +100,7 @@ OfOpenPlan U = ⊥
 OfOpenPlan (X a n r s seed) = ⊥
 OfOpenPlan (Z s) = ⊥
 OfOpenPlan (G s a x) = ⊥
+OfOpenPlan H = ⊥
 
 -- "2, an M or E with no plan open, or any other record while one is open", before every other number of a record
 pub record WrongState : Type 0 where
@@ -141,7 +143,9 @@ pub record DeskParts : Type 0 where
   pub fresh-slots : (i : ℕ) → held freshDesk i ≡ none
   pub fresh-open : freshDesk .draft ≡ none
   pub fresh-counts : (s : ℕ) → changesOf (freshDesk .control) s ≡ 0
-  -- a change: one slot holds something else, the others hold what they held, the count of the named station is one higher, and rights stay
+  pub fresh-pairs : freshDesk .control .pairs ≡ 0
+  -- a change: one slot holds something else, the others hold what they held, the count of the named station is one higher, the pairs that
+  -- the slot held are taken off the sum and those that it holds are put to it, and rights stay
   pub changed-here : (d : Desk) (i : ℕ) (content : Option Plan) → length (d .slots) ≡ slotCount → i < slotCount
       → held (changed d i content) i ≡ content
   pub changed-elsewhere : (d : Desk) (i j : ℕ) (content : Option Plan) → (i ≡ j → ⊥) → held (changed d i content) j ≡ held d j
@@ -149,6 +153,8 @@ pub record DeskParts : Type 0 where
   pub changed-count : (d : Desk) (i : ℕ) (content : Option Plan) → IsDesk d → countOf (changed d i content) ≡ countOf d + 1
   pub other-counts : (d : Desk) (i s : ℕ) (content : Option Plan) → (stationOf d ≡ s → ⊥)
       → changesOf (changed d i content .control) s ≡ changesOf (d .control) s
+  pub changed-pairs : (d : Desk) (i : ℕ) (content : Option Plan) → pairsOfSlot (held d i) ≤ d .control .pairs
+      → changed d i content .control .pairs + pairsOfSlot (held d i) ≡ d .control .pairs + pairsOfSlot content
   pub changed-rights : (d : Desk) (i : ℕ) (content : Option Plan) → changed d i content .control .rights ≡ d .control .rights
   pub changed-open : (d : Desk) (i : ℕ) (content : Option Plan) → changed d i content .draft ≡ none
   -- an open plan: nothing else changes
@@ -160,8 +166,9 @@ pub record DeskParts : Type 0 where
   pub station-parts : (d : Desk) (s : ℕ)
       → (atStation d s .slots ≡ d .slots) × (atStation d s .draft ≡ d .draft) × (stationOf (atStation d s) ≡ s)
       × (atStation d s .control .changes ≡ d .control .changes) × (atStation d s .control .rights ≡ d .control .rights)
+      × (atStation d s .control .pairs ≡ d .control .pairs)
 
--- What P, M, C, L, T and U do when they are not refused, and which records change slots and counts at all.
+-- What P, M, C, L, T and U do when they are not refused, and which records change slots, counts and the sum of pairs at all.
 pub record RepliesExact : Type 0 where
   pub opens : (d : Desk) (a n r : ℕ) (e : Effect) → operation d (P a n r) ≡ pass e
       → (d .draft ≡ none) × (e ≡ (withDraft d (newDraft a (record { arity = n; roots = r })), silent))
@@ -174,7 +181,7 @@ pub record RepliesExact : Type 0 where
   pub counts : (d : Desk) (e : Effect) → operation d Tᴿ ≡ pass e → e ≡ (d, okNumber (countOf d))
   pub surveys : (d : Desk) (e : Effect) → operation d U ≡ pass e → e ≡ (d, surveys (surveyed d))
   pub only-changes : (d : Desk) (r : Record) (e : Effect) → isChange r ≡ false → operation d r ≡ pass e
-      → (e .0 .slots ≡ d .slots) × (e .0 .control .changes ≡ d .control .changes)
+      → (e .0 .slots ≡ d .slots) × (e .0 .control .changes ≡ d .control .changes) × (e .0 .control .pairs ≡ d .control .pairs)
   pub raises : (d : Desk) (r : Record) (e : Effect) → IsDesk d → isChange r ≡ true → operation d r ≡ pass e
       → countOf (e .0) ≡ countOf d + 1
 
@@ -270,6 +277,7 @@ pub record Demand2 : Type 0 where
   pub stations : CountsOfStations
   pub rights : RightsExact
   pub stations-apart : StationsApart
+  pub pairs-held : PairsHeld
   pub desk-parts : DeskParts
   pub survey : SurveyExact
   -- what E judges is what was typed, in the order in which it was typed, and all of this from the typed lines on

@@ -1,7 +1,8 @@
--- The desk (document 01, "Records"): eight slots, at most one open plan, the station that is named, and each station's count of changes and
--- rights. What it is to be a desk, and the ways in which a record changes one: a slot is filled or emptied, a plan is opened, gets a pair or
--- is dropped, a station is named or given a right. To be believed: `Desk`, `IsRights`, `IsControl` and `IsDesk`. `DeskTest` fixes the test,
--- and `DeskParts`, `CountsOfStations` and `RightsExact` the changes. Read Records.antt next.
+-- The desk (document 01, "Records"): eight slots, at most one open plan, the station that is named, each station's count of changes and
+-- rights, and the sum of the pairs in all slots. What it is to be a desk, and the ways in which a record changes one: a slot is filled or
+-- emptied, a plan is opened, gets a pair or is dropped, a station is named or given a right. To be believed: `Desk`, `IsRights`,
+-- `IsControl` and `IsDesk`. `DeskTest` fixes the test, and `DeskParts`, `CountsOfStations`, `RightsExact` and `PairsHeld` the changes. Read
+-- Records.antt next.
 use Prim.Native.Nat.{ℕ, zero, suc, _+_, _-_, _≤_, _<_}
 use mathlib.Core.Path.{_≡_, refl}
 use mathlib.Core.Bool.{Bool, true, false, _&&_}
@@ -28,12 +29,13 @@ pub record Draft : Type 0 where
 abbrev pub Rights : Type 0
 Rights = List (List ℕ)
 
--- What a desk keeps beside its plans: the station that is named, from 0, "a count of changes" for each station (change request E5), and the
--- rights of stations
+-- What a desk keeps beside its plans: the station that is named, from 0, "a count of changes" for each station (change request E5), the
+-- rights of stations, and "the number of pairs in all slots" (change request E8)
 pub record Control : Type 0 where
   pub station : ℕ
   pub changes : List ℕ
   pub rights : Rights
+  pub pairs : ℕ
 
 -- "The desk has slots A to H, at most one open plan", and a control block
 pub record Desk : Type 0 where
@@ -45,9 +47,10 @@ pub record Desk : Type 0 where
 abbrev pub freshRights : Rights
 freshRights = replicate (stationCount - 1) (replicate slotCount maxRight)
 
--- "A record Z⇥digit names the station for the records after it; before the first, it is station 0"; no station has made a change
+-- "A record Z⇥digit names the station for the records after it; before the first, it is station 0"; no station has made a change, and no
+-- slot holds a pair
 abbrev pub freshControl : Control
-freshControl = record { station = 0; changes = replicate stationCount 0; rights = freshRights }
+freshControl = record { station = 0; changes = replicate stationCount 0; rights = freshRights; pairs = 0 }
 
 -- the changes of a station, and those of the named one
 abbrev pub changesOf : Control → ℕ → ℕ
@@ -80,6 +83,15 @@ ownRight d i = rightOf (d .control .rights) (stationOf d) i
 -- the plan in a slot, if it holds one
 abbrev pub held : Desk → ℕ → Option Plan
 held d i = getD (d .slots) i none
+
+-- the pairs of what a slot holds, and "the sum over the slots" (change request E8)
+abbrev pub pairsOfSlot : Option Plan → ℕ
+pairsOfSlot none = 0
+pairsOfSlot (some p) = length (p .rows)
+
+abbrev pub pairsOfSlots : List (Option Plan) → ℕ
+pairsOfSlots [] = 0
+pairsOfSlots (x ∷ l) = pairsOfSlot x + pairsOfSlots l
 
 -- "Reading needs 1"
 abbrev pub readable : Desk → ℕ → Bool
@@ -115,21 +127,29 @@ pub record IsControl (c : Control) : Type 0 where
   pub within : (s : ℕ) → changesOf c s ≤ maxChanges
   pub rights : IsRights (c .rights)
 
--- "The desk has slots A to H, at most one open plan, and a count of changes". What a slot holds is a kept plan. A library call that is
--- handed anything else says 15.
+-- "The desk has slots A to H, at most one open plan, and a count of changes". What a slot holds is a kept plan, and "A desk whose stored sum
+-- is off is no desk". A library call that is handed anything else says 15.
 pub record IsDesk (d : Desk) : Type 0 where
   pub eight : length (d .slots) ≡ slotCount
   pub kept : (i : ℕ) (p : Plan) → held d i ≡ some p → Kept p
   pub drafted : (o : Draft) → d .draft ≡ some o → IsDraft o
   pub control : IsControl (d .control)
+  pub summed : d .control .pairs ≡ pairsOfSlots (d .slots)
 
--- one change more of the station that is named
-abbrev pub counted : Control → Control
-counted c = record { station = c .station; changes = set (c .changes) (c .station) (countIn c + 1); rights = c .rights }
+-- one change more of the station that is named, by which so many pairs are lost and so many kept
+abbrev pub raisedCounts : Control → List ℕ
+raisedCounts c = set (c .changes) (c .station) (countIn c + 1)
 
--- A change: what one slot holds from now on. No plan is open afterwards, and "E, F, I, K and C raise the count by one", as X does.
+abbrev pub counted : Control → ℕ → ℕ → Control
+counted c lost kept =
+    record { station = c .station; changes = raisedCounts c; rights = c .rights; pairs = c .pairs - lost + kept }
+
+-- A change: what one slot holds from now on. No plan is open afterwards, and "E, F, I, K and C raise the count by one", as X does. The pairs
+-- that the slot held are taken off the sum, and those that it holds are put to it.
 unfoldable pub changed : Desk → ℕ → Option Plan → Desk
-changed d i content = record { slots = set (d .slots) i content; draft = none; control = counted (d .control) }
+changed d i content =
+    let control = counted (d .control) (pairsOfSlot (held d i)) (pairsOfSlot content) in
+    record { slots = set (d .slots) i content; draft = none; control = control }
 
 unfoldable pub withDraft : Desk → Draft → Desk
 withDraft d o = record { slots = d .slots; draft = some o; control = d .control }
@@ -140,7 +160,7 @@ dropped d = record { slots = d .slots; draft = none; control = d .control }
 
 -- Z: this station is named, and nothing else changes
 abbrev pub naming : Control → ℕ → Control
-naming c s = record { station = s; changes = c .changes; rights = c .rights }
+naming c s = record { station = s; changes = c .changes; rights = c .rights; pairs = c .pairs }
 
 unfoldable pub atStation : Desk → ℕ → Desk
 atStation d s = record { slots = d .slots; draft = d .draft; control = naming (d .control) s }
@@ -151,7 +171,7 @@ rightGiven rights zero i x = rights
 rightGiven rights (suc s) i x = set rights s (set (getD rights s []) i x)
 
 abbrev pub giving : Control → ℕ → ℕ → ℕ → Control
-giving c s i x = record { station = c .station; changes = c .changes; rights = rightGiven (c .rights) s i x }
+giving c s i x = record { station = c .station; changes = c .changes; rights = rightGiven (c .rights) s i x; pairs = c .pairs }
 
 unfoldable pub withRight : Desk → ℕ → ℕ → ℕ → Desk
 withRight d s i x = record { slots = d .slots; draft = d .draft; control = giving (d .control) s i x }
@@ -161,7 +181,15 @@ abbrev pub atCount : Desk → ℕ → Desk
 atCount d n =
     let c = d .control in
     let changes = set (c .changes) (c .station) n in
-    record { slots = d .slots; draft = d .draft; control = record { station = c .station; changes = changes; rights = c .rights } }
+    let control : Control = record { station = c .station; changes = changes; rights = c .rights; pairs = c .pairs } in
+    record { slots = d .slots; draft = d .draft; control = control }
+
+-- a desk with another sum, for examples
+abbrev pub withSum : Desk → ℕ → Desk
+withSum d n =
+    let c = d .control in
+    let control : Control = record { station = c .station; changes = c .changes; rights = c .rights; pairs = n } in
+    record { slots = d .slots; draft = d .draft; control = control }
 
 -- "M⇥from⇥to adds a pair", behind those that are there
 abbrev pub withPair : Draft → Pair → Draft
@@ -196,7 +224,9 @@ isControl c =
 
 -- the same as `IsDesk`
 unfoldable pub isDesk : Desk → Bool
-isDesk d = eqb (length (d .slots)) slotCount && allHeld (d .slots) && isDraft (d .draft) && isControl (d .control)
+isDesk d =
+    eqb (length (d .slots)) slotCount && allHeld (d .slots) && isDraft (d .draft) && isControl (d .control)
+    && eqb (d .control .pairs) (pairsOfSlots (d .slots))
 
 -- a fresh desk; one that holds ψ in slot B; one that holds a plan that is not reduced
 isDesk-example : isDesk freshDesk ≡ true
@@ -211,8 +241,15 @@ unfolding isDesk isControl areRights freshDesk changed slotCount stationCount ma
     maxDigits verdict keep normalForm normal joined
 isDesk-held-example = refl
 
+-- ψ has three pairs: the sum as it is, one less and one more; and a plan of one pair put over it
+isDesk-summed-example : (map (λ n. isDesk (withSum (withPlan ψ) n)) (3 ∷ 2 ∷ 4 ∷ []) ≡ true ∷ false ∷ false ∷ [])
+    × (changed (withPlan ψ) 1 (some (record { shape = record { arity = 2; roots = 1 }; rows = row 1 1 ∷ [] })) .control .pairs ≡ 1)
+unfolding isDesk isControl areRights freshDesk changed slotCount stationCount maxRight maxChanges isKept shapeInRange granted maxPairs
+    maxDigits verdict keep normalForm normal joined
+isDesk-summed-example = (refl, refl)
+
 abbrev atFive : ℕ → Control
-atFive n = record { station = 0; changes = set (freshControl .changes) 5 n; rights = freshRights }
+atFive n = record { station = 0; changes = set (freshControl .changes) 5 n; rights = freshRights; pairs = 0 }
 
 -- station 7 is named; there is no station 8; a count at the limit, and one above it, of a station that isn't named
 isControl-example : map isControl (naming freshControl 7 ∷ naming freshControl 8 ∷ atFive 4_000_000_000 ∷ atFive 4_000_000_001 ∷ [])

@@ -18,7 +18,7 @@ use Rattle.higman.specs.Listing.{slotByte, joinLines, listing}
 use Rattle.higman.specs.Theorems.{SlotsExact, DecimalsExact}
 use Rattle.higman.specs.Places.{Placed}
 use Rattle.desk.specs.Limits.{maxLine}
-use Rattle.desk.specs.Records.{Record, P, M, E, F, I, K, S, W, L, C, T, U, X, Z, G, fields, parse, recordFields, recordText}
+use Rattle.desk.specs.Records.{Record, P, M, E, F, I, K, S, W, L, C, T, U, X, Z, G, H, fields, parse, recordFields, recordText}
 use Rattle.desk.specs.Records.{noTab, wellFormed, Right, noRight, mayRead, mayWrite}
 use Rattle.desk.specs.Replies.{Held, pairsIn, silent, ok, okNumber, okImage, okBlock, lists, surveys, refuses}
 use Rattle.desk.specs.Bytes.{lineOf, partFields, heldFields, replyBytes}
@@ -59,6 +59,8 @@ pub record RecordForms : Type 0 where
   pub Z-text : (s : ℕ) → recordText (Z s) ≡ 90 ∷ 9 ∷ decimal s
   -- "G⇥station⇥slot⇥right" (change request E6)
   pub G-text : (s a : ℕ) (x : Right) → recordText (G s a x) ≡ 71 ∷ 9 ∷ (decimal s ++ 9 ∷ a ∷ 9 ∷ rightDigit x ∷ [])
+  -- "a record H" (change request E8)
+  pub H-text : recordText H ≡ 72 ∷ []
 
 -- what it is for the numbers of a record to fit their fields: "n and r one digit 0 to 9", "k .. one to four digits", "s one or two
 -- digits and seed one to ten", and one digit for a station
@@ -78,6 +80,7 @@ NumbersFit U = Unit {0}
 NumbersFit (X a n r s seed) = (n < 10) × (r < 10) × (s < 100) × (seed < 10_000_000_000)
 NumbersFit (Z s) = s < 10
 NumbersFit (G s a x) = s < 10
+NumbersFit H = Unit {0}
 
 -- a record is well formed exactly when no field has a tab in it and its numbers fit
 abbrev pub WellFormedExact : Type 0

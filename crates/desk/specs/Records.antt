@@ -58,6 +58,8 @@ pub data Record : Type 0 where
   Z : ℕ → Record
   -- G⇥station⇥slot⇥right gives a station a right on a slot (change request E6)
   G : ℕ → ℕ → Right → Record
+  -- H: the number of pairs in all slots (change request E8)
+  H : Record
 
 -- a byte in front of the first field
 abbrev pub inFront : ℕ → List Bytes → List Bytes
@@ -155,6 +157,7 @@ grammar =
     record { letter = byte "X"; reads = field slotField (λ a. field (numberField 1) (λ n. field (numberField 1) (exerciseFields a n))) } ∷
     record { letter = byte "Z"; reads = field (numberField 1) (λ s. noMore (Z s)) } ∷
     record { letter = byte "G"; reads = field (numberField 1) (λ s. field slotField (λ a. field rightField (λ x. noMore (G s a x)))) } ∷
+    record { letter = byte "H"; reads = noMore H } ∷
     []
 
 -- the record of a letter and fields by the first rule for the letter; an unknown letter has none
@@ -200,6 +203,8 @@ recordFields (X a n r s seed) = bytes "X" ∷ (a ∷ []) ∷ decimal n ∷ decim
 recordFields (Z s) = bytes "Z" ∷ decimal s ∷ []
 -- "G⇥station⇥slot⇥right"
 recordFields (G s a x) = bytes "G" ∷ decimal s ∷ (a ∷ []) ∷ decimal (rightNumber x) ∷ []
+-- "a record H"
+recordFields H = bytes "H" ∷ []
 
 unfoldable pub recordText : Record → Bytes
 recordText r = parted (recordFields r)
@@ -228,6 +233,7 @@ numbersFit U = true
 numbersFit (X a n r s seed) = hasDigits 1 n && hasDigits 1 r && hasDigits maxSplitsNumeral s && hasDigits maxSeedNumeral seed
 numbersFit (Z s) = hasDigits 1 s
 numbersFit (G s a x) = hasDigits 1 s
+numbersFit H = true
 
 -- a record that some line is the text of
 unfoldable pub wellFormed : Record → Bool
@@ -296,6 +302,7 @@ kind U = asking []
 kind (X a n r s seed) = changing (writing a ∷ [])
 kind (Z s) = record { open-plan = false; stations = s ∷ []; slots = []; change = false }
 kind (G s a x) = record { open-plan = false; stations = s ∷ []; slots = mentioning a ∷ []; change = false }
+kind H = asking []
 
 -- "2, an M or E with no plan open, or any other record while one is open"
 abbrev pub needsOpen : Record → Bool

@@ -14,12 +14,12 @@ use lib.ListN.{length, replicate}
 use Rattle.higman.specs.Words.{Shape, Word, given, spell}
 use Rattle.higman.specs.Bases.{all}
 use Rattle.higman.specs.Tables.{Table, froms, row, φ, ψ}
-use Rattle.higman.specs.Normal.{joined, normal, normalForm, keep, compose, inverse}
+use Rattle.higman.specs.Normal.{joined, normal, normalForm, keep, identity, compose, inverse}
 use Rattle.higman.specs.Limits.{Plan, shapeInRange, granted, isCode, maxPairs, maxDigits, maxCode, maxPower, slotCount, isPlanWord}
 use Rattle.higman.specs.Limits.{powerInRange, seedInRange}
 use Rattle.higman.specs.Answers.{Verdict, Accepted, InFrom, InTo, verdict, reasonNumber, Answer, Granted, Refused, refusalNumber}
 use Rattle.higman.specs.Answers.{followed, inverted, powered, Comparison, Alike, NotCompared, same, Route, Image, TooShort, NotRouted}
-use Rattle.higman.specs.Answers.{routed}
+use Rattle.higman.specs.Answers.{raised, routed}
 use Rattle.higman.specs.Places.{placeOf, Placed, placedFrom, placedBlock}
 use Rattle.higman.specs.Exercises.{nextDraw, drawn, grown, shuffled, exercised, exercise}
 use Rattle.higman.specs.Refusals.{noRecord, wrongState, shapeOutside, badWord, pairsFull, slotOutside, slotEmpty, powerOutside, countFull}
@@ -30,7 +30,7 @@ use Rattle.desk.specs.Limits.{stationCount, maxRight, maxChanges, maxLin
 use Rattle.desk.specs.Desk.{Draft, Desk, freshDesk, countOf, held, changed, withDraft, dropped, atStation, atCount, withPair}
 use Rattle.desk.specs.Desk.{isStation, stationOf, ownRight, seen, withRight}
 use Rattle.desk.specs.Records.{Record, P, M, E, F, I, K, S, W, L}
-use Rattle.desk.specs.Records.{C, T, U, X, Z, G, grammar, parse, needsOpen, SlotUse, neededRight, stationsNamed, slotsNamed, isChange}
+use Rattle.desk.specs.Records.{C, T, U, X, Z, G, H, grammar, parse, needsOpen, SlotUse, neededRight, stationsNamed, slotsNamed, isChange}
 use Rattle.desk.specs.Records.{kind, noRight, mayRead, mayWrite, rightNumber, rightNumbered}
 
 -- a slot that holds a plan
@@ -246,6 +246,10 @@ job d (G s a x) = do
   -- 19
   _ ← stationRefused when (not (eqb (stationOf d) 0) || eqb s 0)
   pass (withRight d s (slotNumber a) (rightNumber x), ok)
+job d H = do
+  -- 19
+  _ ← stationRefused when not (eqb (stationOf d) 0)
+  pass (d, okNumber (d .control .pairs))
 
 -- the tests that all records have in common, by what a record says of its kind: 2, then 18, then 8, and 20 "right after 8"
 unfoldable pub admission : Desk → Record → Outcome (Unit {0})
@@ -424,3 +428,15 @@ grant-example : (map (λ r. settle twoPlans (operation twoPlans r) .1)
     ≡ refuses 19 none ∷ refuses 19 none ∷ refuses 8 none ∷ [])
 unfolding _>>=_ operation admission job kind neededRight freshDesk changed withRight atStation slotCount stationCount maxRight
 grant-example = (refl, refl)
+
+-- H: ψ and φ have three pairs each. ψ's power 0, of one pair, is put over ψ; B is emptied; and C, which is empty, can't be. H is told to
+-- station 0, whatever others may read: 19 for station 1, and 2 before it.
+sum-example : (map (λ r. settle twoPlans (operation twoPlans r) .0 .control .pairs)
+    (H ∷ I (byte "A") (byte "C") ∷ K (byte "A") (pos 0) (byte "A") ∷ C (byte "B") ∷ C (byte "C") ∷ [])
+    ≡ 6 ∷ 9 ∷ 4 ∷ 3 ∷ 6 ∷ [])
+    × (map (λ d. settle d (operation d H) .1)
+    (freshDesk ∷ twoPlans ∷ atStation haulier 0 ∷ haulier ∷ withDraft haulier (newDraft (byte "A") (record { arity = 2; roots = 1 })) ∷ [])
+    ≡ okNumber 0 ∷ okNumber 6 ∷ okNumber 6 ∷ refuses 19 none ∷ refuses 2 none ∷ [])
+unfolding _>>=_ operation admission job kind neededRight freshDesk changed withDraft withRight atStation dropped slotCount stationCount
+    maxRight maxChanges maxPower inverted powered raised identity inverse keep normalForm normal joined granted maxPairs maxDigits
+sum-example = (refl, refl)

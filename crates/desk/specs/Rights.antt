@@ -39,7 +39,7 @@ pub record RightsExact : Type 0 where
       → rightOf (withRight d s i x .control .rights) t j ≡ rightOf (d .control .rights) t j
   pub parts : (d : Desk) (s i x : ℕ)
       → (withRight d s i x .slots ≡ d .slots) × (withRight d s i x .draft ≡ d .draft) × (stationOf (withRight d s i x) ≡ stationOf d)
-      × (withRight d s i x .control .changes ≡ d .control .changes)
+      × (withRight d s i x .control .changes ≡ d .control .changes) × (withRight d s i x .control .pairs ≡ d .control .pairs)
   -- no other record that is done changes a right; a refused line leaves them all (`refused` of `CountsOfStations`)
   pub only : (d : Desk) (r : Record) (e : Effect) → ((s a : ℕ) (x : Right) → r ≡ G s a x → ⊥) → operation d r ≡ pass e
       → e .0 .control .rights ≡ d .control .rights

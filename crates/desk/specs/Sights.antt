@@ -1,6 +1,6 @@
 -- What a station can learn (change request E6): which lines of a session are its own, what it may know when it sends one of them, and the
 -- statement that its replies tell it no more. Time is no part of it. To be believed: `Sight` and the statement, which fixes `wholeTurns`,
--- `sights`, `repliesTo` and, by the senders, which lines hand over. Read Demands.antt next.
+-- `sights`, `repliesTo` and, by the senders, which lines hand over. Read Pairs.antt next.
 use Prim.Native.Nat.{ℕ, _≤_, _<_}
 use mathlib.Core.Logic.{_↔_}
 use mathlib.Core.Path.{_≡_, refl}
@@ -16,7 +16,7 @@ use Rattle.higman.specs.Normal.{joined, normal, normalForm, keep}
 use Rattle.desk.specs.Limits.{stationCount, maxRight, maxChanges, maxLine, maxSplitsNumeral, maxSeedNumeral}
 use Rattle.desk.specs.Desk.{Desk, freshDesk, stationOf, ownRight, held, IsDesk, seen, changed, withDraft, dropped, atStation}
 use Rattle.desk.specs.Desk.{withRight, isStation}
-use Rattle.desk.specs.Records.{Record, P, M, E, F, I, K, S, W, L, C, T, U, X, Z, G, rightNumber, neededRight, kind}
+use Rattle.desk.specs.Records.{Record, P, M, E, F, I, K, S, W, L, C, T, U, X, Z, G, H, rightNumber, neededRight, kind}
 use Rattle.desk.specs.Records.{parse, grammar}
 use Rattle.desk.specs.Replies.{Reply, silent, okNumber, surveys, refuses, refuse, pass, _>>=_, isOpen, surveyed, admission}
 use Rattle.desk.specs.Replies.{job, operation, recordOf, lineOperation, respondLine, run, deskAfter}
@@ -38,6 +38,7 @@ handsOver U = none
 handsOver (X a n r s seed) = none
 handsOver (Z s) = elim (isStation s) [ true ↦ some s | false ↦ none ]
 handsOver (G s a x) = none
+handsOver H = none
 
 abbrev pub turnTo : Bytes → Option ℕ
 turnTo line = elim (recordOf line) [ refuse n c ↦ none | pass r ↦ handsOver r ]

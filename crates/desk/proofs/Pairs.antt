@@ -1,0 +1,175 @@
+-- The pairs that are held (change request E8): what a change kept and what it lost, record by record, so that the stored sum is the one less
+-- the other; and what H tells, and to whom.
+use Prim.Native.Nat.{ℕ, _+_}
+use native.Mathlib.Omega.{arith}
+use mathlib.Core.Path.{_≡_, refl, sym, _∙_, ap, subst}
+use mathlib.Core.Bool.{Bool, true, false, _&&_, not}
+use mathlib.Core.List.{List, [], _∷_}
+use mathlib.Core.Option.{Option, none, some}
+use borrow.Author.Tests.{eqb-true, ne-eqb, not-false}
+use lib.Dec.{eqb}
+use lib.ListN.{length}
+use Rattle.higman.specs.Words.{given}
+use Rattle.higman.specs.Limits.{Plan}
+use Rattle.higman.specs.Listing.{slotNumber}
+use Rattle.higman.specs.Refusals.{stationRefused}
+use Rattle.higman.specs.Text.{Bytes}
+use Rattle.higman.proofs.Tests.{clash}
+use Rattle.desk.specs.Desk.{Draft, Desk, freshDesk, stationOf, pairsOfSlot, IsDesk, changed, withDraft, dropped, atStation, withRight}
+use Rattle.desk.specs.Records.{Record, P, M, E, F, I, K, S, W, L, C, T, U, X, Z, G, H, needsOpen, slotsNamed}
+use Rattle.desk.specs.Records.{isChange, kind}
+use Rattle.desk.specs.Replies.{Reply, ok, okNumber, Outcome, refuse, pass, _>>=_, _when_, Effect, isOpen, keepIn, closed, job, admission}
+use Rattle.desk.specs.Replies.{operation, recordOf, settle, lineOperation, respondLine, run, deskAfter}
+use Rattle.desk.specs.Stations.{isDone}
+use Rattle.desk.specs.Pairs.{pairsTold, targetSlots, slotsChanged, pairsAt, Tally, noPairs, tallyOf, tally, PairsHeld}
+use Rattle.desk.proofs.Outcomes.{Passes, passes, passes-then, any-then, plan-open, passed, test-failed, Tested, passes-operation}
+use Rattle.desk.proofs.Outcomes.{operation-pass}
+use Rattle.desk.proofs.Replies.{desk-parts}
+use Rattle.desk.proofs.Stays.{desk-stays}
+use Rattle.desk.proofs.Sums.{pairs-at}
+use Rattle.desk.proofs.Calls.{lent-calls-exact}
+
+abbrev sum : Desk → ℕ
+sum d = d .control .pairs
+
+module _ (d : Desk) (D : IsDesk d) where
+  -- what a change does to the sum, by its reply and by what its slots held
+  abbrev Tallied : Record → Effect → Type 0
+  Tallied r e = sum (e .0) + pairsAt d (slotsChanged d r) ≡ sum d + pairsTold (e .1)
+
+  -- no plan is open at a record of slots
+  slots-closed : (r : Record) → needsOpen r ≡ false → Tested d r → slotsChanged d r ≡ targetSlots (slotsNamed r)
+  slots-closed r n t =
+      let none-open = sym {A = Bool} (ap (λ b. elim b as (λ _. Bool) [ true ↦ not (isOpen d) | false ↦ isOpen d ]) n) in
+      by (d .draft) (none-open ∙ t .admitted .open-fits)
+    where
+      by : (x : Option Draft) → given x ≡ false
+          → _≡_ {A = List ℕ} (elim x [ some o ↦ o .slot ∷ [] | none ↦ targetSlots (slotsNamed r) ]) (targetSlots (slotsNamed r))
+      by none e = refl
+      by (some o) e = absurd (clash refl e)
+
+  slot-open : (r : Record) (o : Draft) → d .draft ≡ some o → slotsChanged d r ≡ o .slot ∷ []
+  slot-open r o e = ap (λ x. elim x as (λ _. List ℕ) [ some o ↦ o .slot ∷ [] | none ↦ targetSlots (slotsNamed r) ]) e
+
+  tallied : (r : Record) (i : ℕ) → slotsChanged d r ≡ i ∷ [] → (x : Option Plan) (y : Reply) → pairsTold y ≡ pairsOfSlot x
+      → Tallied r (changed d i x, y)
+  tallied r i e x y q =
+      let within = pairs-at (d .slots) i in
+      let moved = desk-parts .changed-pairs d i x (omega (arith, within, D .summed)) in
+      subst (λ is. sum (changed d i x) + pairsAt d is ≡ sum d + pairsTold y) (sym e) (omega (arith, moved, q))
+
+  kept-told : (r : Record) (i : ℕ) → slotsChanged d r ≡ i ∷ [] → (p : Plan) → Tallied r (keepIn d i p)
+  kept-told r i e p = tallied r i e (some p) (okNumber (length (p .rows))) refl
+
+  -- a record that is no change leaves the sum
+  abbrev Told : Bool → Record → Effect → Type 0
+  Told true r e = Tallied r e
+  Told false r e = sum (e .0) ≡ sum d
+
+  job-told : (r : Record) → Tested d r → Passes (Told (isChange r) r) (job d r)
+  unfolding job kind withDraft atStation withRight
+  job-told (P a n r) t = any-then _ (λ _. passes refl)
+  job-told (M from to) t = any-then _ (λ _. any-then _ (λ _. any-then _ (λ _. passes refl)))
+  job-told E t = passes-then (plan-open d) (λ o e. any-then _ (λ _. passes (kept-told E (o .slot) (slot-open E o e) (closed o))))
+  job-told (F a b c) t =
+      any-then _ (λ _. any-then _ (λ _. any-then _ (λ p. passes (kept-told (F a b c) (slotNumber c) (slots-closed (F a b c) refl t) p))))
+  job-told (I a c) t = any-then _ (λ _. any-then _ (λ p. passes (kept-told (I a c) (slotNumber c) (slots-closed (I a c) refl t) p)))
+  job-told (K a k c) t =
+      any-then _ (λ _. any-then _ (λ _. any-then _ (λ p. passes (kept-told (K a k c) (slotNumber c) (slots-closed (K a k c) refl t) p))))
+  job-told (S a b) t = any-then _ (λ _. any-then _ (λ _. any-then _ (λ _. passes refl)))
+  job-told (W a code) t = any-then _ (λ _. any-then _ (λ _. passes refl))
+  job-told (L a) t = any-then _ (λ _. passes refl)
+  job-told (C a) t = any-then _ (λ _. passes (tallied (C a) (slotNumber a) (slots-closed (C a) refl t) none ok refl))
+  job-told T t = passes refl
+  job-told U t = passes refl
+  job-told (X a n r s seed) t =
+      any-then _ (λ _. any-then _ (λ p. passes (kept-told (X a n r s seed) (slotNumber a) (slots-closed (X a n r s seed) refl t) p)))
+  job-told (Z s) t = passes refl
+  job-told (G s a x) t = any-then _ (λ _. passes refl)
+  job-told H t = any-then _ (λ _. passes refl)
+
+  dropped-sum : sum (dropped d) ≡ sum d
+  unfolding dropped
+  dropped-sum = refl
+
+  abbrev Step : Tally → Desk → Type 0
+  Step y c = sum c + y .lost ≡ sum d + y .kept
+
+  -- the tally of a line by its record, if it has one, and by what comes of it
+  abbrev tallyOfDone : Bool → Record → Reply → Tally
+  tallyOfDone b r y = elim b [ false ↦ noPairs | true ↦ record { kept = pairsTold y; lost = pairsAt d (slotsChanged d r) } ]
+
+  abbrev tallyBy : Outcome Record → Reply → Tally
+  tallyBy (refuse n c) y = noPairs
+  tallyBy (pass r) y = tallyOfDone (isChange r && isDone (operation d r)) r y
+
+  tally-by : (o : Outcome Record) (y : Reply)
+      → elim (elim o as (λ _. Bool) [ refuse n c ↦ false | pass r ↦ isChange r && isDone (operation d r) ]) as (λ _. Tally) [
+        | false ↦ noPairs
+        | true ↦ elim o [ refuse n c ↦ noPairs | pass r ↦ record { kept = pairsTold y; lost = pairsAt d (slotsChanged d r) } ]
+      ]
+      ≡ tallyBy o y
+  tally-by (refuse n c) y = refl
+  tally-by (pass r) y = refl
+
+  line-told : (l : Bytes) → Step (tallyOf d l) (respondLine d l .0)
+  unfolding respondLine lineOperation _>>=_
+  line-told l = subst (λ y. Step y (respondLine d l .0)) (sym (tally-by (recordOf l) (respondLine d l .1))) (by (recordOf l))
+    where
+      by-outcome : (b : Bool) (r : Record) (o : Outcome Effect) → Passes (Told b r) o
+          → Step (tallyOfDone (b && isDone o) r (settle d o .1)) (settle d o .0)
+      by-outcome true r (refuse n c) k = omega (arith, dropped-sum)
+      by-outcome false r (refuse n c) k = omega (arith, dropped-sum)
+      by-outcome true r (pass e) (passes k) = k
+      by-outcome false r (pass e) (passes k) = omega (arith, k)
+
+      by : (o : Outcome Record) → Step (tallyBy o (settle d (o >>= operation d) .1)) (settle d (o >>= operation d) .0)
+      by (refuse n c) = omega (arith, dropped-sum)
+      by (pass r) = by-outcome (isChange r) r (operation d r) (passes-operation d r (job-told r))
+
+lines-told : (ls : List Bytes) (d : Desk) → IsDesk d → sum (deskAfter d (run d ls)) + tally d ls .lost ≡ sum d + tally d ls .kept
+unfolding run tally
+lines-told [] d D = refl
+lines-told (l ∷ ls) d D =
+    let here = line-told d D l in
+    let rest = lines-told ls (respondLine d l .0) (desk-stays .line d l D) in
+    omega (arith, here, rest)
+
+pub lines-stay : (ls : List Bytes) (d : Desk) → IsDesk d → IsDesk (deskAfter d (run d ls))
+unfolding run
+lines-stay [] d D = D
+lines-stay (l ∷ ls) d D = lines-stay ls (respondLine d l .0) (desk-stays .line d l D)
+
+-- H
+sum-tested : (d : Desk) → d .draft ≡ none → Tested d H
+unfolding kind
+sum-tested d o = record { admitted = record { open-fits = ap given o; stations-known = tt; slots-named = tt; allowed = tt }; room = refl }
+
+tells : (d : Desk) → d .draft ≡ none → stationOf d ≡ 0 → operation d H ≡ pass (d, okNumber (sum d))
+unfolding job _>>=_
+tells d o e =
+    operation-pass d H (d, okNumber (sum d)) (sum-tested d o)
+    (ap (λ s. (stationRefused when not (eqb s 0)) >>= λ _. pass (d, okNumber (sum d))) e)
+
+told-steps : (d : Desk) → Passes (λ e. (stationOf d ≡ 0) × (e ≡ (d, okNumber (sum d)))) (operation d H)
+unfolding job
+told-steps d =
+    passes-operation d H (λ _. passes-then (test-failed stationRefused (not (eqb (stationOf d) 0)))
+    (λ _ q. passes (eqb-true (stationOf d) 0 (not-false _ q), refl)))
+
+not-told : (d : Desk) → d .draft ≡ none → (stationOf d ≡ 0 → ⊥) → operation d H ≡ refuse 19 none
+unfolding operation admission job kind _>>=_
+not-told d o n = rw (ap given o, ne-eqb (stationOf d) 0 n) refl
+
+pub pairs-held : PairsHeld
+pairs-held =
+    record {
+      tells = tells;
+      told = λ d e h. passed (told-steps d) e h;
+      not-told = not-told;
+      counted = λ ls. let all = lines-told ls freshDesk (desk-stays .fresh) in omega (arith, all, desk-parts .fresh-pairs);
+      summed = λ ls. lines-stay ls freshDesk (desk-stays .fresh) .summed;
+      off = λ d n.
+          let no-desk : IsDesk d → ⊥ = λ D. n (D .summed) in
+          (no-desk, λ work buffer. lent-calls-exact .no-desk d work buffer no-desk, λ work. lent-calls-exact .plain-no-desk d work no-desk);
+    }
