@@ -31,7 +31,8 @@ use Rattle.operations.proofs.Codes.{searchable, code-digits}
 use Rattle.desk.specs.Bytes.{lineOf, okLine, partFields, replyBytes}
 use Rattle.desk.proofs.Grammar.{text-exact}
 use Rattle.replies.specs.Sizes.{maxReply}
-use Rattle.replies.proofs.Sizes.{few-pairs, words-fit, from-fits, block-lines-fit, block-count-fits}
+use Rattle.desk.proofs.Sums.{few-pairs}
+use Rattle.replies.proofs.Sizes.{words-fit, from-fits, block-lines-fit, block-count-fits}
 use Rattle.slots.proofs.Windows.{written-length}
 use Rattle.asking.specs.Asked.{AskedOfFront, blockReply}
 

@@ -1,5 +1,5 @@
 -- Emptying a slot: it is refused with 9 or 16, or no plan is put into the slot and the change counted.
-use Prim.Native.Nat.{ℕ, _-_, _<_}
+use Prim.Native.Nat.{ℕ, _-_, _≤_, _<_}
 use mathlib.Core.Path.{_≡_, refl, sym, _∙_, ap, ap₂, subst, subst₂}
 use mathlib.Core.Bool.{true, false}
 use mathlib.Core.List.{List, List·Memᴰ·head}
@@ -41,6 +41,10 @@ blank-table : T (inTable blank)
 unfolding blank inTable maxPairs
 blank-table = tt
 
+pub blank-few : blank .pairs ≤ maxPairs
+unfolding blank
+blank-few = omega arith
+
 module _ (h : Head) (columns : List ℕ) (H : HoldsDesk h columns) (a : ℕ) (admitted : admission (deskOf h columns) (C a) ≡ pass tt)
     (out : List ℕ) where
   abbrev d : Desk
@@ -71,7 +75,7 @@ module _ (h : Head) (columns : List ℕ) (H : HoldsDesk h columns) (a : ℕ) (ad
     unfolding deskOf kind blank
     empty-kept l w we columns′ ce =
         let desk : deskOf (filledHead h i blank) (put columns i blank) ≡ changed d i none =
-        filled-desk h columns H i below blank blank-from blank-to ∙ ap (changed d i) blank-held in
+        filled-desk h columns H i below blank blank-from blank-to blank-table ∙ ap (changed d i) blank-held in
         let step = at-end d (C a) admitted (changed d i none, ok) passes l in
         subst₂ (λ x y. Done (C a) h columns out x y out) (sym we) (sym ce)
         (done-passed h columns H (C a) out (changed d i none, ok) step (record { head = filledHead h i blank; reply = Ok }) (put columns i blank) out

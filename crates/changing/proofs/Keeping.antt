@@ -141,12 +141,12 @@ module _ (made : Making) (answer : Of.Answer) (m : Makes made answer) where
           → columns′ ≡ put columns i (made .plan) → Done r h columns out w columns′ out
       unfolding deskOf packed
       keep-done l w we columns′ ce =
+          let table = subst (λ v. T (inTable v)) (sym (value e)) (kept-in-table (plan e) (kept e)) in
           let holding : heldBy (made .plan) ≡ some (plan e) = ap heldBy (value e) ∙ kept-held (plan e) (kept e) in
           let desk : deskOf (filledHead h i (made .plan)) (put columns i (made .plan)) ≡ changed d i (some (plan e)) =
-          filled-desk h columns H i slot (made .plan) (from-long e) (to-long e) ∙ ap (changed d i) holding in
+          filled-desk h columns H i slot (made .plan) (from-long e) (to-long e) table ∙ ap (changed d i) holding in
           let room : (isChange r && atLimit d) ≡ false = ap₂ _&&_ (t .changes) l in
           let step = at-end d r (t .admitted) (keepIn d i (plan e)) passes room in
-          let table = subst (λ v. T (inTable v)) (sym (value e)) (kept-in-table (plan e) (kept e)) in
           subst₂ (λ x y. Done r h columns out x y out) (sym we) (sym ce)
           (done-passed h columns H r out (keepIn d i (plan e)) step (record { head = filledHead h i (made .plan); reply = Number (made .plan .pairs) })
           (put columns i (made .plan)) out

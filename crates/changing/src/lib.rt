@@ -4,7 +4,7 @@ ghost use mathlib.Core.Path.{_≡_};
 ghost use mathlib.Core.Bool.{true, false};
 ghost use Rattle.higman.specs.Listing.{isSlot};
 ghost use Rattle.desk.specs.Records.{E, F, I, K, C, X};
-ghost use Rattle.slots.specs.Blocks.{InColumns, put, filledHead};
+ghost use Rattle.slots.specs.Blocks.{InColumns, sizeAt, put, filledHead};
 ghost use Rattle.slots.specs.Desks.{Countable, deskOf, HoldsDesk};
 ghost use Rattle.slots.specs.Works.{Keepable, DoneKeeping, DoneSilently};
 ghost use Rattle.changing.specs.Faults.{faultyIn};
@@ -26,14 +26,15 @@ use slots::Work;
 use slots::blocks;
 use slots::numbers;
 
-// A plan, or no plan, put into a slot: one change.
+// A plan, or no plan, put into a slot: one change, by which the pairs that the slot held are lost and those of the plan kept.
 fn fill(head: Head, columns: &mut [u64], i: usize, plan: Plan) -> Head
     requires { ⌜ InColumns i (now columns) ⌝ }
-    requires { ⌜ Countable (head .control) ⌝ }
+    requires { ⌜ Countable (head .control) (sizeAt head i .pairs) (plan .pairs) ⌝ }
     ensures { λ r. ⌜ r ≡ filledHead head i plan ⌝ }
     ensures { λ _. ⌜ now (columns .exit) ≡ put (now (columns .entry)) i plan ⌝ }
 {
     blocks::put(columns, i, plan);
+    let old = head.sizes[i];
     let mut h = head;
     h.sizes[i] = Size {
         arity: plan.arity,
@@ -42,7 +43,7 @@ fn fill(head: Head, columns: &mut [u64], i: usize, plan: Plan) -> Head
     };
     h.is_open = false;
     let control = head.control;
-    h.control = slots::noted(control);
+    h.control = slots::noted(control, old.pairs, plan.pairs);
     h
 }
 

@@ -13,6 +13,7 @@ use Rattle.higman.proofs.Automorphisms.{plans-are-automorphisms}
 use Rattle.desk.specs.Limits.{stationCount, maxRight, maxChanges, maxLine}
 use Rattle.desk.specs.Desk.{countOf}
 use Rattle.desk.specs.Demands.{SessionExact, LimitsExact, Demands}
+use Rattle.desk.proofs.Sums.{few-held}
 use Rattle.desk.proofs.Session.{fed-in-pieces, session-fed, lines-exact, lines-fed}
 use Rattle.desk.proofs.Grammar.{text-exact}
 use Rattle.desk.proofs.Demand1.{demand1}
@@ -32,6 +33,7 @@ limits-exact =
       changes = refl;
       full-count = λ d. (leb→le 4_000_000_000 (countOf d), le→leb 4_000_000_000 (countOf d));
       counts-within = λ d D s. D .control .within s;
+      pairs-within = few-held;
       lines = refl;
     }
 

@@ -1,14 +1,17 @@
--- The sum over the slots (change request E8): what a slot holds is part of it, and where one slot is written, what the slot held is taken off
--- and what it holds is put to it.
-use Prim.Native.Nat.{ℕ, zero, suc, _+_, _≤_, _<_}
+-- The sum over the slots (change request E8): what a slot holds is part of it; where one slot is written, what the slot held is taken off
+-- and what it holds is put to it; and of a desk it is at most 1,024.
+use Prim.Native.Nat.{ℕ, zero, suc, _+_, _*_, _≤_, _<_}
 use native.Mathlib.Omega.{arith}
 use native.Mathlib.Nat.{not-suc-le-zero, le-of-suc-le-suc}
 use mathlib.Core.Path.{_≡_, refl}
 use mathlib.Core.List.{List, [], _∷_}
-use mathlib.Core.Option.{Option, none}
+use mathlib.Core.Option.{Option, none, some}
+use lib.Dec.{leb, leb→le}
 use lib.ListN.{length, getD, set, replicate}
-use Rattle.higman.specs.Limits.{Plan}
-use Rattle.desk.specs.Desk.{pairsOfSlot, pairsOfSlots}
+use Rattle.higman.specs.Bases.{all}
+use Rattle.higman.specs.Limits.{Plan, Kept, granted, pairFits, maxPairs, slotCount}
+use Rattle.higman.proofs.Tests.{and-left}
+use Rattle.desk.specs.Desk.{Desk, pairsOfSlot, pairsOfSlots, IsDesk}
 
 pub no-pairs : (n : ℕ) → pairsOfSlots (replicate n none) ≡ 0
 no-pairs zero = refl
@@ -24,3 +27,19 @@ pub pairs-set : (l : List (Option Plan)) (i : ℕ) (x : Option Plan) → i < len
 pairs-set [] i x h = absurd (not-suc-le-zero h)
 pairs-set (y ∷ l) zero x h = omega arith
 pairs-set (y ∷ l) (suc i) x h = let rest = pairs-set l i x (le-of-suc-le-suc h) in omega (arith, rest)
+
+pub few-pairs : (p : Plan) → Kept p → length (p .rows) ≤ maxPairs
+unfolding granted
+few-pairs p k = leb→le (length (p .rows)) maxPairs (and-left (leb (length (p .rows)) maxPairs) (all pairFits (p .rows)) (k .within))
+
+few-summed : (l : List (Option Plan)) → ((i : ℕ) (p : Plan) → getD l i none ≡ some p → Kept p) → pairsOfSlots l ≤ length l * 128
+unfolding maxPairs
+few-summed [] k = omega arith
+few-summed (none ∷ l) k = let rest = few-summed l (λ i. k (suc i)) in omega (arith, rest)
+few-summed (some p ∷ l) k =
+    let rest = few-summed l (λ i. k (suc i)) in
+    omega (arith, rest, few-pairs p (k zero p refl))
+
+pub few-held : (d : Desk) → IsDesk d → d .control .pairs ≤ 1_024
+unfolding slotCount
+few-held d D = omega (arith, D .summed, few-summed (d .slots) (D .kept), D .eight)

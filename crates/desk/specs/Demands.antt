@@ -307,6 +307,8 @@ pub record LimitsExact : Type 0 where
   pub changes : maxChanges ≡ 4_000_000_000
   pub full-count : (d : Desk) → T (atLimit d) ↔ (4_000_000_000 ≤ countOf d)
   pub counts-within : (d : Desk) → IsDesk d → (s : ℕ) → changesOf (d .control) s ≤ 4_000_000_000
+  -- "slots A to H", of at most 128 pairs each, so that H tells at most 1,024
+  pub pairs-within : (d : Desk) → IsDesk d → d .control .pairs ≤ 1_024
   -- "Lines hold at most 1,100 bytes, byte 10 not counted"
   pub lines : maxLine ≡ 1_100
 

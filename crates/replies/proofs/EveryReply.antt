@@ -19,17 +19,18 @@ use Rattle.higman.specs.Listing.{slotNumber}
 use Rattle.higman.proofs.Tests.{all-at}
 use Rattle.desk.specs.Limits.{maxChanges}
 use Rattle.desk.specs.Desk.{Desk, IsDesk, stationOf, countOf}
-use Rattle.desk.specs.Records.{Record, P, M, E, F, I, K, S, W, L, C, T, U, X, Z, G}
+use Rattle.desk.specs.Records.{Record, P, M, E, F, I, K, S, W, L, C, T, U, X, Z, G, H}
 use Rattle.desk.specs.Replies.{okNumber, okImage, refuses, Effect, Outcome, refuse, pass, ofRoute, closed, job, operation, recordOf}
 use Rattle.desk.specs.Replies.{lineOperation, respondLine}
 use Rattle.desk.specs.Bytes.{replyBytes}
 use Rattle.desk.specs.Demands.{refusalNumbers, DoneLine, RefusedLine}
 use Rattle.desk.proofs.Outcomes.{Passes, stops, passes, passes-then, any-then, passed, plan-held, passes-operation}
 use Rattle.desk.proofs.OpenPlans.{close-steps}
+use Rattle.desk.proofs.Sums.{few-pairs, few-held}
 use Rattle.desk.proofs.Demand1.{demand1}
 use Rattle.desk.proofs.Demand2.{demand2}
 use Rattle.replies.specs.Sizes.{maxReply, RepliesFit}
-use Rattle.replies.proofs.Sizes.{rooms, few-pairs, listing-fits, image-fits, image-line-size, block-fits, ok-number-size, no-size}
+use Rattle.replies.proofs.Sizes.{rooms, listing-fits, image-fits, image-line-size, block-fits, ok-number-size, no-size}
 use Rattle.replies.proofs.Sizes.{survey-size}
 
 -- 1 to 12, and 16 to 20
@@ -115,6 +116,7 @@ module _ (d : Desk) (D : IsDesk d) where
       as-known (k .effect) (pairs-fit _ (k .kept))
   record-fits (Z s) e o = as-known (demand2 .stations .named d s e o .1) (rooms .ok)
   record-fits (G s a x) e o = as-known (demand2 .rights .given d s a x e o .4) (rooms .ok)
+  record-fits H e o = as-known (demand2 .pairs-held .told d e o .1) (number-fits (d .control .pairs) (omega (arith, few-held d D)))
 
   line-fits : (line : Bytes) → Passes Fits (lineOperation d line)
   unfolding lineOperation

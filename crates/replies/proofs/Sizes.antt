@@ -27,6 +27,7 @@ use Rattle.higman.proofs.Places.{places-exact}
 use Rattle.words.proofs.Runs.{word-size}
 use Rattle.desk.specs.Desk.{Desk, IsDesk, seen}
 use Rattle.desk.proofs.Seen.{seen-length}
+use Rattle.desk.proofs.Sums.{few-pairs}
 use Rattle.desk.specs.Replies.{Held, heldFrom, comesBefore, surveyed, surveys, okBlock}
 use Rattle.desk.specs.Bytes.{lineOf, okLine, noLine, columnField, partFields, heldFields, replyBytes}
 use Rattle.desk.proofs.Grammar.{text-exact}
@@ -45,12 +46,8 @@ lines-fit f k (a ∷ l) h =
     let rest = lines-fit f k l (λ b m. h b (List·Memᴰ·tail m)) in
     omega (arith, length-append (f a) (joinLines (map f l)), suc-mul (length l) k)
 
--- "at most 128 pairs", "at most 16 digits"
+-- "at most 16 digits"
 module _ (p : Plan) (k : Kept p) where
-  pub few-pairs : length (p .rows) ≤ maxPairs
-  unfolding granted
-  few-pairs = leb→le (length (p .rows)) maxPairs (and-left (leb (length (p .rows)) maxPairs) (all pairFits (p .rows)) (k .within))
-
   pub words-fit : (q : Pair) → List·Memᴰ q (p .rows) → T (pairFits q)
   unfolding granted
   words-fit q m = all-at pairFits (p .rows) (and-right (leb (length (p .rows)) maxPairs) (all pairFits (p .rows)) (k .within)) q m

@@ -15,11 +15,12 @@ use Rattle.higman.specs.Limits.{Plan as PlanOf, Kept, maxPairs, slotCount}
 use Rattle.higman.specs.Answers.{isKept}
 use Rattle.higman.proofs.Statements.{answers-exact}
 use Rattle.higman.proofs.Tests.{so, and-intro}
-use Rattle.desk.specs.Desk.{Desk, IsControl, IsDesk, held, changed}
+use Rattle.desk.specs.Desk.{Desk, IsControl, IsDesk, held, pairsOfSlot, changed}
 use Rattle.desk.specs.Replies.{isOpen}
 use Rattle.columns.proofs.Rows.{rows-length}
 use Rattle.operations.specs.declared.Plan.{Plan}
 use Rattle.operations.specs.Plans.{planOf, inTable, isPlan}
+use Rattle.operations.proofs.Values.{few-in-table}
 use Rattle.slots.specs.declared.Size.{Size}
 use Rattle.slots.specs.declared.Head.{Head}
 use Rattle.slots.specs.Blocks.{InColumns, noSize, sizeAt, fromPlace, toPlace, valueAt, put, sizeOf, notedIn, filledHead}
@@ -60,6 +61,31 @@ set-count f g x a (suc n) (suc i) h e same =
     let next : suc a + i ≡ a + suc i = omega arith in
     ap₂ _∷_ (same a (omega arith) (omega arith) (λ q. omega arith))
     (set-count f g x (suc a) n i (le-of-suc-le-suc h) (ap g next ∙ e) (λ j b k q. same j (omega arith) (omega arith) (λ r. q (r ∙ sym next))))
+
+-- the two columns of a block
+module _ (h : Head) (columns : List ℕ) (i : ℕ) (inside : InColumns i columns) where
+  value-from : length (valueAt h columns i .from) ≡ maxPairs
+  unfolding valueAt
+  value-from =
+      length-take-le maxPairs (drop (fromPlace i) columns)
+      (omega (arith, pair-limit, length-drop (fromPlace i) columns, inside .sized, inside .block))
+
+  value-to : length (valueAt h columns i .to) ≡ maxPairs
+  unfolding valueAt
+  value-to =
+      length-take-le maxPairs (drop (toPlace i) columns)
+      (omega (arith, pair-limit, length-drop (toPlace i) columns, inside .sized, inside .block))
+
+-- the pairs of what a value holds
+value-pairs : (v : Plan) → T (inTable v) → length (v .from) ≡ maxPairs → length (v .to) ≡ maxPairs → pairsOfSlot (heldBy v) ≡ v .pairs
+value-pairs v t from to = by (eqb (v .pairs) 0) refl
+  where
+    few : v .pairs ≤ maxPairs
+    few = few-in-table v t
+
+    by : (b : Bool) → eqb (v .pairs) 0 ≡ b → pairsOfSlot (elim b [ true ↦ none | false ↦ some (planOf v) ]) ≡ v .pairs
+    by true e = sym (eqb-true (v .pairs) 0 e)
+    by false e = rows-length (v .pairs) (v .from) (v .to) (omega (arith, few, from)) (omega (arith, few, to))
 
 module _ (h : Head) (columns : List ℕ) where
   pub open-is : isOpen (deskOf h columns) ≡ h .is_open
@@ -106,6 +132,16 @@ module _ (h : Head) (columns : List ℕ) where
     unfolding slotCount
     slot-inside i k = record { block = omega arith; sized = H .sized }
 
+    -- the pairs of what a slot holds are those of its size
+    pub block-pairs : (i : ℕ) → i < slotCount → pairsOfSlot (slotAt h columns i) ≡ sizeAt h i .pairs
+    unfolding valueAt
+    block-pairs i k =
+        let inside = slot-inside i k in
+        value-pairs (valueAt h columns i) (H .in-tables i k) (value-from h columns i inside) (value-to h columns i inside)
+
+    pub slot-pairs : (i : ℕ) → i < slotCount → pairsOfSlot (held (deskOf h columns) i) ≡ sizeAt h i .pairs
+    slot-pairs i k = ap pairsOfSlot (held-at i k) ∙ block-pairs i k
+
     -- The head and columns after a plan, or no plan, was put into a slot.
     module _ (i : ℕ) (k : i < slotCount) (p : Plan) (from : length (p .from) ≡ maxPairs) (to : length (p .to) ≡ maxPairs) where
       abbrev head′ : Head
@@ -147,14 +183,16 @@ module _ (h : Head) (columns : List ℕ) where
                 put-behind columns i p inside from to (toPlace j) maxPairs (omega (arith, pair-limit)),
               )
 
-      pub filled-desk : deskOf head′ columns′ ≡ changed (deskOf h columns) i (heldBy p)
+      pub filled-desk : T (inTable p) → deskOf head′ columns′ ≡ changed (deskOf h columns) i (heldBy p)
       unfolding deskOf changed filledHead
-      filled-desk =
+      filled-desk t =
           let first : 0 + i ≡ i = omega arith in
+          let lost = slot-pairs i k in
+          let kept = value-pairs p t from to in
           let slots = set-count (slotAt h columns) (slotAt head′ columns′) (heldBy p) 0 slotCount i k
           (ap (slotAt head′ columns′) first ∙ ap heldBy value-same)
           (λ j a b n. ap heldBy (value-other j (λ e. n (e ∙ sym first)))) in
-          λ x. record { slots = slots x; draft = none; control = controlOf (notedIn (h .control)) }
+          λ x. record { slots = slots x; draft = none; control = controlOf (notedIn (h .control) (sym lost x) (sym kept x)) }
 
       pub holds-filled : T (inTable p) → IsDesk (changed (deskOf h columns) i (heldBy p)) → HoldsDesk head′ columns′
       unfolding filledHead
@@ -162,7 +200,7 @@ module _ (h : Head) (columns : List ℕ) where
           record {
             sized = put-length columns i p inside from to ∙ H .sized;
             headed = length-set (h .sizes) i (sizeOf p) ∙ H .headed;
-            is-desk = subst IsDesk (sym filled-desk) d;
+            is-desk = subst IsDesk (sym (filled-desk t)) d;
             in-tables = λ j b. by-slot j b (eqb j i) refl;
             few = subst (λ (z : Size). z .pairs ≤ maxPairs) (sym (getD-set-other (h .sizes) i draftBlock (sizeOf p) noSize (λ e. omega (arith, eight)))) (H .few);
           }
@@ -181,15 +219,14 @@ unfolding deskOf
 draft-open h columns e = ap (λ b. elim b [ true ↦ some (draftIn (h .slot) (valueAt h columns draftBlock)) | false ↦ none ]) e
 
 module _ (h : Head) (columns : List ℕ) (H : HoldsDesk h columns) where
+  draft-inside : InColumns draftBlock columns
+  draft-inside = record { block = omega arith; sized = H .sized }
+
   pub draft-from : length (valueAt h columns draftBlock .from) ≡ maxPairs
-  unfolding valueAt
-  draft-from =
-      length-take-le maxPairs (drop (fromPlace draftBlock) columns) (omega (arith, pair-limit, length-drop (fromPlace draftBlock) columns, H .sized))
+  draft-from = value-from h columns draftBlock draft-inside
 
   pub draft-to : length (valueAt h columns draftBlock .to) ≡ maxPairs
-  unfolding valueAt
-  draft-to =
-      length-take-le maxPairs (drop (toPlace draftBlock) columns) (omega (arith, pair-limit, length-drop (toPlace draftBlock) columns, H .sized))
+  draft-to = value-to h columns draftBlock draft-inside
 
   pub draft-length : length (draftIn (h .slot) (valueAt h columns draftBlock) .rows) ≡ sizeAt h draftBlock .pairs
   unfolding valueAt

@@ -140,12 +140,12 @@ given-control c h (suc s) i x a b k =
     let rights : rightsOf (set (c .rights) s (packedRow (set old i x)))
     ≡ set (rightsOf (c .rights)) s (set (getD (rightsOf (c .rights)) s []) i x) =
     set-station (c .rights) s (packedRow (set old i x)) ∙ ap (set (rightsOf (c .rights)) s) (back ∙ ap (λ r. set r i x) (sym row)) in
-    ap (λ k. controlOf (atPlace k)) before ∙ (λ j. record { station = c .station; changes = c .changes; rights = rights j })
+    ap (λ k. controlOf (atPlace k)) before ∙ (λ j. record { station = c .station; changes = c .changes; rights = rights j; pairs = c .pairs })
   where
     atPlace : ℕ → Control
     atPlace k =
         let row = packedRow (set (rowOf (getD (c .rights) k 0)) i x) in
-        record { station = c .station; changes = c .changes; rights = set (c .rights) k row }
+        record { station = c .station; changes = c .changes; rights = set (c .rights) k row; pairs = c .pairs }
 
 -- the right of a station in code
 pub station-right : (c : Control) → IsControl (controlOf c) → (s i : ℕ) → 1 ≤ s → s < stationCount → i < slotCount
@@ -170,7 +170,7 @@ pub control-back : (c : ControlOf) → IsControl c → controlOf (controlIn c) �
 control-back c h =
     let r = h .rights in
     let rights = rows-back (c .rights) (λ s k. r .each-slot s (omega (arith, r .each-station))) (λ s. r .within (suc s)) in
-    λ i. record { station = c .station; changes = c .changes; rights = rights i }
+    λ i. record { station = c .station; changes = c .changes; rights = rights i; pairs = c .pairs }
 
 rows-again : (rows : List ℕ) → ((s : ℕ) → getD rows s 0 < 4 ^ slotCount) → packedRights (rightsOf rows) ≡ rows
 rows-again [] h = refl
@@ -180,7 +180,7 @@ rows-again (row ∷ rows) h = ap₂ _∷_ (packed-of-row slotCount row (h zero))
 pub control-again : (c : Control) → ((s : ℕ) → getD (c .rights) s 0 < 65_536) → controlIn (controlOf c) ≡ c
 unfolding slotCount
 control-again c h =
-    let rights = rows-again (c .rights) h in λ i. record { station = c .station; changes = c .changes; rights = rights i }
+    let rights = rows-again (c .rights) h in λ i. record { station = c .station; changes = c .changes; rights = rights i; pairs = c .pairs }
 
 pub packed-narrow : (rights : Rights) → IsRights rights → (s : ℕ) → getD (packedRights rights) s 0 < 65_536
 packed-narrow rights h = narrow rights (λ s k. h .each-slot s (omega (arith, h .each-station))) (λ s. h .within (suc s))

@@ -56,25 +56,32 @@ put columns i p = written (written columns (fromPlace i) (p .from)) (toPlace i) 
 abbrev pub sizeOf : Plan → Size
 sizeOf p = record { arity = p .arity; roots = p .roots; pairs = p .pairs }
 
--- one change more of the station that is named
-abbrev pub notedIn : Control → Control
-notedIn c = record {
-  station = c .station;
-  changes = set (c .changes) (c .station) (getD (c .changes) (c .station) 0 + 1);
-  rights =
-      c .rights;
-}
+-- one change more of the station that is named, by which so many pairs are lost and so many kept
+abbrev pub notedIn : Control → ℕ → ℕ → Control
+notedIn c lost kept =
+    record {
+      station = c .station;
+      changes = set (c .changes) (c .station) (getD (c .changes) (c .station) 0 + 1);
+      rights = c .rights;
+      pairs = c .pairs - lost + kept;
+    }
 
 -- this station named
 abbrev pub namedIn : Control → ℕ → Control
-namedIn c s = record { station = s; changes = c .changes; rights = c .rights }
+namedIn c s = record { station = s; changes = c .changes; rights = c .rights; pairs = c .pairs }
 
 -- a right on a slot given to a station from 1 on
 abbrev pub givenIn : Control → ℕ → ℕ → ℕ → Control
 givenIn c s i x =
     let row = packedRow (set (rowOf (getD (c .rights) (s - 1) 0)) i x) in
-    record { station = c .station; changes = c .changes; rights = set (c .rights) (s - 1) row }
+    record { station = c .station; changes = c .changes; rights = set (c .rights) (s - 1) row; pairs = c .pairs }
 
--- the head after a plan, or no plan, was put into a slot: no plan is open, and the change is counted
+-- the head after a plan, or no plan, was put into a slot: no plan is open, and the change is counted, with the pairs of both
 unfoldable pub filledHead : Head → ℕ → Plan → Head
-filledHead h i p = record { sizes = set (h .sizes) i (sizeOf p); is_open = false; slot = h .slot; control = notedIn (h .control) }
+filledHead h i p =
+    record {
+      sizes = set (h .sizes) i (sizeOf p);
+      is_open = false;
+      slot = h .slot;
+      control = notedIn (h .control) (sizeAt h i .pairs) (p .pairs);
+    }

@@ -1,5 +1,5 @@
 -- The desk that a head and its columns hold, and what it is for them to hold one. Read Works.antt next.
-use Prim.Native.Nat.{ℕ, _≤_, _<_}
+use Prim.Native.Nat.{ℕ, _+_, _≤_, _<_}
 use mathlib.Core.Path.{_≡_, refl}
 use mathlib.Core.Bool.{Bool, true, false}
 use mathlib.Core.List.{List, [], _∷_, _++_, map}
@@ -44,20 +44,22 @@ draftOf h columns = elim (h .is_open) [ true ↦ some (draftIn (h .slot) (valueA
 
 -- what a desk keeps beside its plans
 abbrev pub controlOf : Control → ControlOf
-controlOf c = record { station = c .station; changes = c .changes; rights = rightsOf (c .rights) }
+controlOf c = record { station = c .station; changes = c .changes; rights = rightsOf (c .rights); pairs = c .pairs }
 
 -- and its block
 abbrev pub controlIn : ControlOf → Control
-controlIn c = record { station = c .station; changes = c .changes; rights = packedRights (c .rights) }
+controlIn c = record { station = c .station; changes = c .changes; rights = packedRights (c .rights); pairs = c .pairs }
 
 -- no change more of the named station is counted
 abbrev pub fullIn : Control → Bool
 fullIn c = leb maxChanges (countIn (controlOf c))
 
--- one more is
-pub record Countable (c : Control) : Type 0 where
+-- one more is, by which so many pairs of those that are held are lost and so many kept, and the sum has 16 bits
+pub record Countable (c : Control) (lost kept : ℕ) : Type 0 where
   pub is-control : IsControl (controlOf c)
   pub room : fullIn c ≡ false
+  pub held : lost ≤ c .pairs
+  pub fits : c .pairs + kept < 65_536
 
 -- the named station's right on a slot may be asked
 pub record RightAsked (c : Control) (i : ℕ) : Type 0 where
@@ -103,7 +105,7 @@ heldHead =
       sizes = record { arity = 2; roots = 1; pairs = 2 } ∷ replicate 8 noSize;
       is_open = false;
       slot = 0;
-      control = record { station = 0; changes = 1 ∷ replicate 7 0; rights = replicate 7 0xAAAA };
+      control = record { station = 0; changes = 1 ∷ replicate 7 0; rights = replicate 7 0xAAAA; pairs = 2 };
     }
 
 abbrev heldColumns : List ℕ

@@ -42,13 +42,14 @@ pub struct Size {
     pub pairs: usize,
 }
 
-// What a desk keeps beside its plans: the station that is named, "a count of changes" for each station (change request E5), and for each
-// station but 0 its rights on the slots (change request E6).
+// What a desk keeps beside its plans: the station that is named, "a count of changes" for each station (change request E5), for each
+// station but 0 its rights on the slots (change request E6), and the sum of the pairs in all slots (change request E8).
 #[repr(C)]
 pub struct Control {
     pub station: u32,
     pub changes: [u32; STATIONS],
     pub rights: [u16; STATIONS - 1],
+    pub pairs: u16,
 }
 
 // What is known of a desk beside its words: the sizes of the blocks, whether a plan is open and for which slot, and what it keeps beside
@@ -88,7 +89,7 @@ pub struct Work {
     pub reply: Reply,
 }
 
-// Station 0 is named, every count is 0, and every right is 2.
+// Station 0 is named, every count is 0, every right is 2, and there are no pairs.
 pub fn fresh_control() -> Control
     ensures { λ r. ⌜ controlOf r ≡ freshControl ⌝ }
 {
@@ -96,6 +97,7 @@ pub fn fresh_control() -> Control
         station: 0,
         changes: [0u32; STATIONS],
         rights: [rights::ALL; STATIONS - 1],
+        pairs: 0,
     }
 }
 
@@ -117,15 +119,17 @@ pub fn is_full(head: Head) -> bool
     MAX_CHANGES <= count(head)
 }
 
-// A change of the named station counted.
-pub fn noted(control: Control) -> Control
-    requires { ⌜ Countable control ⌝ }
-    ensures { λ r. ⌜ r ≡ notedIn control ⌝ }
+// A change of the named station counted, by which so many pairs are lost and so many kept.
+pub fn noted(control: Control, lost: usize, kept: usize) -> Control
+    requires { ⌜ Countable control lost kept ⌝ }
+    ensures { λ r. ⌜ r ≡ notedIn control lost kept ⌝ }
 {
     let station = control.station as usize;
     let made = control.changes[station];
+    let pairs = control.pairs as usize - lost + kept;
     let mut next = control;
     next.changes[station] = made + 1;
+    next.pairs = pairs as u16;
     next
 }
 

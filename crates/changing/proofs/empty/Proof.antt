@@ -1,23 +1,25 @@
 -- `changing::empty` meets its contract.
-use Prim.Native.Nat.{_<_}
+use Prim.Native.Nat.{_≤_, _<_}
 use mathlib.Core.Path.{_≡_, refl, sym, _∙_, ap, ap₂, subst}
 use mathlib.Core.Bool.{true, false}
 use mathlib.Core.List.{[], _∷_, List·Memᴰ·head}
 use borrow.Author.Needs.{needs}
 use native.Mathlib.Omega.{arith}
-use Rattle.higman.specs.Limits.{slotCount}
+use Rattle.higman.specs.Limits.{maxPairs, slotCount}
 use Rattle.higman.specs.Listing.{isSlot, slotNumber}
 use Rattle.desk.specs.Desk.{Desk}
 use Rattle.desk.specs.Records.{Record, C, kind, writing}
 use Rattle.desk.specs.Replies.{pass, admission}
+use Rattle.operations.specs.declared.Plan.{Plan}
 use Rattle.slots.specs.declared.Head.{Head}
 use Rattle.slots.specs.declared.Reply.the-variants.{Ok}
 use Rattle.slots.specs.Blocks.{InColumns, sizeAt, filledHead, put}
 use Rattle.slots.specs.Desks.{fullIn, deskOf}
 use Rattle.slots.specs.Works.{admittedBy}
 use Rattle.slots.proofs.Held.{control-held, slots-eight, slot-inside}
+use Rattle.slots.proofs.Sums.{countable}
 use Rattle.slots.proofs.Steps.{admitted-named, slot-below, refused-by}
-use Rattle.changing.proofs.Emptying.{empty-already, empty-limit, empty-kept}
+use Rattle.changing.proofs.Emptying.{blank-few, empty-already, empty-limit, empty-kept}
 use Rattle.changing.proofs.empty.Statement.{statement}
 use Rattle.changing.proofs.empty.Tie as tie
 
@@ -104,7 +106,8 @@ fill-requires c κs =
     let s = begun n in
     let inside = slot-inside (s .args .t1) (s .args .columns .now) (s .pre) (n .slot-number .result) (below n) in (
       record { block = inside .block; sized = inside .sized },
-      record { is-control = control-held (s .args .t1) (s .args .columns .now) (s .pre); room = room e },
+      countable (s .args .t1) (s .args .columns .now) (s .pre) (room e) (n .slot-number .result) (below n) (c .blank .result .pairs)
+      (subst (λ (p : Plan). p .pairs ≤ maxPairs) (sym (c .blank .ensures)) blank-few),
     )
 
 returns-4 : tie.Need-returns-4

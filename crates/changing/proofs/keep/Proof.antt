@@ -8,6 +8,7 @@ use Rattle.slots.specs.declared.Reply.the-variants.{Number}
 use Rattle.slots.specs.Desks.{fullIn}
 use Rattle.columns.proofs.Limits.{pair-limit}
 use Rattle.slots.proofs.Held.{control-held, slot-inside}
+use Rattle.slots.proofs.Sums.{countable}
 use Rattle.changing.proofs.Keeping.{keep-refused, keep-limit, keep-done, few-made}
 use Rattle.changing.proofs.keep.Statement.{statement}
 use Rattle.changing.proofs.keep.Tie as tie
@@ -39,10 +40,12 @@ returns c = λ r answer m t out.
 fill-requires : tie.Need-fill-requires
 fill-requires c κs =
     let e = c .before .before in
-    let s = start (e .before .before) in
+    let g = e .before .before in
+    let s = start g in
     let inside = slot-inside (s .args .head) (s .args .columns .now) (s .pre .holds) (s .args .i) (s .pre .slot) in (
       record { block = inside .block; sized = inside .sized },
-      record { is-control = control-held (s .args .head) (s .args .columns .now) (s .pre .holds); room = room e },
+      countable (s .args .head) (s .args .columns .now) (s .pre .holds) (room e) (s .args .i) (s .pre .slot) (s .args .made .plan .pairs)
+      (few-made (s .args .made) (s .pre .answer) (s .pre .makes) (granted g)),
     )
 
 cast-t13 : tie.Need-cast-t13

@@ -24,7 +24,7 @@ returns : tie.Need-returns
 returns c =
     let a = c .before .before .args in
     let next : ℕ → Control =
-    λ row. record { station = a .t1 .station; changes = a .t1 .changes; rights = set (a .t1 .rights) (a .station - 1) row } in
+    λ row. record { station = a .t1 .station; changes = a .t1 .changes; rights = set (a .t1 .rights) (a .station - 1) row; pairs = a .t1 .pairs } in
     ap next (c .with .ensures)
 
 pub given-spec : {M : Type 1} → statement M
