@@ -1,7 +1,7 @@
-// The records that change nothing (document 01, "Records"): S compares, W routes, L lists, T counts and U surveys. Each gives its reply
-// alone. A slot's plan is lent in parts of the columns, and none is copied. What W, L and U reply is written into the output where it is
+// The records that change nothing (document 01, "Records"): S compares, W routes, L lists, T counts, U surveys, and H tells the pairs held
+// (change request E8). Each gives its reply alone. A slot's plan is lent in parts of the columns, and none is copied. What W, L and U reply is written into the output where it is
 // found, and told by its length.
-ghost use Rattle.desk.specs.Records.{S, W, L, T, U};
+ghost use Rattle.desk.specs.Records.{Record, S, W, L, T, U};
 ghost use Rattle.slots.specs.Desks.{HoldsDesk};
 ghost use Rattle.slots.specs.Works.{HeadOfDesk, Tells, TellsSilently, TellsByHead};
 ghost use Rattle.words.specs.Writing.{Wrote};
@@ -142,6 +142,20 @@ pub fn count(head: Head) -> Reply
         return Reply::Refused(numbers::WRONG_STATE);
     }
     Reply::Number(slots::count(head))
+}
+
+// H: 2, 19. "a record H from station 0 give it as `ok⇥` and the number": the sum as it is stored.
+pub fn sum(head: Head) -> Reply
+    ensures { λ r. ⌜ TellsByHead Record.H head r ⌝ }
+{
+    if head.is_open {
+        return Reply::Refused(numbers::WRONG_STATE);
+    }
+    let control = head.control;
+    if control.station != 0 {
+        return Reply::Refused(numbers::STATION_REFUSED);
+    }
+    Reply::Number(control.pairs as u32)
 }
 
 // U: 2. "`slot⇥n⇥r⇥pairs` for each held slot .. then `ok⇥` and how many", in the order of change request E2, and of readable slots alone

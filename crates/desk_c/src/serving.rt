@@ -218,6 +218,13 @@ fn perform(head: Head, columns: &mut [u64], job: Job) -> Work
     if letter == b'G' {
         return stations::grant(head, job.a, job.b, job.c);
     }
+    if letter == b'H' {
+        let reply = asking::sum(head);
+        return Work {
+            head: head,
+            reply: reply,
+        };
+    }
     slots::refused(head, slots::numbers::NO_RECORD)
 }
 

@@ -1,5 +1,5 @@
 -- The test of a head and columns for a desk, part by part, and the statement that it holds exactly where they hold one.
-use Prim.Native.Nat.{ℕ, suc}
+use Prim.Native.Nat.{ℕ, zero, suc, _+_, _≤_, _<_}
 use mathlib.Core.Path.{_≡_, refl}
 use mathlib.Core.Logic.{_↔_}
 use mathlib.Core.Bool.{Bool, true, false, _&&_}
@@ -57,10 +57,23 @@ rightsTest rows = all rowTest rows
 abbrev pub controlTest : Control → Bool
 controlTest c = isControl (controlOf c)
 
+-- the pairs of so many slots, from one of them on, by their sizes, and those of all slots
+abbrev pub sizesFrom : Head → ℕ → ℕ → ℕ
+sizesFrom h i zero = 0
+sizesFrom h i (suc n) = sizeAt h i .pairs + sizesFrom h (suc i) n
+
+unfoldable pub sizesSum : Head → ℕ
+sizesSum h = sizesFrom h 0 slotCount
+
+-- slots that have no more pairs than places, and a size for each of them
+pub record FewPairs (h : Head) : Type 0 where
+  pub headed : length (h .sizes) ≡ blockCount
+  pub few : (i : ℕ) → i < slotCount → sizeAt h i .pairs ≤ maxPairs
+
 unfoldable pub holdsTest : Head → List ℕ → Bool
 holdsTest h columns =
     controlTest (h .control) && leb (sizeAt h draftBlock .pairs) maxPairs && openTest h (valueAt h columns draftBlock)
-    && slotsTest h columns
+    && slotsTest h columns && eqb (h .control .pairs) (sizesSum h)
 
 -- a value without pairs that has a word
 abbrev value : Plan

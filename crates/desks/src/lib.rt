@@ -1,12 +1,12 @@
 // Whether a head and columns that somebody made hold a desk (document 01, "When each operation says no": "a plan or desk handed in isn't
-// one as described above"): each slot holds a kept plan or nothing, an open plan is one as P and M make it, and
-// station, counts and rights are in their ranges.
+// one as described above"): each slot holds a kept plan or nothing, an open plan is one as P and M make it, station, counts and rights are
+// in their ranges, and the stored sum is that of the pairs in the slots.
 ghost use mathlib.Core.Path.{_≡_};
 ghost use Prim.Native.Nat.{_≤_};
 ghost use Rattle.higman.specs.Limits.{maxPairs};
 ghost use Rattle.slots.specs.Desks.{draftBlock};
 ghost use Rattle.slots.specs.Blocks.{InColumns, sizeAt, valueAt};
-ghost use Rattle.desks.specs.Tested.{slotTest, slotsTest, openTest, countsTest, rowTest, rightsTest};
+ghost use Rattle.desks.specs.Tested.{slotTest, slotsTest, openTest, FewPairs, sizesSum, countsTest, rowTest, rightsTest};
 ghost use Rattle.desks.specs.Tested.{controlTest, holdsTest};
 use operations::MAX_PAIRS;
 use operations::Plan;
@@ -80,6 +80,21 @@ fn are_slots(head: Head, columns: &[u64]) -> bool
         i += 1;
     }
     true
+}
+
+// The pairs of all slots. Their sizes are added where the slots have been tested, so that no sum runs over.
+fn sum(head: Head) -> usize
+    requires { ⌜ FewPairs head ⌝ }
+    ensures { λ r. ⌜ r ≡ sizesSum head ⌝ }
+{
+    let mut sum = 0usize;
+    let mut i = 0;
+    while i < SLOTS {
+        let size = head.sizes[i];
+        sum += size.pairs;
+        i += 1;
+    }
+    sum
 }
 
 // Whether no count is over the limit, whether or not its station is named.
@@ -156,5 +171,8 @@ pub fn is_desk(desk: Desk) -> bool
     if !is_open_plan(head, &columns) {
         return false;
     }
-    are_slots(head, &columns)
+    if !are_slots(head, &columns) {
+        return false;
+    }
+    control.pairs as usize == sum(head)
 }

@@ -156,6 +156,13 @@ pub fn perform(head: Head, columns: &mut [u64], line: &[u8], record: Record, out
             slot,
             right,
         } => stations::grant(head, station, slot, right),
+        Record::Sum => {
+            let reply = asking::sum(head);
+            Work {
+                head: head,
+                reply: reply,
+            }
+        }
         Record::NoRecord => slots::refused(head, numbers::NO_RECORD),
     }
 }

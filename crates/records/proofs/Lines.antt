@@ -14,7 +14,7 @@ use Rattle.higman.specs.Refusals.{noRecord}
 use Rattle.higman.specs.Text.{Bytes, byte, tab}
 use Rattle.higman.proofs.Tests.{passes}
 use Rattle.desk.specs.Limits.{maxLine}
-use Rattle.desk.specs.Records.{Record, E, T, U, Rule, inFront, fields, grammar, noMore, readBy, readFields, parse}
+use Rattle.desk.specs.Records.{Record, E, T, U, H, Rule, inFront, fields, grammar, noMore, readBy, readFields, parse}
 use Rattle.desk.specs.Replies.{Outcome, refuse, pass}
 use Rattle.records.specs.declared.Record.the-variants.{NoRecord}
 use Rattle.records.specs.Reading.{placedBy, readLine}
@@ -42,19 +42,19 @@ none-read {b} {fs} (nothing {rule} {rules} h rest) = by-letter (passes (eqb b (r
     by-letter (inl e) left = rw (e, readBy) h
     by-letter (inr e) left = rw (e, readBy) left
 
--- a letter that stands alone, but for E, T and U: the other rules ask for fields
-module _ (b : ℕ) (not-E : b ≡ byte "E" → ⊥) (not-T : b ≡ byte "T" → ⊥) (not-U : b ≡ byte "U" → ⊥) where
+-- a letter that stands alone, but for E, T, U and H: the other rules ask for fields
+module _ (b : ℕ) (not-E : b ≡ byte "E" → ⊥) (not-T : b ≡ byte "T" → ⊥) (not-U : b ≡ byte "U" → ⊥) (not-H : b ≡ byte "H" → ⊥) where
   no-rule-alone : NoRule b [] grammar
   unfolding grammar
   no-rule-alone =
       nothing refl (nothing refl (other not-E (nothing refl (nothing refl (nothing refl (nothing refl (nothing refl
-      (nothing refl (nothing refl (other not-T (other not-U (nothing refl (nothing refl (nothing refl no-more))))))))))))))
+      (nothing refl (nothing refl (other not-T (other not-U (nothing refl (nothing refl (nothing refl (other not-H no-more)))))))))))))))
 
   pub other-alone : NoRecord ≡ alone b
   unfolding alone
   other-alone = sym (ap placedIf (none-read no-rule-alone))
 
--- a letter with fields behind it, but for those of the code: E, T and U take none
+-- a letter with fields behind it, but for those of the code: E, T, U and H take none
 pub record OtherLetter (b : ℕ) : Type 0 where
   pub not-P : b ≡ byte "P" → ⊥
   pub not-M : b ≡ byte "M" → ⊥
@@ -78,7 +78,7 @@ module _ (b : ℕ) (o : OtherLetter b) (l : Bytes) where
   no-rule-behind =
       other (o .not-P) (other (o .not-M) (nothing (none-taken E l) (other (o .not-F) (other (o .not-I) (other (o .not-K) (other (o .not-S)
       (other (o .not-W) (other (o .not-L) (other (o .not-C) (nothing (none-taken T l) (nothing (none-taken U l)
-      (other (o .not-X) (other (o .not-Z) (other (o .not-G) no-more))))))))))))))
+      (other (o .not-X) (other (o .not-Z) (other (o .not-G) (nothing (none-taken H l) no-more)))))))))))))))
 
   pub other-behind : NoRecord ≡ behindLetter b l
   unfolding behindLetter

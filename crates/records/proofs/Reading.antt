@@ -14,7 +14,7 @@ use Rattle.higman.specs.Refusals.{noRecord}
 use Rattle.higman.specs.Text.{Bytes, byte, tab, decimal}
 use Rattle.higman.proofs.Tests.{and-left, and-right}
 use Rattle.desk.specs.Limits.{maxLine, maxNumeral, maxSplitsNumeral, maxSeedNumeral}
-use Rattle.desk.specs.Records.{Record, P, M, E, F, I, K, S, W, L, C, U, X, Z, G, parse, recordFields, recordText}
+use Rattle.desk.specs.Records.{Record, P, M, E, F, I, K, S, W, L, C, U, X, Z, G, H, parse, recordFields, recordText}
 use Rattle.desk.specs.Records.{Right, noRight, mayRead, mayWrite, rightNumber}
 use Rattle.desk.specs.Records.{noTab, numbersFit, hasDigits, signedDecimal, wellFormed}
 use Rattle.desk.specs.Replies.{Outcome, refuse, pass, recordOf, grantBy}
@@ -93,6 +93,7 @@ placed-means line U e = refl
 placed-means line (X a n r s seed) e = refl
 placed-means line (Z s) e = refl
 placed-means line (G s a x) e = right-means s a x
+placed-means line H e = refl
 
 below-of-digits : (m n : ℕ) → T (hasDigits m n) → n < 10 ^ m
 below-of-digits m n h = number-below m (decimal n) n (number-exact m .reads n h)
@@ -130,6 +131,7 @@ placed-in-bounds line (X a n r s seed) h e =
     )
 placed-in-bounds line (Z s) h e = one-digit s h
 placed-in-bounds line (G s a x) h e = (one-digit s h, right-within x)
+placed-in-bounds line H h e = tt
 
 -- What holds of a line that is no record, and of every record in the line that is its text, holds of what a line is read as.
 module _ (line : Bytes) (Q : Outcome Record → Type 0) (refused : Q (refuse noRecord none))

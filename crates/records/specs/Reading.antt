@@ -10,12 +10,12 @@ use lib.ListN.{length, take, drop, replicate}
 use Rattle.higman.specs.Refusals.{noRecord}
 use Rattle.higman.specs.Text.{Bytes, byte, bytes}
 use Rattle.desk.specs.Limits.{maxLine, maxNumeral, maxSplitsNumeral, maxSeedNumeral}
-use Rattle.desk.specs.Records.{Record as DeskRecord, P, M, E, F, I, K, S, W, L, C, T, U, X, Z, G, mayWrite, rightNumber, grammar, parse}
+use Rattle.desk.specs.Records.{Record as DeskRecord, P, M, E, F, I, K, S, W, L, C, T, U, X, Z, G, H, mayWrite, rightNumber, grammar, parse}
 use Rattle.desk.specs.Replies.{Outcome, refuse, pass, recordOf, grantBy}
 use Rattle.records.specs.declared.Part.{Part}
 use Rattle.records.specs.declared.Record.{Record}
 use Rattle.records.specs.declared.Record.the-variants.{Open, Pair, Close, Follow, Invert, Power, Same, Route}
-use Rattle.records.specs.declared.Record.the-variants.{List, Empty, Count, Survey, Exercise, Station, Grant, NoRecord}
+use Rattle.records.specs.declared.Record.the-variants.{List, Empty, Count, Survey, Exercise, Station, Grant, Sum, NoRecord}
 
 -- so many bytes from a place on
 abbrev pub part : ℕ → ℕ → Part
@@ -39,6 +39,7 @@ placed U = Survey
 placed (X a n r s seed) = Exercise a n r s seed
 placed (Z s) = Station s
 placed (G s a x) = Grant s a (rightNumber x)
+placed H = Sum
 
 -- "Every record: 1, unknown letter, wrong number of fields, a field form, or a line too long": the one refusal of `recordOf`
 abbrev pub placedBy : Outcome DeskRecord → Record
@@ -69,6 +70,7 @@ meant line Survey = pass U
 meant line (Exercise a n r s seed) = pass (X a n r s seed)
 meant line (Station s) = pass (Z s)
 meant line (Grant s a x) = grantBy s a x
+meant line Sum = pass H
 meant line NoRecord = refuse noRecord none
 
 -- a part that can be lent: it stands within the line
@@ -94,6 +96,7 @@ InBounds line Survey = Unit {0}
 InBounds line (Exercise a n r s seed) = (n ≤ 9) × (r ≤ 9) × (s < 10 ^ maxSplitsNumeral) × (seed < 10 ^ maxSeedNumeral)
 InBounds line (Station s) = s ≤ 9
 InBounds line (Grant s a x) = (s ≤ 9) × (x ≤ 2)
+InBounds line Sum = Unit {0}
 InBounds line NoRecord = Unit {0}
 
 -- What is read of a line means the record that the definitions give, refusal 1 included, and is in bounds.
@@ -102,10 +105,11 @@ pub record ReadExact : Type 0 where
   pub in-bounds : (line : Bytes) → InBounds line (readLine line)
 
 -- the numbers of P, the places of M's words, one of them empty, K's number, the place of W's code, the numbers of X, X with a tab at its
--- end, a slot of two bytes, Z's station, a station of two digits, G's numbers and slot, a right of 3, and G with a station of two digits
+-- end, a slot of two bytes, Z's station, a station of two digits, G's numbers and slot, a right of 3, G with a station of two digits, H, and
+-- H with a tab behind it
 readLine-example : map (λ l. readLine (bytes l))
     ("P\tA\t2\t1" ∷ "M\t11\t" ∷ "K\tA\t-2\tz" ∷ "W\tA\t1122" ∷ "X\tA\t2\t1\t10\t0" ∷ "X\tA\t2\t1\t1\t7\t" ∷ "L\tAB" ∷ "Z\t7" ∷ "Z\t10"
-    ∷ "G\t1\tA\t2" ∷ "G\t1\tA\t3" ∷ "G\t10\tA\t2" ∷ [])
+    ∷ "G\t1\tA\t2" ∷ "G\t1\tA\t3" ∷ "G\t10\tA\t2" ∷ "H" ∷ "H\t" ∷ [])
     ≡ Open (byte "A") 2 1
     ∷ Pair (part 2 2) (part 5 0)
     ∷ Power (byte "A") (negsuc 1) (byte "z")
@@ -117,6 +121,8 @@ readLine-example : map (λ l. readLine (bytes l))
     ∷ NoRecord
     ∷ Grant 1 (byte "A") 2
     ∷ NoRecord
+    ∷ NoRecord
+    ∷ Sum
     ∷ NoRecord
     ∷ []
 unfolding readLine rightNumber parse grammar maxLine maxNumeral maxSplitsNumeral maxSeedNumeral

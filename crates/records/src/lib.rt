@@ -100,6 +100,8 @@ pub enum Record {
         slot: u8,
         right: u8,
     },
+    // H
+    Sum,
     // no record: refusal 1
     NoRecord,
 }
@@ -355,6 +357,7 @@ fn read_alone(letter: u8) -> Record
         b'E' => Record::Close,
         b'T' => Record::Count,
         b'U' => Record::Survey,
+        b'H' => Record::Sum,
         _ => Record::NoRecord,
     }
 }
