@@ -7,7 +7,7 @@ use mathlib.Core.Option.{Option, none, some, Option·none-ne-some, Option·some-
 use native.Mathlib.Numerals.{add-one}
 use native.Mathlib.Omega.{arith}
 use borrow.Author.Tests.{eqb-true, eqb-false, ltb-true, ltb-false, eq-eqb}
-use lib.Dec.{T, leb, eqb, ltb, leb→le, le→leb}
+use lib.Dec.{T, leb, eqb, ltb, leb→le, le→leb, eqb→eq, eqb-refl}
 use lib.ListN.{length, getD, take, drop, length-map, length-drop, List·getD-eq-default}
 use lib.Seq.{length-take-le}
 use Rattle.higman.specs.Words.{Shape, count, isWord}
@@ -18,11 +18,12 @@ use Rattle.higman.proofs.PlanWords.{word-of-plan-word, plan-word-fits}
 use Rattle.higman.proofs.Tests.{so, T-of, and-left, and-right, and-intro, all-head, all-tail, all-cons, all-at, all-of, count-mem, count-bounds}
 use Rattle.columns.specs.Packed.{wordsOf}
 use Rattle.columns.proofs.Rows.{rows-length}
-use Rattle.desk.specs.Desk.{Draft, Desk, IsDraft, IsControl, IsDesk, held}
+use Rattle.desk.specs.Desk.{Draft, Desk, IsDraft, IsControl, IsDesk, held, pairsOfSlots}
 use Rattle.desk.proofs.Desks.{control-test}
 use Rattle.operations.specs.declared.Plan.{Plan}
 use Rattle.operations.specs.Plans.{shapeOf, rowsOf, planOf, zeros, inTable, isPlan}
 use Rattle.operations.proofs.KeptValues.{kept-plan}
+use Rattle.operations.proofs.Values.{few-in-table}
 use Rattle.operations.proofs.Verdicts.{words-of-plan, froms-rows, tos-rows}
 use Rattle.slots.specs.declared.Head.{Head}
 use Rattle.slots.specs.Blocks.{blockCount, columnsSize, fromPlace, toPlace, sizeAt, valueAt}
@@ -30,7 +31,8 @@ use Rattle.slots.specs.Desks.{draftBlock, heldBy, slotAt, slotsOf, draftIn, dra
 use Rattle.columns.proofs.Limits.{pair-limit}
 use Rattle.slots.proofs.Held.{held-at, slot-plan}
 use Rattle.changing.proofs.Drafts.{open-draft, draft-columns}
-use Rattle.desks.specs.Tested.{slotTest, slotsTest, wordsTest, openTest, controlTest, holdsTest, HoldsExact}
+use Rattle.desks.specs.Tested.{slotTest, slotsTest, wordsTest, openTest, controlTest, sizesSum, holdsTest, HoldsExact}
+use Rattle.desks.proofs.Sums.{held-sum}
 
 -- a value that a slot may hold has its pairs in its table, and what it holds is kept
 slot-table : (v : Plan) → T (slotTest v) → T (inTable v)
@@ -44,6 +46,13 @@ slot-table v t = by (eqb (v .pairs) 0) refl t
         (and-intro (leb 0 maxPairs) (zeros (v .from)) (le→leb 0 maxPairs (omega arith)) (and-left (zeros (v .from)) (zeros (v .to)) z))
         (and-right (zeros (v .from)) (zeros (v .to)) z))
     by false e p = kept-plan v p .0
+
+-- and so few pairs that they can be added up
+pub few-tested : (h : Head) (columns : List ℕ) → T (slotsTest h columns) → (i : ℕ) → i < slotCount → sizeAt h i .pairs ≤ maxPairs
+unfolding valueAt
+few-tested h columns t i k =
+    few-in-table (valueAt h columns i) (slot-table (valueAt h columns i)
+    (all-at (λ j. slotTest (valueAt h columns j)) (count 0 slotCount) t i (count-mem 0 slotCount i (omega arith) (omega (arith, k)))))
 
 slot-keeps : (v : Plan) → T (slotTest v) → (p : PlanOf) → heldBy v ≡ some p → Kept p
 slot-keeps v t p = by (eqb (v .pairs) 0) t
@@ -78,12 +87,15 @@ module _ (h : Head) (columns : List ℕ) (headed : length (h .sizes) ≡ blockCo
   unfolding valueAt
   to-long = length-take-le maxPairs (drop (toPlace draftBlock) columns) (omega (arith, pair-limit, length-drop (toPlace draftBlock) columns))
 
-  -- the four parts of the test
+  -- parts of the test
   abbrev counts : Bool
   counts = controlTest (h .control)
 
   abbrev small : Bool
   small = leb (sizeAt h draftBlock .pairs) maxPairs
+
+  abbrev summed : Bool
+  summed = eqb (h .control .pairs) (sizesSum h)
 
   open-is-draft : (n : v .pairs ≤ maxPairs) → (w : T (leb (suc (h .slot)) slotCount && shapeInRange (shapeOf v) && wordsTest v (v .from) && wordsTest v (v .to)))
       → IsDraft (draftIn (h .slot) v)
@@ -111,24 +123,30 @@ module _ (h : Head) (columns : List ℕ) (headed : length (h .sizes) ≡ blockCo
     abbrev opens : Bool
     opens = openTest h v
 
+    tested : T (counts && small && opens && slotsTest h columns)
+    unfolding holdsTest
+    tested = and-left (counts && small && opens && slotsTest h columns) summed t
+
     control-passes : IsControl (controlOf (h .control))
     unfolding holdsTest
     control-passes =
         control-test (controlOf (h .control)) .0
-        (and-left counts small (and-left (counts && small) opens (and-left (counts && small && opens) (slotsTest h columns) t)))
+        (and-left counts small (and-left (counts && small) opens (and-left (counts && small && opens) (slotsTest h columns) tested)))
 
     pairs-few : sizeAt h draftBlock .pairs ≤ maxPairs
     unfolding holdsTest
-    pairs-few = leb→le (sizeAt h draftBlock .pairs) maxPairs (and-right counts small (and-left (counts && small) opens (and-left (counts && small && opens) (slotsTest h columns) t)))
+    pairs-few =
+        leb→le (sizeAt h draftBlock .pairs) maxPairs
+        (and-right counts small (and-left (counts && small) opens (and-left (counts && small && opens) (slotsTest h columns) tested)))
 
     is-open : T opens
     unfolding holdsTest
-    is-open = and-right (counts && small) opens (and-left (counts && small && opens) (slotsTest h columns) t)
+    is-open = and-right (counts && small) opens (and-left (counts && small && opens) (slotsTest h columns) tested)
 
     slot-tested : (i : ℕ) → i < slotCount → T (slotTest (valueAt h columns i))
     unfolding holdsTest
     slot-tested i k =
-        all-at (λ j. slotTest (valueAt h columns j)) (count 0 slotCount) (and-right (counts && small && opens) (slotsTest h columns) t) i
+        all-at (λ j. slotTest (valueAt h columns j)) (count 0 slotCount) (and-right (counts && small && opens) (slotsTest h columns) tested) i
         (count-mem 0 slotCount i (omega arith) (omega arith))
 
     eight : length (slotsOf h columns) ≡ slotCount
@@ -153,14 +171,23 @@ module _ (h : Head) (columns : List ℕ) (headed : length (h .sizes) ≡ blockCo
         by true w q = subst IsDraft (Option·some-injective (draftIn (h .slot) v) o q) (open-is-draft pairs-few w)
         by false w q = absurd (Option·none-ne-some o q)
 
+    in-table : (i : ℕ) → i < slotCount → T (inTable (valueAt h columns i))
+    in-table i k = slot-table (valueAt h columns i) (slot-tested i k)
+
+    sum-stored : h .control .pairs ≡ pairsOfSlots (slotsOf h columns)
+    unfolding holdsTest
+    sum-stored =
+        eqb→eq (h .control .pairs) (sizesSum h) (and-right (counts && small && opens && slotsTest h columns) summed t)
+        ∙ sym (held-sum h columns sized in-table)
+
     holds : HoldsDesk h columns
     unfolding deskOf
     holds =
         record {
           sized = sized;
           headed = headed;
-          is-desk = record { eight = eight; kept = kept-in; drafted = drafted-in; control = control-passes };
-          in-tables = λ i k. slot-table (valueAt h columns i) (slot-tested i k);
+          is-desk = record { eight = eight; kept = kept-in; drafted = drafted-in; control = control-passes; summed = sum-stored };
+          in-tables = in-table;
           few = pairs-few;
         }
 
@@ -200,11 +227,14 @@ module _ (h : Head) (columns : List ℕ) (headed : length (h .sizes) ≡ blockCo
     unfolding holdsTest deskOf
     passes =
         let opens = openTest h v in
-        and-intro (counts && small && opens) (slotsTest h columns)
+        let equal = H .is-desk .summed ∙ held-sum h columns sized (H .in-tables) in
+        and-intro (counts && small && opens && slotsTest h columns) summed
+        (and-intro (counts && small && opens) (slotsTest h columns)
         (and-intro (counts && small) opens
         (and-intro counts small (control-test (controlOf (h .control)) .1 (H .is-desk .control))
         (le→leb (sizeAt h draftBlock .pairs) maxPairs (H .few))) open-passes)
-        (all-of (λ j. slotTest (valueAt h columns j)) (count 0 slotCount) (λ i m. slot-passes i (omega (arith, count-bounds 0 slotCount i m))))
+        (all-of (λ j. slotTest (valueAt h columns j)) (count 0 slotCount) (λ i m. slot-passes i (omega (arith, count-bounds 0 slotCount i m)))))
+        (subst (λ n. T (eqb (h .control .pairs) n)) equal (eqb-refl (h .control .pairs)))
 
 pub holds-exact : HoldsExact
 holds-exact h columns headed sized = (holds h columns headed sized, passes h columns headed sized)

@@ -65,10 +65,9 @@ sizesFrom h i (suc n) = sizeAt h i .pairs + sizesFrom h (suc i) n
 unfoldable pub sizesSum : Head → ℕ
 sizesSum h = sizesFrom h 0 slotCount
 
--- slots that have no more pairs than places, and a size for each of them
-pub record FewPairs (h : Head) : Type 0 where
-  pub headed : length (h .sizes) ≡ blockCount
-  pub few : (i : ℕ) → i < slotCount → sizeAt h i .pairs ≤ maxPairs
+-- no slot has more pairs than places
+abbrev pub FewPairs : Head → Type 0
+FewPairs h = (i : ℕ) → i < slotCount → sizeAt h i .pairs ≤ maxPairs
 
 unfoldable pub holdsTest : Head → List ℕ → Bool
 holdsTest h columns =

@@ -62,7 +62,18 @@ set-count f g x a (suc n) (suc i) h e same =
     ap₂ _∷_ (same a (omega arith) (omega arith) (λ q. omega arith))
     (set-count f g x (suc a) n i (le-of-suc-le-suc h) (ap g next ∙ e) (λ j b k q. same j (omega arith) (omega arith) (λ r. q (r ∙ sym next))))
 
--- the two columns of a block
+-- the pairs of what a value holds
+value-pairs : (v : Plan) → T (inTable v) → length (v .from) ≡ maxPairs → length (v .to) ≡ maxPairs → pairsOfSlot (heldBy v) ≡ v .pairs
+value-pairs v t from to = by (eqb (v .pairs) 0) refl
+  where
+    few : v .pairs ≤ maxPairs
+    few = few-in-table v t
+
+    by : (b : Bool) → eqb (v .pairs) 0 ≡ b → pairsOfSlot (elim b [ true ↦ none | false ↦ some (planOf v) ]) ≡ v .pairs
+    by true e = sym (eqb-true (v .pairs) 0 e)
+    by false e = rows-length (v .pairs) (v .from) (v .to) (omega (arith, few, from)) (omega (arith, few, to))
+
+-- the two columns of a block, and its pairs
 module _ (h : Head) (columns : List ℕ) (i : ℕ) (inside : InColumns i columns) where
   value-from : length (valueAt h columns i .from) ≡ maxPairs
   unfolding valueAt
@@ -76,16 +87,9 @@ module _ (h : Head) (columns : List ℕ) (i : ℕ) (inside : InColumns i columns
       length-take-le maxPairs (drop (toPlace i) columns)
       (omega (arith, pair-limit, length-drop (toPlace i) columns, inside .sized, inside .block))
 
--- the pairs of what a value holds
-value-pairs : (v : Plan) → T (inTable v) → length (v .from) ≡ maxPairs → length (v .to) ≡ maxPairs → pairsOfSlot (heldBy v) ≡ v .pairs
-value-pairs v t from to = by (eqb (v .pairs) 0) refl
-  where
-    few : v .pairs ≤ maxPairs
-    few = few-in-table v t
-
-    by : (b : Bool) → eqb (v .pairs) 0 ≡ b → pairsOfSlot (elim b [ true ↦ none | false ↦ some (planOf v) ]) ≡ v .pairs
-    by true e = sym (eqb-true (v .pairs) 0 e)
-    by false e = rows-length (v .pairs) (v .from) (v .to) (omega (arith, few, from)) (omega (arith, few, to))
+  pub block-pairs : T (inTable (valueAt h columns i)) → pairsOfSlot (slotAt h columns i) ≡ sizeAt h i .pairs
+  unfolding valueAt
+  block-pairs t = value-pairs (valueAt h columns i) t value-from value-to
 
 module _ (h : Head) (columns : List ℕ) where
   pub open-is : isOpen (deskOf h columns) ≡ h .is_open
@@ -132,15 +136,8 @@ module _ (h : Head) (columns : List ℕ) where
     unfolding slotCount
     slot-inside i k = record { block = omega arith; sized = H .sized }
 
-    -- the pairs of what a slot holds are those of its size
-    pub block-pairs : (i : ℕ) → i < slotCount → pairsOfSlot (slotAt h columns i) ≡ sizeAt h i .pairs
-    unfolding valueAt
-    block-pairs i k =
-        let inside = slot-inside i k in
-        value-pairs (valueAt h columns i) (H .in-tables i k) (value-from h columns i inside) (value-to h columns i inside)
-
     pub slot-pairs : (i : ℕ) → i < slotCount → pairsOfSlot (held (deskOf h columns) i) ≡ sizeAt h i .pairs
-    slot-pairs i k = ap pairsOfSlot (held-at i k) ∙ block-pairs i k
+    slot-pairs i k = ap pairsOfSlot (held-at i k) ∙ block-pairs h columns i (slot-inside i k) (H .in-tables i k)
 
     -- The head and columns after a plan, or no plan, was put into a slot.
     module _ (i : ℕ) (k : i < slotCount) (p : Plan) (from : length (p .from) ≡ maxPairs) (to : length (p .to) ≡ maxPairs) where
