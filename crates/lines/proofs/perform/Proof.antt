@@ -208,7 +208,17 @@ returns-16 c =
     let r = c .before in
     let s = start (r .before .before) in
     let a = s .args in
-    no-line (a .head) (a .columns .now) (s .pre .asked .holds) (a .line .now) (a .«record») (a .out .now) (c .refused .result) (r .enum-told4 .given .1) (c .refused .ensures)
+    line-told (a .head) (a .columns .now) (s .pre .asked .holds) (a .line .now) (a .«record») (a .out .now) _ _ _ _
+    (r .enum-told4 .given .1) refl
+    (c .sum .ensures (a .columns .now) (a .out .now))
+
+returns-17 : tie.Need-returns-17
+returns-17 c =
+    let r = c .before in
+    let s = start (r .before .before) in
+    let a = s .args in
+    no-line (a .head) (a .columns .now) (s .pre .asked .holds) (a .line .now) (a .«record») (a .out .now) (c .refused .result)
+    (r .enum-told5 .given .1) (c .refused .ensures)
 
 pub perform-spec : {M : Type 1} → statement M
 perform-spec =
@@ -255,6 +265,8 @@ perform-spec =
     (λ c κs. search needs)
     (λ c. search needs)
     (λ c κs. search needs)
+    (λ c. search needs)
+    (λ c κs. search needs)
     returns
     (λ c. search needs)
     returns-2
@@ -283,4 +295,5 @@ perform-spec =
     returns-13
     returns-14
     returns-15
-    returns-16)
+    returns-16
+    returns-17)
