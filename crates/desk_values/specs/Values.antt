@@ -24,7 +24,7 @@ use Rattle.slots.specs.declared.Control.{Control}
 use Rattle.slots.specs.declared.Head.{Head}
 use Rattle.slots.specs.Blocks.{blockCount, columnsSize, noSize, sizeOf, valueAt}
 use Rattle.slots.specs.Desks.{draftBlock, controlIn, deskOf}
-use Rattle.desks.specs.Tested.{holdsTest}
+use Rattle.desks.specs.Tested.{sizesSum, holdsTest}
 use Rattle.desk_values.specs.declared.Desk.{Desk}
 
 -- the letter of a slot where a plan is open for it, and 0 where none is open
@@ -131,7 +131,7 @@ opened = withDraft held (record { slot = 1; shape = record { arity = 2; roots = 
 
 -- their values are desks, and hold them
 isDeskValue-example : map (λ d. isDeskValue (packedDesk d)) (freshDesk ∷ held ∷ opened ∷ []) ≡ true ∷ true ∷ true ∷ []
-unfolding isDeskValue packedDesk valueAt holdsTest isPlan inTable isKept shapeInRange granted isPlanWord maxPairs maxDigits maxChanges
+unfolding isDeskValue packedDesk valueAt holdsTest sizesSum isPlan inTable isKept shapeInRange granted isPlanWord maxPairs maxDigits maxChanges
     maxRight slotCount stationCount areRights isControl verdict keep normalForm normal joined packed blank pack packOn unpack unpackIn
     freshDesk changed withDraft
 isDeskValue-example = refl
@@ -142,7 +142,7 @@ unfolding deskIn packedDesk deskOf valueAt maxPairs slotCount stationCount maxRi
 deskIn-example = refl
 
 -- a word behind the pairs of a slot; a shape of an empty slot; a letter where no plan is open; a byte that is no slot's; a station above 7;
--- a count above the limit, of a station that isn't named; and a right of 3, of station 7 on slot H
+-- a count above the limit, of a station that isn't named; a right of 3, of station 7 on slot H; and a sum that is one too low or too high
 abbrev spoiled : List Desk
 spoiled =
     let v = packedDesk held in
@@ -155,26 +155,28 @@ spoiled =
     }
     ∷ record { blocks = v .blocks; opened = 65; control = v .control; columns = v .columns }
     ∷ record { blocks = v .blocks; opened = 1; control = v .control; columns = v .columns }
-    ∷ record { blocks = v .blocks; opened = 0; control = keeping 8 (v .control .changes) (v .control .rights); columns = v .columns }
+    ∷ record { blocks = v .blocks; opened = 0; control = keeping 8 (v .control .changes) (v .control .rights) 2; columns = v .columns }
     ∷ record {
       blocks = v .blocks;
       opened = 0;
-      control = keeping 0 (set (v .control .changes) 7 4_000_000_001) (v .control .rights);
+      control = keeping 0 (set (v .control .changes) 7 4_000_000_001) (v .control .rights) 2;
       columns = v .columns;
     }
     ∷ record {
       blocks = v .blocks;
       opened = 0;
-      control = keeping 0 (v .control .changes) (set (v .control .rights) 6 0xEAAA);
+      control = keeping 0 (v .control .changes) (set (v .control .rights) 6 0xEAAA) 2;
       columns = v .columns;
     }
+    ∷ record { blocks = v .blocks; opened = 0; control = keeping 0 (v .control .changes) (v .control .rights) 1; columns = v .columns }
+    ∷ record { blocks = v .blocks; opened = 0; control = keeping 0 (v .control .changes) (v .control .rights) 3; columns = v .columns }
     ∷ []
   where
-    keeping : ℕ → List ℕ → List ℕ → Control
-    keeping station changes rights = record { station = station; changes = changes; rights = rights }
+    keeping : ℕ → List ℕ → List ℕ → ℕ → Control
+    keeping station changes rights pairs = record { station = station; changes = changes; rights = rights; pairs = pairs }
 
-spoiled-example : map isDeskValue spoiled ≡ false ∷ false ∷ false ∷ false ∷ false ∷ false ∷ false ∷ []
-unfolding isDeskValue packedDesk valueAt holdsTest isPlan inTable isKept shapeInRange granted isPlanWord maxPairs maxDigits maxChanges
+spoiled-example : map isDeskValue spoiled ≡ false ∷ false ∷ false ∷ false ∷ false ∷ false ∷ false ∷ false ∷ false ∷ []
+unfolding isDeskValue packedDesk valueAt holdsTest sizesSum isPlan inTable isKept shapeInRange granted isPlanWord maxPairs maxDigits maxChanges
     maxRight slotCount stationCount areRights isControl verdict keep normalForm normal joined packed blank pack packOn unpack unpackIn
     freshDesk changed withDraft
 spoiled-example = refl
