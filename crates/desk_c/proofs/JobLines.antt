@@ -23,7 +23,7 @@ use Rattle.higman.proofs.Exercises.{exercises-exact}
 use Rattle.desk.specs.Limits.{maxLine, maxNumeral, maxSplitsNumeral, maxSeedNumeral}
 use Rattle.desk.specs.Desk.{Desk as DeskOf, IsDesk, isStation}
 use Rattle.desk.specs.Records.{Record, P, M, E, F, I, K, S, W, L, C, T as Tᴿ, U, X, Z, recordFields, recordText, noTab, hasDigits}
-use Rattle.desk.specs.Records.{signedDecimal, numbersFit, wellFormed, SlotUse, slotsNamed, kind, G, Right, noRight, mayRead, mayWrite}
+use Rattle.desk.specs.Records.{signedDecimal, numbersFit, wellFormed, SlotUse, slotsNamed, kind, G, H, Right, noRight, mayRead, mayWrite}
 use Rattle.desk.specs.Records.{rightNumber}
 use Rattle.desk.specs.Replies.{Reply, silent, ok, okNumber, okImage, okBlock, lists, surveys, refuses, Outcome, refuse, pass, Effect}
 use Rattle.desk.specs.Replies.{ofAnswer, job, operation, grantBy}
@@ -77,9 +77,10 @@ job-record (Z s) j (l, x) =
 job-record (G s a x) j (l, u, y, z) =
     (λ i. jobRecord (record { letter = l i; a = u i; b = y i; c = z i; k = j .k; seed = j .seed; splits = j .splits }))
     ∙ demands .demand2 .rights .by-number s a x
+job-record H j l = λ i. jobRecord (record { letter = l i; a = j .a; b = j .b; c = j .c; k = j .k; seed = j .seed; splits = j .splits })
 
--- its letter is one of eleven, and the splits of X have two digits at most
-pub letter-known : (r : Record) (j : Job) → IsJobOf r j → List·Memᴰ (j .letter) (bytes "PEFIKSCTXZG")
+-- its letter is one of twelve, and the splits of X have two digits at most
+pub letter-known : (r : Record) (j : Job) → IsJobOf r j → List·Memᴰ (j .letter) (bytes "PEFIKSCTXZGH")
 letter-known (P a n r) j h = List·Memᴰ·head (h .0)
 letter-known (M from to) j h = absurd h
 letter-known E j h = List·Memᴰ·tail (List·Memᴰ·head h)
@@ -97,6 +98,9 @@ letter-known (Z s) j h = List·Memᴰ·tail (List·Memᴰ·tail (List·Memᴰ·t
 letter-known (G s a x) j h = List·Memᴰ·tail (List·Memᴰ·tail (List·Memᴰ·tail
     (List·Memᴰ·tail (List·Memᴰ·tail (List·Memᴰ·tail (List·Memᴰ·tail
     (List·Memᴰ·tail (List·Memᴰ·tail (List·Memᴰ·tail (List·Memᴰ·head (h .0)))))))))))
+letter-known H j h = List·Memᴰ·tail (List·Memᴰ·tail (List·Memᴰ·tail
+    (List·Memᴰ·tail (List·Memᴰ·tail (List·Memᴰ·tail (List·Memᴰ·tail
+    (List·Memᴰ·tail (List·Memᴰ·tail (List·Memᴰ·tail (List·Memᴰ·tail (List·Memᴰ·head h)))))))))))
 
 pub splits-few : (r : Record) (j : Job) → IsJobOf r j → j .letter ≡ byte "X" → j .splits ≤ 99
 splits-few (P a n r) j h e = absurd (omega arith)
@@ -114,6 +118,7 @@ splits-few U j h e = absurd h
 splits-few (X a n r s seed) j h e = omega arith
 splits-few (Z s) j h e = absurd (omega arith)
 splits-few (G s a x) j h e = absurd (omega arith)
+splits-few H j h e = absurd (omega arith)
 
 -- nor is G with a right above 2 a record's job
 pub none-above : (j : Job) → j .letter ≡ byte "G" → 2 < j .c → (r : Record) → IsJobOf r j → ⊥
@@ -168,7 +173,8 @@ module _ (j : Job) where
       (by-letter (byte "T") _ _ (λ l. inl (Tᴿ, refl, l))
       (by-letter (byte "X") _ _ exercise-read
       (by-letter (byte "Z") _ _ (λ l. inl (Z (j .a), refl, (l, refl)))
-      (by-letter (byte "G") _ _ grant-read (inr refl)))))))))))
+      (by-letter (byte "G") _ _ grant-read
+      (by-letter (byte "H") _ _ (λ l. inl (H, refl, l)) (inr refl))))))))))))
 
 -- the digits of a number that fits its field
 digits : (m k : ℕ) → T (hasDigits m k) → length (decimal k) ≤ m
@@ -226,6 +232,7 @@ text-short (G s a x) j h wf =
     let s-digits = digits 1 s (fit (G s a x) wf) in
     let right = decimal (rightNumber x) in
     omega (arith, right-digit x, length-append (decimal s) (tab ∷ a ∷ tab ∷ right))
+text-short H j h wf = omega arith
 
 -- fields of slots and of numbers have no tab
 slot-field : (a : ℕ) → T (isSlot a) → T (noTab (a ∷ []))
@@ -351,6 +358,7 @@ module _ (d : DeskOf) where
       let u = slots-of d (G s a x) t in
       always (job d (G s a x)) (formed (G s a x) (tt, (number-field s, (slot-field a (u .0), (number-field (rightNumber x), tt))))
       (omega arith)))
+  done-well-formed H j h = always (operation d H) tt
 
   -- what is done replies with nothing, `ok` or a number
   abbrev pub Plain : Reply → Type 0
@@ -380,6 +388,7 @@ module _ (d : DeskOf) where
   job-plain (X a n r s seed) j h = any-then _ (λ _. any-then _ (λ _. passes tt))
   job-plain (Z s) j h = passes tt
   job-plain (G s a x) j h = any-then _ (λ _. passes tt)
+  job-plain H j h = any-then _ (λ _. passes tt)
 
   pub replies-plainly : (r : Record) (j : Job) → IsJobOf r j → Passes (λ (e : Effect). Plain (e .1)) (operation d r)
   replies-plainly r j h = passes-operation d r (λ _. job-plain r j h)
@@ -422,6 +431,7 @@ numbers-positive d U = tt
 numbers-positive d (X a n r s seed) = tt
 numbers-positive d (Z s) = tt
 numbers-positive d (G s a x) = tt
+numbers-positive d H = tt
 
 pub refusal-positive : (d : DeskOf) → IsDesk d → (r : Record) (n : ℕ) (c : Option Letter) → operation d r ≡ refuse n c → 1 ≤ n
 refusal-positive d D r n c e =

@@ -14,7 +14,7 @@ use Rattle.higman.specs.Limits.{maxPairs, slotCount}
 use Rattle.higman.specs.Refusals.{noRecord, invalidValue, Letter, letterByte}
 use Rattle.desk.specs.Limits.{stationCount, maxChanges, maxLine, maxSplitsNumeral, maxRight}
 use Rattle.desk.specs.Desk.{Desk as DeskOf, isControl, isDesk, freshControl, freshDesk, dropped, areRights}
-use Rattle.desk.specs.Records.{Record, P, E, F, I, K, S, C, T, X, Z, parse, grammar, kind, hasDigits, neededRight}
+use Rattle.desk.specs.Records.{Record, P, E, F, I, K, S, C, T, X, Z, H, parse, grammar, kind, hasDigits, neededRight}
 use Rattle.desk.specs.Replies.{Reply, silent, ok, okNumber, okImage, okBlock, lists, surveys, refuses, Outcome, refuse, pass}
 use Rattle.desk.specs.Replies.{_>>=_, admission, operation, lineOperation}
 use Rattle.desk.specs.Replies.{job as jobOf, grantBy}
@@ -23,7 +23,7 @@ use Rattle.desk.specs.Buffers.{Work, Lent, lent, lentCall, plainCall}
 use Rattle.operations.specs.Plans.{inTable, packed, blank}
 use Rattle.slots.specs.Blocks.{blockCount, columnsSize, valueAt}
 use Rattle.slots.specs.Desks.{controlIn, deskOf}
-use Rattle.desks.specs.Tested.{holdsTest}
+use Rattle.desks.specs.Tested.{sizesSum, holdsTest}
 use Rattle.desk_values.specs.declared.Desk.{Desk}
 use Rattle.desk_values.specs.Values.{deskIn, isDeskValue, packedDesk}
 use Rattle.desk_c.specs.declared.Job.{Job}
@@ -33,7 +33,7 @@ use Rattle.desk_c.specs.declared.serving.Served.{Served}
 use Rattle.desk_c.specs.declared.serving.Worked.{Worked}
 
 -- the bytes of a desk in C: 16 for the size of each block, 4 for the letter with what fills it up, 4 for the station and for each count,
--- 2 for each station's rights with what fills them up, and 8 for each word; tests/headers compares it with what C says
+-- 2 for each station's rights and for the sum of pairs, and 8 for each word; tests/headers compares it with what C says
 abbrev pub deskSize : ℕ
 deskSize = blockCount * 16 + 4 + (4 * (1 + 8) + 2 * (7 + 1)) + columnsSize * 8
 
@@ -106,7 +106,11 @@ jobRecord j =
                                                             | false ↦
                                                                 elim (eqb (j .letter) (byte "G")) [
                                                                   | true ↦ grantBy (j .a) (j .b) (j .c)
-                                                                  | false ↦ refuse noRecord none
+                                                                  | false ↦
+                                                                      elim (eqb (j .letter) (byte "H")) [
+                                                                        | true ↦ pass H
+                                                                        | false ↦ refuse noRecord none
+                                                                      ]
                                                                 ]
                                                           ]
                                                     ]
@@ -179,9 +183,9 @@ jobWith splits letter = record { letter = letter; a = 65; b = 66; c = 67; k = po
 abbrev job : ℕ → Job
 job letter = jobWith 3 letter
 
--- K⇥A⇥2⇥B; X by its numbers; Z with a number that is no digit; G with a right above 2; M is none of them
-jobRecord-example : map (λ b. jobRecord (job b)) (byte "K" ∷ byte "X" ∷ byte "Z" ∷ byte "G" ∷ byte "M" ∷ [])
-    ≡ pass (K 65 (pos 2) 66) ∷ pass (X 65 66 67 3 1) ∷ pass (Z 65) ∷ refuse 1 none ∷ refuse 1 none ∷ []
+-- K⇥A⇥2⇥B; X by its numbers; Z with a number that is no digit; G with a right above 2; H; M is none of them
+jobRecord-example : map (λ b. jobRecord (job b)) (byte "K" ∷ byte "X" ∷ byte "Z" ∷ byte "G" ∷ byte "H" ∷ byte "M" ∷ [])
+    ≡ pass (K 65 (pos 2) 66) ∷ pass (X 65 66 67 3 1) ∷ pass (Z 65) ∷ refuse 1 none ∷ pass H ∷ refuse 1 none ∷ []
 unfolding maxSplitsNumeral
 jobRecord-example = refl
 
@@ -195,14 +199,14 @@ served-example : map (served (bytes "T") (packedDesk freshDesk)) (bytes ".......
     ≡ record { desk = packedDesk freshDesk; answer = record { number = 0; column = 0; length = 5 } }
     ∷ refusedWith (packedDesk freshDesk) 14 0
     ∷ []
-unfolding served isDeskValue deskIn packedDesk deskOf valueAt holdsTest inTable packed blank maxPairs slotCount stationCount maxChanges
+unfolding served isDeskValue deskIn packedDesk deskOf valueAt holdsTest sizesSum inTable packed blank maxPairs slotCount stationCount maxChanges
     maxRight areRights isControl freshDesk dropped lentCall lent isDesk
     lineOperation operation admission jobOf kind parse grammar maxLine replyBytes _>>=_
 served-example = refl
 
 buffer-example : map (bufferAfter (bytes "T") (packedDesk freshDesk)) (bytes "......." ∷ bytes "...." ∷ [])
     ≡ bytes "ok\t0\n.." ∷ bytes "...." ∷ []
-unfolding bufferAfter isDeskValue deskIn packedDesk deskOf valueAt holdsTest inTable packed blank maxPairs slotCount stationCount maxChanges
+unfolding bufferAfter isDeskValue deskIn packedDesk deskOf valueAt holdsTest sizesSum inTable packed blank maxPairs slotCount stationCount maxChanges
     maxRight areRights isControl freshDesk dropped lentCall lent
     isDesk lineOperation operation admission jobOf kind parse grammar maxLine replyBytes _>>=_
 buffer-example = refl
@@ -210,7 +214,7 @@ buffer-example = refl
 -- S of two empty slots: 9
 worked-example : worked (jobWork (job (byte "S"))) (packedDesk freshDesk)
     ≡ record { desk = packedDesk freshDesk; answer = record { number = 9; column = 0; value = 0 } }
-unfolding worked jobWork isDeskValue deskIn packedDesk deskOf valueAt holdsTest inTable packed blank maxPairs slotCount stationCount
+unfolding worked jobWork isDeskValue deskIn packedDesk deskOf valueAt holdsTest sizesSum inTable packed blank maxPairs slotCount stationCount
     maxChanges maxRight areRights isControl freshDesk dropped plainCall
     isDesk operation admission jobOf kind neededRight _>>=_
 worked-example = refl

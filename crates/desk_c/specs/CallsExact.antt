@@ -13,7 +13,7 @@ use lib.ListN.{length, take, drop}
 use Rattle.higman.specs.Text.{Bytes, byte, bytes, decimal}
 use Rattle.higman.specs.Refusals.{Letter}
 use Rattle.desk.specs.Desk.{dropped}
-use Rattle.desk.specs.Records.{Record, P, M, E, F, I, K, S, W, L, C, T, U, X, Z, recordText, wellFormed, G, rightNumber}
+use Rattle.desk.specs.Records.{Record, P, M, E, F, I, K, S, W, L, C, T, U, X, Z, recordText, wellFormed, G, H, rightNumber}
 use Rattle.desk.specs.Replies.{refuse, pass, Effect, operation, lineOperation}
 use Rattle.desk.specs.Bytes.{replyBytes}
 use Rattle.desk_values.specs.declared.Desk.{Desk}
@@ -78,6 +78,7 @@ IsJobOf (X a n r s seed) j =
     (j .letter ≡ byte "X") × (j .a ≡ a) × (j .b ≡ n) × (j .c ≡ r) × (j .splits ≡ s) × (j .seed ≡ seed) × (s ≤ 99)
 IsJobOf (Z s) j = (j .letter ≡ byte "Z") × (j .a ≡ s)
 IsJobOf (G s a x) j = (j .letter ≡ byte "G") × (j .a ≡ s) × (j .b ≡ a) × (j .c ≡ rightNumber x)
+IsJobOf H j = j .letter ≡ byte "H"
 
 -- a job is refused, with what is left of the desk
 abbrev pub JobRefused : Job → Desk → Desk → ℕ → ℕ → Type 0
@@ -107,7 +108,7 @@ pub record JobsExact : Type 0 where
   -- "1, unknown letter" or "a field form": no record has this job, by its letter, or since it is X with splits of three digits or G with a
   -- right above 2
   pub no-record : (j : Job) (v : Desk) → TakenForDesk v → ((r : Record) → IsJobOf r j → ⊥) → JobRefused j v (planDropped v) 1 0
-  pub unknown-letter : (j : Job) (v : Desk) → TakenForDesk v → (List·Memᴰ (j .letter) (bytes "PEFIKSCTXZG") → ⊥)
+  pub unknown-letter : (j : Job) (v : Desk) → TakenForDesk v → (List·Memᴰ (j .letter) (bytes "PEFIKSCTXZGH") → ⊥)
       → JobRefused j v (planDropped v) 1 0
   pub many-splits : (j : Job) (v : Desk) → TakenForDesk v → j .letter ≡ byte "X" → 99 < j .splits → JobRefused j v (planDropped v) 1 0
   pub right-above : (j : Job) (v : Desk) → TakenForDesk v → j .letter ≡ byte "G" → 2 < j .c → JobRefused j v (planDropped v) 1 0

@@ -9,7 +9,7 @@ use borrow.Author.Tests.{eq-eqb, ne-eqb}
 use lib.Dec.{eqb}
 use Rattle.higman.specs.Text.{byte}
 use Rattle.higman.specs.Refusals.{noRecord}
-use Rattle.desk.specs.Records.{Record, P, E, F, I, K, S, C, T, X, Z}
+use Rattle.desk.specs.Records.{Record, P, E, F, I, K, S, C, T, X, Z, H}
 use Rattle.desk.specs.Replies.{Outcome, refuse, pass, grantBy}
 use mathlib.Core.List.{List}
 use mir.Syntax.{w32}
@@ -23,8 +23,14 @@ use Rattle.desk_c.proofs.serving.perform.Statement.{statement}
 use Rattle.desk_c.proofs.serving.perform.Tie as tie
 
 -- the record of a job, behind the letters that were looked for
+abbrev after12 : Job → Outcome Record
+after12 j = refuse noRecord none
+
+abbrev at11 : Job → Bool → Outcome Record
+at11 j b = elim b [ true ↦ pass H | false ↦ after12 j ]
+
 abbrev after11 : Job → Outcome Record
-after11 j = refuse noRecord none
+after11 j = at11 j (eqb (j .letter) (byte "H"))
 
 abbrev at10 : Job → Bool → Outcome Record
 at10 j b = elim b [ true ↦ grantBy (j .a) (j .b) (j .c) | false ↦ after11 j ]
@@ -140,6 +146,12 @@ rest11 : (c : tie.Else12) → let j = c .before .before .before .before .before 
 rest11 c = let j = c .before .before .before .before .before .before .before .before .before .before .before .before .args .job in rest10
     (c .before)
     ∙ ap (at10 j) (ne-eqb (j .letter) (byte "G") (c .if12 .left))
+
+rest12 : (c : tie.Else13) → let j = c .before .before .before .before .before .before .before .before .before .before .before .before .before .args .job in
+    jobRecord j ≡ after12 j
+rest12 c = let j = c .before .before .before .before .before .before .before .before .before .before .before .before .before .args .job in rest11
+    (c .before)
+    ∙ ap (at11 j) (ne-eqb (j .letter) (byte "H") (c .if13 .left))
 
 returns : tie.Need-returns
 returns c =
@@ -278,10 +290,19 @@ returns-12 c =
 
 returns-13 : tie.Need-returns-13
 returns-13 c =
-    let e = c .before in
-    let s = e .before .before .before .before .before .before .before .before .before .before .before .before in
+    let t = c .before in
+    let s = t .before .before .before .before .before .before .before .before .before .before .before .before .before in
     let a = s .args in
-    no-job (a .job) (a .head) (a .columns .now) (s .pre) (c .refused2 .result) (rest11 e) (c .refused2 .ensures)
+    let j = a .job in
+    job-done j (a .head) (a .columns .now) _ _ H (rest11 (t .before) ∙ ap (at11 j) (eq-eqb (j .letter) (byte "H") (t .if13 .taken)))
+    (λ out. done-told (a .head) (a .columns .now) (s .pre) H out (c .sum .result) out (c .sum .ensures (a .columns .now) out))
+
+returns-14 : tie.Need-returns-14
+returns-14 c =
+    let e = c .before in
+    let s = e .before .before .before .before .before .before .before .before .before .before .before .before .before in
+    let a = s .args in
+    no-job (a .job) (a .head) (a .columns .now) (s .pre) (c .refused2 .result) (rest12 e) (c .refused2 .ensures)
 
 pub perform-spec : {M : Type 1} → statement M
 perform-spec =
@@ -319,4 +340,6 @@ perform-spec =
     (λ c κs. search needs)
     returns-12
     (λ c κs. search needs)
-    returns-13)
+    returns-13
+    (λ c κs. search needs)
+    returns-14)
