@@ -25,7 +25,7 @@ enum refusal {
     REFUSED_COUNT = 16,         /* the named station's count of changes is at its limit, 4,000,000,000 */
     REFUSED_SEED = 17,          /* a seed outside 1 to 2,147,483,646 */
     REFUSED_STATION = 18,       /* a station above 7 */
-    REFUSED_GRANT = 19,         /* a right given by another station than 0, or to station 0 */
+    REFUSED_GRANT = 19,         /* a right given, or the pairs held asked for, by another station than 0; or a right given to it */
     REFUSED_RIGHT = 20          /* the named station lacks the right that the record needs on a slot */
 };
 
@@ -59,7 +59,7 @@ static inline const char *refusal_reason(unsigned number)
         "the count of changes is at its limit",
         "the seed is out of range",
         "no such station",
-        "station 0 alone gives rights, and only to others",
+        "station 0 alone gives rights, only to others, and asks for the pairs held",
         "the station has no such right on the slot",
     };
     return number < sizeof reasons / sizeof reasons[0] ? reasons[number] : "no such refusal";
