@@ -1,18 +1,20 @@
 -- The pairs that are held (change request E8): what each line kept and what it overwrote or emptied, by its reply and by what the slot held
 -- before, and the statement that the stored sum is the one less the other, that it is the sum over the slots, and that H tells it to
--- station 0 alone. To be believed: `Tally`, `pairsTold`, `slotsChanged` and the statement. Read Demands.antt next.
+-- station 0 alone. To be believed: `Tally` and the statement; `TallyExact` fixes what is tallied. Read Demands.antt next.
 use Prim.Native.Nat.{ℕ, _+_}
 use mathlib.Core.Path.{_≡_, refl}
 use mathlib.Core.Bool.{true, false}
-use mathlib.Core.List.{List, [], _∷_, map}
-use mathlib.Core.Option.{none, some}
-use Rattle.higman.specs.Limits.{slotCount, shapeInRange, isPlanWord, granted, maxPairs, maxDigits, maxPower}
+use mathlib.Core.List.{List, [], _∷_, map, List·Memᴰ}
+use mathlib.Core.Option.{Option, none, some}
+use lib.ListN.{length}
+use Rattle.higman.specs.Limits.{Plan, slotCount, shapeInRange, isPlanWord, granted, maxPairs, maxDigits, maxPower}
 use Rattle.higman.specs.Listing.{slotNumber}
 use Rattle.higman.specs.Answers.{verdict, raised, powered}
 use Rattle.higman.specs.Normal.{joined, normal, normalForm, keep, identity}
 use Rattle.higman.specs.Text.{Bytes, bytes, digitOf}
 use Rattle.desk.specs.Limits.{stationCount, maxRight, maxChanges, maxLine, maxNumeral}
-use Rattle.desk.specs.Desk.{Desk, freshDesk, stationOf, held, pairsOfSlot, pairsOfSlots, IsDesk, changed, withDraft, dropped, atStation}
+use Rattle.desk.specs.Desk.{Draft, Desk, freshDesk, stationOf, held, pairsOfSlot, pairsOfSlots, IsDesk, changed, withDraft, dropped}
+use Rattle.desk.specs.Desk.{atStation}
 use Rattle.desk.specs.Records.{Record, H, SlotUse, reads, target, mentions, slotsNamed, neededRight, kind, parse, grammar}
 use Rattle.desk.specs.Replies.{Reply, silent, ok, okNumber, okImage, okBlock, lists, surveys, refuses, refuse, pass, _>>=_, Effect}
 use Rattle.desk.specs.Replies.{admission, job, operation, recordOf, lineOperation, respondLine, run, deskAfter}
@@ -34,7 +36,8 @@ pairsTold (refuses n c) = 0
 -- the slots that a change fills or empties: its targets or, of E, the slot of the open plan
 abbrev pub targetSlots : List SlotUse → List ℕ
 targetSlots [] = []
-targetSlots (u ∷ us) = elim (u .does) [ reads ↦ targetSlots us | target ↦ slotNumber (u .slot) ∷ targetSlots us | mentions ↦ targetSlots us ]
+targetSlots (u ∷ us) =
+    elim (u .does) [ reads ↦ targetSlots us | target ↦ slotNumber (u .slot) ∷ targetSlots us | mentions ↦ targetSlots us ]
 
 abbrev pub slotsChanged : Desk → Record → List ℕ
 slotsChanged d r = elim (d .draft) [ some o ↦ o .slot ∷ [] | none ↦ targetSlots (slotsNamed r) ]
@@ -70,13 +73,32 @@ tally d (l ∷ ls) =
     let rest = tally (respondLine d l .0) ls in
     record { kept = here .kept + rest .kept; lost = here .lost + rest .lost }
 
+-- What is tallied, by the slots alone and not by replies: of a change, the pairs that its target holds after it and those that the target
+-- held before or, where a plan was open, those of the slot of that plan; of any other line, nothing.
+pub record TallyExact : Type 0 where
+  pub no-lines : (d : Desk) → tally d [] ≡ record { kept = 0; lost = 0 }
+  pub lines : (d : Desk) (l : Bytes) (ls : List Bytes)
+      → (tally d (l ∷ ls) .kept ≡ tallyOf d l .kept + tally (respondLine d l .0) ls .kept)
+      × (tally d (l ∷ ls) .lost ≡ tallyOf d l .lost + tally (respondLine d l .0) ls .lost)
+  pub no-change : (d : Desk) (l : Bytes) → madeChange d l ≡ false → tallyOf d l ≡ record { kept = 0; lost = 0 }
+  pub target-changed : (d : Desk) (l : Bytes) (r : Record) → IsDesk d → d .draft ≡ none → recordOf l ≡ pass r → madeChange d l ≡ true
+      → (u : SlotUse) → List·Memᴰ u (slotsNamed r) → u .does ≡ target → let i = slotNumber (u .slot) in tallyOf d l
+      ≡ record { kept = pairsOfSlot (held (respondLine d l .0) i); lost = pairsOfSlot (held d i) }
+  pub plan-closed : (d : Desk) (l : Bytes) (o : Draft) → IsDesk d → d .draft ≡ some o → madeChange d l ≡ true
+      → tallyOf d l ≡ record { kept = pairsOfSlot (held (respondLine d l .0) (o .slot)); lost = pairsOfSlot (held d (o .slot)) }
+
 pub record PairsHeld : Type 0 where
-  -- "let a record H from station 0 give it as `ok⇥` and the number": wherever no plan is open, whatever the rights are, and it changes nothing
+  -- "the number of pairs in all slots"
+  pub of-slot : (pairsOfSlot none ≡ 0) × ((p : Plan) → pairsOfSlot (some p) ≡ length (p .rows))
+  pub of-slots : (pairsOfSlots [] ≡ 0)
+      × ((x : Option Plan) (l : List (Option Plan)) → pairsOfSlots (x ∷ l) ≡ pairsOfSlot x + pairsOfSlots l)
+  -- "let a record H from station 0 give it as `ok⇥` and the number": wherever no plan is open, whatever the rights are; it changes nothing
   pub tells : (d : Desk) → d .draft ≡ none → stationOf d ≡ 0 → operation d H ≡ pass (d, okNumber (d .control .pairs))
   pub told : (d : Desk) (e : Effect) → operation d H ≡ pass e → (stationOf d ≡ 0) × (e ≡ (d, okNumber (d .control .pairs)))
   -- "Other stations get 19, after 1 and 2."
   pub not-told : (d : Desk) → d .draft ≡ none → (stationOf d ≡ 0 → ⊥) → operation d H ≡ refuse 19 none
   -- "It equals the pairs kept less the pairs overwritten or emptied, counted from a fresh desk on"
+  pub tallied : TallyExact
   pub counted : (ls : List Bytes)
       → deskAfter freshDesk (run freshDesk ls) .control .pairs + tally freshDesk ls .lost ≡ tally freshDesk ls .kept
   -- "and also the sum over the slots"
