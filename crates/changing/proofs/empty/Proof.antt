@@ -107,7 +107,7 @@ fill-requires c κs =
     let inside = slot-inside (s .args .t1) (s .args .columns .now) (s .pre) (n .slot-number .result) (below n) in (
       record { block = inside .block; sized = inside .sized },
       countable (s .args .t1) (s .args .columns .now) (s .pre) (room e) (n .slot-number .result) (below n) (c .blank .result .pairs)
-      (subst (λ (p : Plan). p .pairs ≤ maxPairs) (sym (c .blank .ensures)) blank-few),
+          (subst (λ (p : Plan). p .pairs ≤ maxPairs) (sym (c .blank .ensures)) blank-few),
     )
 
 returns-4 : tie.Need-returns-4

@@ -45,7 +45,7 @@ fill-requires c κs =
     let inside = slot-inside (s .args .head) (s .args .columns .now) (s .pre .holds) (s .args .i) (s .pre .slot) in (
       record { block = inside .block; sized = inside .sized },
       countable (s .args .head) (s .args .columns .now) (s .pre .holds) (room e) (s .args .i) (s .pre .slot) (s .args .made .plan .pairs)
-      (few-made (s .args .made) (s .pre .answer) (s .pre .makes) (granted g)),
+          (few-made (s .args .made) (s .pre .answer) (s .pre .makes) (granted g)),
     )
 
 cast-t13 : tie.Need-cast-t13
