@@ -254,8 +254,19 @@ tally-exact =
           change-tallied d D l r e m (slotNumber (u .slot))
           (subst (List·Memᴰ (slotNumber (u .slot))) (sym (none-open d r o)) (target-named (slotsNamed r) u named t));
       plan-closed = λ d l o D q m. closed-tallied d D l o q m (recordOf l) refl;
+      replied = λ d l n m e. rw (m, tallyOf) (kept-replied d (respondLine d l .1) n e (recordOf l) m);
     }
   where
+    kept-replied : (d : Desk) (y : Reply) (n : ℕ) → y ≡ okNumber n → (o : Outcome Record)
+        → elim o as (λ _. Bool) [ refuse n c ↦ false | pass r ↦ isChange r && isDone (operation d r) ] ≡ true
+        → elim o as (λ _. Tally) [
+          | refuse n c ↦ noPairs
+          | pass r ↦ record { kept = pairsTold y; lost = pairsAt d (slotsChanged d r) }
+        ] .kept
+        ≡ n
+    kept-replied d y n e (refuse k c) m = absurd (clash m refl)
+    kept-replied d y n e (pass r) m = ap pairsTold e
+
     none-open : (d : Desk) (r : Record) → d .draft ≡ none → slotsChanged d r ≡ targetSlots (slotsNamed r)
     none-open d r o = rw o refl
 

@@ -74,7 +74,8 @@ tally d (l ∷ ls) =
     record { kept = here .kept + rest .kept; lost = here .lost + rest .lost }
 
 -- What is tallied, by the slots alone and not by replies: of a change, the pairs that its target holds after it and those that the target
--- held before or, where a plan was open, those of the slot of that plan; of any other line, nothing.
+-- held before or, where a plan was open, those of the slot of that plan; of any other line, nothing. And what a change kept is the number
+-- that its reply tells, where it tells one.
 pub record TallyExact : Type 0 where
   pub no-lines : (d : Desk) → tally d [] ≡ record { kept = 0; lost = 0 }
   pub lines : (d : Desk) (l : Bytes) (ls : List Bytes)
@@ -86,6 +87,7 @@ pub record TallyExact : Type 0 where
       ≡ record { kept = pairsOfSlot (held (respondLine d l .0) i); lost = pairsOfSlot (held d i) }
   pub plan-closed : (d : Desk) (l : Bytes) (o : Draft) → IsDesk d → d .draft ≡ some o → madeChange d l ≡ true
       → tallyOf d l ≡ record { kept = pairsOfSlot (held (respondLine d l .0) (o .slot)); lost = pairsOfSlot (held d (o .slot)) }
+  pub replied : (d : Desk) (l : Bytes) (n : ℕ) → madeChange d l ≡ true → respondLine d l .1 ≡ okNumber n → tallyOf d l .kept ≡ n
 
 pub record PairsHeld : Type 0 where
   -- "the number of pairs in all slots"
