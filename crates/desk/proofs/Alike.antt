@@ -1,6 +1,6 @@
--- Two desks that are alike to the station that is named answer its records alike (change request E6): a record reads a slot only behind the
--- right on it, U goes by what is seen, T and 16 by the station's own count, G by the
--- station alone, and H by the sum, for station 0, which sees all that is summed.
+-- Two desks that are alike to the station that is named answer its records alike (change request E6): a record reads a slot only behind
+-- the right on it, U goes by what is seen, T and 16 by the station's own count, G by the station alone, and H by the sum, for station 0,
+-- which sees all that is summed.
 use Prim.Native.Nat.{ℕ, _+_, _≤_, _<_}
 use native.Mathlib.Omega.{arith}
 use mathlib.Core.Path.{_≡_, refl, sym, _∙_, ap, ap₂, subst}

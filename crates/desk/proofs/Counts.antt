@@ -16,8 +16,8 @@ use Rattle.higman.specs.Refusals.{Letter}
 use Rattle.higman.specs.Words.{given}
 use Rattle.higman.proofs.Tests.{all-head, all-cons}
 use Rattle.desk.specs.Limits.{stationCount}
-use Rattle.desk.specs.Desk.{Desk, freshDesk, stationOf, changesOf, countOf, IsDesk, raisedCounts, changed, withDraft, dropped, atStation}
-use Rattle.desk.specs.Desk.{isStation, withRight}
+use Rattle.desk.specs.Desk.{Desk, freshDesk, stationOf, changesOf, countOf, IsDesk, raisedCounts, changed, withDraft, dropped}
+use Rattle.desk.specs.Desk.{atStation, isStation, withRight}
 use Rattle.desk.specs.Records.{Record, P, M, E, F, I, K, S, W, L, C, T, U, X, Z, stationsNamed, isChange, kind, Right, G, H}
 use Rattle.desk.specs.Replies.{ok, okNumber, Outcome, refuse, pass, _>>=_, Effect, bit, job, operation, recordOf, lineOperation}
 use Rattle.desk.specs.Replies.{settle, respondLine, run, deskAfter}

@@ -2,8 +2,8 @@
 -- Stays (DeskStays), TypedLines (AcceptedFromLines), Desks (DeskTest), Surveys (SurveyExact), Calls (LentCallsExact), Session (FedInPieces,
 -- SessionFed), ReadBack (TypedIn, ListingReadBack) and Sheets (NoShorterSheet); that of specs/Grammar.antt is in Grammar; those of
 -- specs/Stations.antt, specs/Rights.antt, specs/Sights.antt and specs/Pairs.antt in Counts, Rights, Apart and Pairs; those of
--- specs/Demands.antt in Replies (RepliesExact, DeskParts), Exercises (ExercisesFixed), ColumnRefusals, Demand1, Demand2 and Demands; that of
--- specs/Cases.antt in Cases.
+-- specs/Demands.antt in Replies (RepliesExact, DeskParts), Exercises (ExercisesFixed), ColumnRefusals, Demand1, Demand2 and Demands; that
+-- of specs/Cases.antt in Cases.
 pub mod Outcomes
 pub mod Desks
 pub mod Given

@@ -14,8 +14,8 @@ use Rattle.higman.specs.Text.{Bytes}
 use Rattle.higman.specs.Limits.{Plan, slotCount}
 use Rattle.higman.proofs.Tests.{so}
 use Rattle.desk.specs.Limits.{stationCount, maxRight}
-use Rattle.desk.specs.Desk.{Draft, Rights, Control, Desk, stationOf, countOf, changesOf, rightOf, ownRight, readable, held, seenFrom, seen}
-use Rattle.desk.specs.Desk.{IsDesk, changed, pairsOfSlots}
+use Rattle.desk.specs.Desk.{Draft, Rights, Control, Desk, stationOf, countOf, changesOf, rightOf, ownRight, readable, held}
+use Rattle.desk.specs.Desk.{seenFrom, seen, IsDesk, changed, pairsOfSlots}
 use Rattle.desk.specs.Sights.{Sight, sightOf}
 use Rattle.desk.proofs.Given.{set-here}
 use Rattle.desk.proofs.Stays.{counted-own}

@@ -120,12 +120,20 @@ dropped-desk d h = record { eight = h .eight; kept = h .kept; drafted = λ o q. 
 
 drafted-desk : (d : Desk) → IsDesk d → (o : Draft) → IsDraft o → IsDesk (withDraft d o)
 unfolding withDraft
-drafted-desk d h o k = record { eight = h .eight; kept = h .kept; drafted = λ o′ q. subst IsDraft (Option·some-injective o o′ q) k; control = h .control; summed = h .summed }
+drafted-desk d h o k =
+    record {
+      eight = h .eight;
+      kept = h .kept;
+      drafted = λ o′ q. subst IsDraft (Option·some-injective o o′ q) k;
+      control = h .control;
+      summed = h .summed;
+    }
 
 station-desk : (d : Desk) → IsDesk d → (s : ℕ) → s < stationCount → IsDesk (atStation d s)
 unfolding atStation
 station-desk d h s k =
-    record { eight = h .eight; kept = h .kept; drafted = h .drafted; control = naming-control (d .control) (h .control) s k; summed = h .summed }
+    let control = naming-control (d .control) (h .control) s k in
+    record { eight = h .eight; kept = h .kept; drafted = h .drafted; control = control; summed = h .summed }
 
 right-desk : (d : Desk) → IsDesk d → (s i : ℕ) (x : Right) → IsDesk (withRight d s i (rightNumber x))
 unfolding withRight rightNumber maxRight

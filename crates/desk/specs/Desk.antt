@@ -127,8 +127,8 @@ pub record IsControl (c : Control) : Type 0 where
   pub within : (s : ℕ) → changesOf c s ≤ maxChanges
   pub rights : IsRights (c .rights)
 
--- "The desk has slots A to H, at most one open plan, and a count of changes". What a slot holds is a kept plan, and "A desk whose stored sum
--- is off is no desk". A library call that is handed anything else says 15.
+-- "The desk has slots A to H, at most one open plan, and a count of changes". What a slot holds is a kept plan, and "A desk whose stored
+-- sum is off is no desk". A library call that is handed anything else says 15.
 pub record IsDesk (d : Desk) : Type 0 where
   pub eight : length (d .slots) ≡ slotCount
   pub kept : (i : ℕ) (p : Plan) → held d i ≡ some p → Kept p
@@ -144,8 +144,8 @@ abbrev pub counted : Control → ℕ → ℕ → Control
 counted c lost kept =
     record { station = c .station; changes = raisedCounts c; rights = c .rights; pairs = c .pairs - lost + kept }
 
--- A change: what one slot holds from now on. No plan is open afterwards, and "E, F, I, K and C raise the count by one", as X does. The pairs
--- that the slot held are taken off the sum, and those that it holds are put to it.
+-- A change: what one slot holds from now on. No plan is open afterwards, and "E, F, I, K and C raise the count by one", as X does. The
+-- pairs that the slot held are taken off the sum, and those that it holds are put to it.
 unfoldable pub changed : Desk → ℕ → Option Plan → Desk
 changed d i content =
     let control = counted (d .control) (pairsOfSlot (held d i)) (pairsOfSlot content) in

@@ -30,8 +30,8 @@ use Rattle.desk.specs.Limits.{stationCount, maxRight, maxChanges, maxLin
 use Rattle.desk.specs.Desk.{Draft, Desk, freshDesk, countOf, held, changed, withDraft, dropped, atStation, atCount, withPair}
 use Rattle.desk.specs.Desk.{isStation, stationOf, ownRight, seen, withRight}
 use Rattle.desk.specs.Records.{Record, P, M, E, F, I, K, S, W, L}
-use Rattle.desk.specs.Records.{C, T, U, X, Z, G, H, grammar, parse, needsOpen, SlotUse, neededRight, stationsNamed, slotsNamed, isChange}
-use Rattle.desk.specs.Records.{kind, noRight, mayRead, mayWrite, rightNumber, rightNumbered}
+use Rattle.desk.specs.Records.{C, T, U, X, Z, G, H, grammar, parse, needsOpen, SlotUse, neededRight, stationsNamed}
+use Rattle.desk.specs.Records.{slotsNamed, isChange, kind, noRight, mayRead, mayWrite, rightNumber, rightNumbered}
 
 -- a slot that holds a plan
 pub record Held : Type 0 where

@@ -199,24 +199,23 @@ served-example : map (served (bytes "T") (packedDesk freshDesk)) (bytes ".......
     ≡ record { desk = packedDesk freshDesk; answer = record { number = 0; column = 0; length = 5 } }
     ∷ refusedWith (packedDesk freshDesk) 14 0
     ∷ []
-unfolding served isDeskValue deskIn packedDesk deskOf valueAt holdsTest sizesSum inTable packed blank maxPairs slotCount stationCount maxChanges
-    maxRight areRights isControl freshDesk dropped lentCall lent isDesk
-    lineOperation operation admission jobOf kind parse grammar maxLine replyBytes _>>=_
+unfolding served isDeskValue deskIn packedDesk deskOf valueAt holdsTest sizesSum inTable packed blank maxPairs slotCount stationCount
+    maxChanges maxRight areRights isControl freshDesk dropped lentCall lent isDesk lineOperation operation admission jobOf kind parse
+    grammar maxLine replyBytes _>>=_
 served-example = refl
 
 buffer-example : map (bufferAfter (bytes "T") (packedDesk freshDesk)) (bytes "......." ∷ bytes "...." ∷ [])
     ≡ bytes "ok\t0\n.." ∷ bytes "...." ∷ []
-unfolding bufferAfter isDeskValue deskIn packedDesk deskOf valueAt holdsTest sizesSum inTable packed blank maxPairs slotCount stationCount maxChanges
-    maxRight areRights isControl freshDesk dropped lentCall lent
-    isDesk lineOperation operation admission jobOf kind parse grammar maxLine replyBytes _>>=_
+unfolding bufferAfter isDeskValue deskIn packedDesk deskOf valueAt holdsTest sizesSum inTable packed blank maxPairs slotCount stationCount
+    maxChanges maxRight areRights isControl freshDesk dropped lentCall lent isDesk lineOperation operation admission jobOf kind parse
+    grammar maxLine replyBytes _>>=_
 buffer-example = refl
 
 -- S of two empty slots: 9
 worked-example : worked (jobWork (job (byte "S"))) (packedDesk freshDesk)
     ≡ record { desk = packedDesk freshDesk; answer = record { number = 9; column = 0; value = 0 } }
-unfolding worked jobWork isDeskValue deskIn packedDesk deskOf valueAt holdsTest sizesSum inTable packed blank maxPairs slotCount stationCount
-    maxChanges maxRight areRights isControl freshDesk dropped plainCall
-    isDesk operation admission jobOf kind neededRight _>>=_
+unfolding worked jobWork isDeskValue deskIn packedDesk deskOf valueAt holdsTest sizesSum inTable packed blank maxPairs slotCount
+    stationCount maxChanges maxRight areRights isControl freshDesk dropped plainCall isDesk operation admission jobOf kind neededRight _>>=_
 worked-example = refl
 
 -- a value with a letter that is no slot's is no desk: 15, and it is left as it came

@@ -131,9 +131,9 @@ opened = withDraft held (record { slot = 1; shape = record { arity = 2; roots = 
 
 -- their values are desks, and hold them
 isDeskValue-example : map (λ d. isDeskValue (packedDesk d)) (freshDesk ∷ held ∷ opened ∷ []) ≡ true ∷ true ∷ true ∷ []
-unfolding isDeskValue packedDesk valueAt holdsTest sizesSum isPlan inTable isKept shapeInRange granted isPlanWord maxPairs maxDigits maxChanges
-    maxRight slotCount stationCount areRights isControl verdict keep normalForm normal joined packed blank pack packOn unpack unpackIn
-    freshDesk changed withDraft
+unfolding isDeskValue packedDesk valueAt holdsTest sizesSum isPlan inTable isKept shapeInRange granted isPlanWord maxPairs maxDigits
+    maxChanges maxRight slotCount stationCount areRights isControl verdict keep normalForm normal joined packed blank pack packOn unpack
+    unpackIn freshDesk changed withDraft
 isDeskValue-example = refl
 
 deskIn-example : deskIn (packedDesk opened) ≡ opened
@@ -176,7 +176,7 @@ spoiled =
     keeping station changes rights pairs = record { station = station; changes = changes; rights = rights; pairs = pairs }
 
 spoiled-example : map isDeskValue spoiled ≡ false ∷ false ∷ false ∷ false ∷ false ∷ false ∷ false ∷ false ∷ false ∷ []
-unfolding isDeskValue packedDesk valueAt holdsTest sizesSum isPlan inTable isKept shapeInRange granted isPlanWord maxPairs maxDigits maxChanges
-    maxRight slotCount stationCount areRights isControl verdict keep normalForm normal joined packed blank pack packOn unpack unpackIn
-    freshDesk changed withDraft
+unfolding isDeskValue packedDesk valueAt holdsTest sizesSum isPlan inTable isKept shapeInRange granted isPlanWord maxPairs maxDigits
+    maxChanges maxRight slotCount stationCount areRights isControl verdict keep normalForm normal joined packed blank pack packOn unpack
+    unpackIn freshDesk changed withDraft
 spoiled-example = refl

@@ -146,7 +146,8 @@ module _ (h : Head) (columns : List ℕ) (headed : length (h .sizes) ≡ blockCo
     slot-tested : (i : ℕ) → i < slotCount → T (slotTest (valueAt h columns i))
     unfolding holdsTest
     slot-tested i k =
-        all-at (λ j. slotTest (valueAt h columns j)) (count 0 slotCount) (and-right (counts && small && opens) (slotsTest h columns) tested) i
+        all-at (λ j. slotTest (valueAt h columns j)) (count 0 slotCount)
+        (and-right (counts && small && opens) (slotsTest h columns) tested) i
         (count-mem 0 slotCount i (omega arith) (omega arith))
 
     eight : length (slotsOf h columns) ≡ slotCount
@@ -233,7 +234,8 @@ module _ (h : Head) (columns : List ℕ) (headed : length (h .sizes) ≡ blockCo
         (and-intro (counts && small) opens
         (and-intro counts small (control-test (controlOf (h .control)) .1 (H .is-desk .control))
         (le→leb (sizeAt h draftBlock .pairs) maxPairs (H .few))) open-passes)
-        (all-of (λ j. slotTest (valueAt h columns j)) (count 0 slotCount) (λ i m. slot-passes i (omega (arith, count-bounds 0 slotCount i m)))))
+        (all-of (λ j. slotTest (valueAt h columns j)) (count 0 slotCount)
+        (λ i m. slot-passes i (omega (arith, count-bounds 0 slotCount i m)))))
         (subst (λ n. T (eqb (h .control .pairs) n)) equal (eqb-refl (h .control .pairs)))
 
 pub holds-exact : HoldsExact

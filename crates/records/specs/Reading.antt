@@ -105,8 +105,8 @@ pub record ReadExact : Type 0 where
   pub in-bounds : (line : Bytes) → InBounds line (readLine line)
 
 -- the numbers of P, the places of M's words, one of them empty, K's number, the place of W's code, the numbers of X, X with a tab at its
--- end, a slot of two bytes, Z's station, a station of two digits, G's numbers and slot, a right of 3, G with a station of two digits, H, and
--- H with a tab behind it
+-- end, a slot of two bytes, Z's station, a station of two digits, G's numbers and slot, a right of 3, G with a station of two digits, H,
+-- and H with a tab behind it
 readLine-example : map (λ l. readLine (bytes l))
     ("P\tA\t2\t1" ∷ "M\t11\t" ∷ "K\tA\t-2\tz" ∷ "W\tA\t1122" ∷ "X\tA\t2\t1\t10\t0" ∷ "X\tA\t2\t1\t1\t7\t" ∷ "L\tAB" ∷ "Z\t7" ∷ "Z\t10"
     ∷ "G\t1\tA\t2" ∷ "G\t1\tA\t3" ∷ "G\t10\tA\t2" ∷ "H" ∷ "H\t" ∷ [])

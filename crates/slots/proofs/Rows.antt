@@ -140,7 +140,8 @@ given-control c h (suc s) i x a b k =
     let rights : rightsOf (set (c .rights) s (packedRow (set old i x)))
     ≡ set (rightsOf (c .rights)) s (set (getD (rightsOf (c .rights)) s []) i x) =
     set-station (c .rights) s (packedRow (set old i x)) ∙ ap (set (rightsOf (c .rights)) s) (back ∙ ap (λ r. set r i x) (sym row)) in
-    ap (λ k. controlOf (atPlace k)) before ∙ (λ j. record { station = c .station; changes = c .changes; rights = rights j; pairs = c .pairs })
+    ap (λ k. controlOf (atPlace k)) before
+    ∙ (λ j. record { station = c .station; changes = c .changes; rights = rights j; pairs = c .pairs })
   where
     atPlace : ℕ → Control
     atPlace k =

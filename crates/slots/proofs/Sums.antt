@@ -1,5 +1,5 @@
--- The stored sum of a desk in code (change request E8): the pairs of a slot are part of it, and eight slots have so few that one change more
--- leaves it within 16 bits.
+-- The stored sum of a desk in code (change request E8): the pairs of a slot are part of it, and eight slots have so few that one change
+-- more leaves it within 16 bits.
 use Prim.Native.Nat.{ℕ, _≤_, _<_}
 use mathlib.Core.Path.{_≡_}
 use mathlib.Core.Bool.{false}

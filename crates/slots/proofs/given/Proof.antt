@@ -23,8 +23,9 @@ element-write-next c = omega (arith, c .before .before .pre .known)
 returns : tie.Need-returns
 returns c =
     let a = c .before .before .args in
+    let k = a .t1 in
     let next : ℕ → Control =
-    λ row. record { station = a .t1 .station; changes = a .t1 .changes; rights = set (a .t1 .rights) (a .station - 1) row; pairs = a .t1 .pairs } in
+    λ row. record { station = k .station; changes = k .changes; rights = set (k .rights) (a .station - 1) row; pairs = k .pairs } in
     ap next (c .with .ensures)
 
 pub given-spec : {M : Type 1} → statement M

@@ -147,11 +147,11 @@ rest11 c = let j = c .before .before .before .before .before .before .before .be
     (c .before)
     ∙ ap (at10 j) (ne-eqb (j .letter) (byte "G") (c .if12 .left))
 
-rest12 : (c : tie.Else13) → let j = c .before .before .before .before .before .before .before .before .before .before .before .before .before .args .job in
-    jobRecord j ≡ after12 j
-rest12 c = let j = c .before .before .before .before .before .before .before .before .before .before .before .before .before .args .job in rest11
-    (c .before)
-    ∙ ap (at11 j) (ne-eqb (j .letter) (byte "H") (c .if13 .left))
+abbrev begun : tie.Else13 → tie.Start
+begun c = c .before .before .before .before .before .before .before .before .before .before .before .before .before
+
+rest12 : (c : tie.Else13) → let j = begun c .args .job in jobRecord j ≡ after12 j
+rest12 c = let j = begun c .args .job in rest11 (c .before) ∙ ap (at11 j) (ne-eqb (j .letter) (byte "H") (c .if13 .left))
 
 returns : tie.Need-returns
 returns c =
@@ -300,7 +300,7 @@ returns-13 c =
 returns-14 : tie.Need-returns-14
 returns-14 c =
     let e = c .before in
-    let s = e .before .before .before .before .before .before .before .before .before .before .before .before .before in
+    let s = begun e in
     let a = s .args in
     no-job (a .job) (a .head) (a .columns .now) (s .pre) (c .refused2 .result) (rest12 e) (c .refused2 .ensures)
 
