@@ -1,5 +1,5 @@
-//! The desk: eight slots, at most one open plan and the stations with their
-//! counts and rights. It takes the bytes of standard input in any pieces and gives
+//! The desk: eight slots and the sum of their pairs, at most one open plan and the
+//! stations with their counts and rights. It takes the bytes of standard input in any pieces and gives
 //! the bytes of the replies. Every refusal drops an open plan and changes nothing
 //! else.
 
@@ -7,6 +7,7 @@ use std::cmp::Reverse;
 use std::collections::BTreeMap;
 
 use crate::line::Line;
+use crate::pairs_held::PairsHeld;
 use crate::plan::{self, Image, Placed, Plan, Routed};
 use crate::records::Record;
 use crate::refusal::Refusal;
@@ -21,6 +22,7 @@ pub type Reply = Result<Vec<u8>, Refusal>;
 #[derive(Clone, Debug, Default)]
 pub struct Desk {
     slots: BTreeMap<u8, Plan>,
+    pairs_held: PairsHeld,
     stations: Stations,
     open: Option<OpenPlan>,
     line: Line,
@@ -52,7 +54,7 @@ impl Desk {
     }
 
     /// A desk with these contents, for the calls that are handed one: it may
-    /// have come about in any way.
+    /// have come about in any way, and its plans count as kept once each.
     pub fn with_contents(
         slots: BTreeMap<u8, Plan>,
         open: Option<OpenPlan>,
@@ -61,8 +63,11 @@ impl Desk {
         let targets = open.iter().map(|open| &open.slot);
         let letters: Vec<u8> = slots.keys().chain(targets).copied().collect();
         assert!(slots_in_range(&letters).is_ok(), "slots are A to H");
+        let mut pairs_held = PairsHeld::default();
+        slots.values().for_each(|plan| pairs_held.keep(plan.size()));
         Desk {
             slots,
+            pairs_held,
             stations,
             open,
             line: Line::default(),
@@ -76,6 +81,11 @@ impl Desk {
     /// The plan in this slot, if it holds one.
     pub fn plan(&self, slot: u8) -> Option<&Plan> {
         self.slots.get(&slot)
+    }
+
+    /// The pairs in all slots, as they were noted.
+    pub fn pairs_held(&self) -> &PairsHeld {
+        &self.pairs_held
     }
 
     /// The open plan, if there is one.
@@ -153,6 +163,7 @@ impl Desk {
             } => self.exercise(slot, Shape { arity, roots }, splits, seed),
             Record::Count => Ok(ok_line(self.stations.count())),
             Record::Held => Ok(self.held_slots()),
+            Record::PairsHeld => self.pairs_in_all(),
             Record::Station { station } => self.name_station(station),
             Record::Grant {
                 station,
@@ -255,7 +266,8 @@ impl Desk {
         self.may(&[], &[operand])?;
         self.held(operand)?;
         self.stations.count_change()?;
-        self.slots.remove(&operand);
+        let emptied = self.slots.remove(&operand);
+        self.lost(emptied);
         Ok(b"ok\n".to_vec())
     }
 
@@ -283,6 +295,13 @@ impl Desk {
         lines
     }
 
+    /// H: then 19. "Let a record H from station 0 give it as `ok⇥` and the number." It
+    /// needs no right and counts no change.
+    fn pairs_in_all(&self) -> Reply {
+        self.stations.zero_named()?;
+        Ok(ok_line(self.pairs_held.number()))
+    }
+
     /// Z: then 18. "Z counts no change and replies `ok`."
     fn name_station(&mut self, station: u8) -> Reply {
         self.stations.name(station)?;
@@ -302,8 +321,18 @@ impl Desk {
     fn keep(&mut self, target: u8, plan: Plan) -> Reply {
         self.stations.count_change()?;
         let reply = ok_line(plan.size() as u64);
-        self.slots.insert(target, plan);
+        self.pairs_held.keep(plan.size());
+        let overwritten = self.slots.insert(target, plan);
+        self.lost(overwritten);
         Ok(reply)
+    }
+
+    /// Notes what a slot held, if anything, before a plan was kept in it or it was
+    /// emptied.
+    fn lost(&mut self, held: Option<Plan>) {
+        if let Some(plan) = held {
+            self.pairs_held.lose(plan.size());
+        }
     }
 
     fn held(&self, slot: u8) -> Result<&Plan, Refusal> {

@@ -40,6 +40,8 @@ pub enum Record<'a> {
     Count,
     /// U: the held slots.
     Held,
+    /// H: the pairs in all slots.
+    PairsHeld,
     /// Z: names a station.
     Station { station: u8 },
     /// G: gives a station a right on a slot.
@@ -113,6 +115,7 @@ impl<'a> Record<'a> {
             },
             [b"T"] => Record::Count,
             [b"U"] => Record::Held,
+            [b"H"] => Record::PairsHeld,
             [b"Z", station] => Record::Station {
                 station: one_digit(station)?,
             },

@@ -1,4 +1,4 @@
-//! The refusals of the desk and the numbers that document 01, E3, E5 and E6 give them.
+//! The refusals of the desk and the numbers that document 01, E3, E5, E6 and E8 give them.
 //! Numbers 14 and 15 belong to library calls with lent buffers and lent plans;
 //! nothing of that kind is lent here, so they don't occur. 13 is the library's
 //! alone too, since W has a block instead, but a route needs nothing lent.
@@ -39,8 +39,8 @@ pub enum Refusal {
     SeedRange,
     /// 18, "a digit above 7", which is no station.
     StationRange,
-    /// 19, "G from another station or for station 0".
-    NoGiver,
+    /// 19, "G from another station or for station 0", and H from another station.
+    WrongStation,
     /// 20, "a missing right" on a slot that is named.
     MissingRight,
 }
@@ -64,7 +64,7 @@ impl Refusal {
             Refusal::CountLimit => 16,
             Refusal::SeedRange => 17,
             Refusal::StationRange => 18,
-            Refusal::NoGiver => 19,
+            Refusal::WrongStation => 19,
             Refusal::MissingRight => 20,
         }
     }

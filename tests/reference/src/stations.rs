@@ -74,11 +74,19 @@ impl Stations {
         Ok(())
     }
 
+    /// Refusal 19 for a record that is station 0's alone.
+    pub fn zero_named(&self) -> Result<(), Refusal> {
+        match self.named {
+            0 => Ok(()),
+            _ => Err(Refusal::WrongStation),
+        }
+    }
+
     /// Gives a right to a station that there is; refusal 19, "G from another station
     /// or for station 0".
     pub fn give(&mut self, station: u8, slot: u8, right: Right) -> Result<(), Refusal> {
         if self.named != 0 || station == 0 {
-            return Err(Refusal::NoGiver);
+            return Err(Refusal::WrongStation);
         }
         self.rights.give(station, slot, right);
         Ok(())

@@ -7,7 +7,7 @@ use crate::prepared::{check, check_on, prepared};
 /// Letters that no record has; the first two lines have an empty one.
 const UNKNOWN_LETTERS: &[&str] = &[
     "", " ", "Y", "p A 2 1", "PP A 2 1", "\r", "T\r", "\0", "tt", "z 1", "ZZ 1", "g 1 A 1",
-    "GG 1 A 1",
+    "GG 1 A 1", "h", "HH", "H\r", " H", "H\0",
 ];
 
 /// Records with a field too few or too many.
@@ -37,6 +37,9 @@ const WRONG_NUMBERS_OF_FIELDS: &[&str] = &[
     "T T",
     "U ",
     "U A",
+    "H ",
+    "H A",
+    "H 0",
     "X",
     "X A 2 1 3",
     "Z",

@@ -1,7 +1,7 @@
 //! A desk with plans of two shapes in it, and the check of its reply to one
 //! more record: the ground of the checks of refusals.
 
-use reference::{Desk, Plan, Stations, STATIONS};
+use reference::{Desk, PairsHeld, Plan, Stations, STATIONS};
 
 use crate::paper::lines;
 
@@ -40,9 +40,10 @@ pub fn typed_by(station: u8, mut counts: [u64; STATIONS]) -> Desk {
 }
 
 /// All that a desk holds besides an open plan.
-fn contents(desk: &Desk) -> (Vec<Option<Plan>>, Stations) {
+fn contents(desk: &Desk) -> (Vec<Option<Plan>>, PairsHeld, Stations) {
     let plans = (b'A'..=b'H').map(|slot| desk.plan(slot).cloned());
-    (plans.collect(), desk.stations().clone())
+    let pairs_held = desk.pairs_held().clone();
+    (plans.collect(), pairs_held, desk.stations().clone())
 }
 
 /// Asserts the reply to one more line, and that a refusal "changes nothing

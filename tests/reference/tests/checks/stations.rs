@@ -69,6 +69,7 @@ fn changes_are_those_of_the_named_station() {
         ("W A 12", "ok 122 3", false),
         ("L B", "P B 3 2\nM 1 2\nM 2 1\nE", false),
         ("U", "D 2 1 16\nA 2 1 3\nB 3 2 2\nok 3", false),
+        ("H", "no 19", false),
         ("T", "ok 12", false),
         ("Z 2", "ok", false),
         ("P C 2 1\nM 1 11\nE", "no 7 T", false),

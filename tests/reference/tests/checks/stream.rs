@@ -14,7 +14,7 @@ use crate::random::Random;
 
 /// A random session: plans typed well or badly, operations on random slots,
 /// broken lines and lines that are too long.
-fn random_session(random: &mut Random, records: usize) -> Vec<u8> {
+pub fn random_session(random: &mut Random, records: usize) -> Vec<u8> {
     let mut input = Vec::new();
     for _ in 0..records {
         match random.below(20) {
@@ -65,7 +65,7 @@ fn spoil(random: &mut Random, typed: &mut Vec<(Word, Word)>) {
 
 fn operation(random: &mut Random) -> Vec<u8> {
     let (a, b, c) = (slot(random), slot(random), slot(random));
-    let line = match random.below(12) {
+    let line = match random.below(14) {
         0..=2 => format!("F\t{a}\t{b}\t{c}"),
         3 => format!("I\t{a}\t{b}"),
         4..=5 => {
@@ -86,6 +86,14 @@ fn operation(random: &mut Random) -> Vec<u8> {
             random.pick(&["T", "U", "P\tA\t1\t1", &naming]).to_string()
         }
         10 => format!("C\t{a}"),
+        11 => {
+            let (splits, seed) = (random.below(9), random.below(50));
+            format!("X\t{a}\t2\t1\t{splits}\t{seed}")
+        }
+        12 => {
+            let gift = format!("G\t{}\t{a}\t{}", random.below(8), random.below(3));
+            random.pick(&["H", "H", "Z\t0\nH", &gift]).to_string()
+        }
         _ => format!("S\t{a}\t{a}"),
     };
     (line + "\n").into_bytes()
@@ -142,7 +150,7 @@ fn pieces_give_the_same_as_the_whole() {
         all.extend(whole);
     }
     let counts = tally(&all);
-    for number in [1, 2, 3, 4, 5, 8, 9, 10, 11, 12, 18] {
+    for number in [1, 2, 3, 4, 5, 8, 9, 10, 11, 12, 17, 18, 19, 20] {
         assert!(counts.contains_key(&format!("no\t{number}")), "{number}");
     }
     for column in ["6\tF", "6\tT", "7\tF", "7\tT"] {
