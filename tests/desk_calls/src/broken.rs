@@ -72,6 +72,10 @@ impl Broken {
             }
             _ => {}
         }
+        // what is overlooked in a slot is overlooked in the sum
+        if desk.control.pairs == desk.counted_pairs() {
+            seen.settle();
+        }
         seen
     }
 

@@ -5,10 +5,11 @@ use library::misread::{Step, STEPS};
 
 use crate::calls::Calls;
 use crate::checks::{
-    buffers, bytes, damage, jobs, lines, paper, places, refusals, rights, sessions, stations,
-    tables,
+    buffers, bytes, damage, jobs, lines, pairs_held, paper, places, refusals, rights, sessions,
+    stations, tables,
 };
 use crate::misgiven::{Giving, GIVINGS};
+use crate::misheld::{Holding, HOLDINGS};
 use crate::mislisted::{Listing, LISTINGS};
 use crate::misnamed::{Naming, NAMINGS};
 use crate::misplaced::{Placing, PLACINGS};
@@ -292,6 +293,44 @@ pub fn misgivings() -> Vec<(Giving, [Check; 2])> {
             _ => [paper::rights::refused_gifts, rights::of_every_number],
         };
         (giving, checks)
+    });
+    checks.into()
+}
+
+/// Each mistake about the pairs held (E8), and the checks that have to see it: one by
+/// the words of E8 alone, and one beside the second implementation.
+pub fn misholdings() -> Vec<(Holding, [Check; 2])> {
+    let checks = HOLDINGS.map(|holding| {
+        let checks: [Check; 2] = match holding {
+            Holding::OverwrittenLeft | Holding::EmptiedLeft | Holding::Stale => {
+                [paper::pairs_held::moving, pairs_held::behind_changes]
+            }
+            Holding::TypedCounted | Holding::OpenCounted => {
+                [paper::pairs_held::moving, sessions::of_lines]
+            }
+            Holding::MovedByLimit | Holding::MovedByResult => [
+                paper::pairs_held::refused_changes,
+                pairs_held::behind_changes,
+            ],
+            Holding::MovedByShortBuffer => {
+                [paper::pairs_held::refused_changes, buffers::of_every_length]
+            }
+            Holding::Forgotten => [
+                paper::pairs_held::refused_changes,
+                refusals::one_after_another,
+            ],
+            Holding::FieldsTaken => [paper::pairs_held::asking, refusals::one_after_another],
+            Holding::OneByte => [paper::pairs_held::most, pairs_held::beside_lines],
+            Holding::Unseen
+            | Holding::LowByteSeen
+            | Holding::TooLowUnseen
+            | Holding::TooHighUnseen
+            | Holding::ZeroUnseen
+            | Holding::OpenInSum
+            | Holding::MendedByNoDesk => [paper::pairs_held::damage, pairs_held::damaged],
+            _ => [paper::pairs_held::asking, pairs_held::beside_lines],
+        };
+        (holding, checks)
     });
     checks.into()
 }

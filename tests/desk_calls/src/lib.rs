@@ -2,9 +2,9 @@
 //! `bindings` are the C interface, `second` answers the same calls by the
 //! reference, `broken` answers them wrongly with one of `faults`, of which those
 //! of digits are in `misread`, those of listings in `mislisted`, those of places in
-//! `misplaced` and those of splits in `missplit`, `misnamed` does so with stations and
-//! `misgiven` with rights, `random` makes desks, and `checks` compares any offer of the
-//! calls with the second implementation. `tests/` runs the checks on the proved desk,
+//! `misplaced` and those of splits in `missplit`, `misnamed` does so with stations,
+//! `misgiven` with rights and `misheld` with the pairs held, `random` makes desks, and
+//! `checks` compares any offer of the calls with the second implementation. `tests/` runs the checks on the proved desk,
 //! and shows that they tell every broken offer from a sound one.
 
 pub mod bindings;
@@ -13,6 +13,7 @@ pub mod calls;
 pub mod checks;
 pub mod faults;
 pub mod misgiven;
+pub mod misheld;
 pub mod mislisted;
 pub mod misnamed;
 pub mod misplaced;

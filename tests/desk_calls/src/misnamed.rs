@@ -221,6 +221,7 @@ impl Misnamed {
 fn merged(before: Control, met: Control, after: Control) -> Control {
     let mut merged = before;
     merged.rights = after.rights;
+    merged.pairs = after.pairs;
     if met.station == before.station {
         merged.station = after.station;
     }

@@ -89,7 +89,8 @@ impl Second {
         }
     }
 
-    /// The desk that a value is, if it is one. Where it is the last one, that
+    /// The desk that a value is, if it is one: "a desk whose stored sum is off is no
+    /// desk (15)" (E8), like one with any other fault. Where it is the last one, that
     /// is handed out; the caller leaves the desk after its record.
     fn unpack(&self, desk: &Desk) -> Option<reference::Desk> {
         let mut last = self.last.borrow_mut();
@@ -107,7 +108,9 @@ impl Second {
             };
             slots.insert(letter(slot), plan?);
         }
-        Some(reference::Desk::with_contents(slots, open, stations))
+        let held = reference::Desk::with_contents(slots, open, stations);
+        let stored = u64::from(desk.control.pairs);
+        (held.pairs_held().number() == stored).then_some(held)
     }
 
     /// The value of a desk, which is remembered.
@@ -169,6 +172,8 @@ fn pack(held: &reference::Desk) -> Desk {
             desk.put(slot, &packed::plan_value(plan));
         }
     }
+    let pairs = held.pairs_held().number();
+    desk.control.pairs = pairs.try_into().expect("eight slots of 128 pairs");
     if let Some(open) = held.open_plan() {
         desk.opened = open.slot;
         desk.put(OPEN, &packed::value(open.shape, &open.typed));
@@ -220,6 +225,7 @@ fn record(most_splits: u8, job: Job) -> Option<Record<'static>> {
             seed: job.seed,
         },
         b'T' => Record::Count,
+        b'H' => Record::PairsHeld,
         b'Z' => Record::Station { station: a },
         b'G' => Record::Grant {
             station: a,
@@ -276,12 +282,17 @@ mod tests {
         assert_eq!((desk.opened, desk.control.station), (b'A', 5));
         assert_eq!(desk.control.changes, [0, 0, 0, 0, 0, 0, 1, 0]);
         assert_eq!(desk.control.rights[5..], [0xAAA8, 0x6AAA]);
+        assert_eq!(desk.control.pairs, 2);
         assert_eq!(desk.columns[512..514], [0x11, 0x12]);
         assert_eq!(desk.columns[640..642], [0x12, 0x11]);
         assert_eq!((desk.columns[2048], desk.columns[2176]), (0x13, 0x2));
         let again = Second::default();
         assert!(again.is_desk(&desk));
         assert_eq!(pack(&again.unpack(&desk).expect("a desk")), desk);
+        for pairs in [0, 1, 3, 258, u16::MAX] {
+            desk.control.pairs = pairs;
+            assert!(!second.is_desk(&desk) && !again.is_desk(&desk), "{pairs}");
+        }
     }
 
     /// A job of X is a record exactly if a line with its numbers is, and then it is

@@ -31,14 +31,16 @@ pub struct Block {
     pub pairs: usize,
 }
 
-/// The named station, the changes of each, and the rights of stations 1 to 7, which
-/// have two bits for each slot. How they are laid out is known here alone.
+/// The named station, the changes of each, the rights of stations 1 to 7, which have
+/// two bits for each slot, and the pairs in all slots. How the rights are laid out is
+/// known here alone.
 #[repr(C)]
 #[derive(Clone, Copy, Debug, PartialEq, Eq)]
 pub struct Control {
     pub station: u32,
     pub changes: [u32; STATIONS],
     pub rights: [u16; STATIONS - 1],
+    pub pairs: u16,
 }
 
 impl Control {
@@ -49,6 +51,7 @@ impl Control {
         station: 0,
         changes: [0; STATIONS],
         rights: Control::ALL_RIGHTS,
+        pairs: 0,
     };
 
     /// The number in the place of the right of a station from 1 on, 3 too.
@@ -115,6 +118,24 @@ impl Desk {
         }
     }
 
+    /// Puts a plan into a slot, and the sum right.
+    pub fn hold(&mut self, slot: usize, value: &Plan) {
+        self.put(slot, value);
+        self.settle();
+    }
+
+    /// The pairs that the slots count, added up as far as the place of the sum reaches.
+    /// Of a desk that is all of them; of another value the counts may be anything.
+    pub fn counted_pairs(&self) -> u16 {
+        let counts = self.blocks[..SLOTS].iter().map(|block| block.pairs as u16);
+        counts.fold(0, u16::wrapping_add)
+    }
+
+    /// Makes the sum what the slots count.
+    pub fn settle(&mut self) {
+        self.control.pairs = self.counted_pairs();
+    }
+
     /// Puts a value into a block, shape, count and words.
     pub fn put(&mut self, block: usize, value: &Plan) {
         self.blocks[block] = Block {
@@ -159,8 +180,10 @@ impl fmt::Debug for Desk {
             station,
             changes,
             rights,
+            pairs,
         } = self.control;
         write!(f, "open {}, station {station} of {changes:?}", self.opened)?;
+        write!(f, ", {pairs} pairs")?;
         if rights != Control::ALL_RIGHTS {
             write!(f, ", rights {rights:04x?}")?;
         }
@@ -274,7 +297,25 @@ mod tests {
         assert_eq!(size_of::<Desk>(), 18_632);
         assert_eq!(offset_of!(Control, changes), 4);
         assert_eq!(offset_of!(Control, rights), 36);
+        assert_eq!(offset_of!(Control, pairs), 50);
         assert_eq!(size_of::<Control>(), 52);
+    }
+
+    /// The open plan isn't in the sum, and counts beyond its place leave it by what
+    /// they are beyond.
+    #[test]
+    fn the_pairs_that_are_counted() {
+        let mut desk = Desk::FRESH;
+        assert_eq!(desk.counted_pairs(), 0);
+        for (block, pairs) in [3, 0, 128, 0, 0, 0, 0, 1, 77].into_iter().enumerate() {
+            desk.blocks[block].pairs = pairs;
+        }
+        assert_eq!(desk.counted_pairs(), 132);
+        desk.blocks[1].pairs = (1 << 63) + (1 << 16) + 2;
+        desk.settle();
+        assert_eq!(desk.control.pairs, 134);
+        desk.blocks[1].pairs = usize::MAX;
+        assert_eq!(desk.counted_pairs(), 131);
     }
 
     /// The right of station s on slot 'A' + i is `rights[s - 1] >> 2 * i & 3`.

@@ -5,9 +5,10 @@ use std::panic::{catch_unwind, AssertUnwindSafe};
 
 use desk_calls::broken::Broken;
 use desk_calls::checks::ALL;
-use desk_calls::faults::{misgivings, mislistings, misnamings, misplacings, misreadings};
-use desk_calls::faults::{missplits, FAULTS};
+use desk_calls::faults::{misgivings, misholdings, mislistings, misnamings, misplacings};
+use desk_calls::faults::{misreadings, missplits, FAULTS};
 use desk_calls::misgiven::Misgiven;
+use desk_calls::misheld::Misheld;
 use desk_calls::misnamed::Misnamed;
 use desk_calls::{Calls, Second};
 
@@ -21,10 +22,11 @@ fn failure(check: fn(&dyn Calls), calls: &dyn Calls) -> Option<String> {
 #[test]
 fn sound_copies_pass() {
     for (name, check) in ALL {
-        let sound: [&dyn Calls; 3] = [
+        let sound: [&dyn Calls; 4] = [
             &Second::default(),
             &Misnamed::new(None),
             &Misgiven::new(None),
+            &Misheld::new(None),
         ];
         for copy in sound {
             assert_eq!(failure(check, copy), None, "{name}");
@@ -68,6 +70,16 @@ fn mistakes_about_rights_are_caught() {
         for check in checks {
             let misgiven = Misgiven::new(Some(giving));
             assert_caught(&format!("{giving:?}"), check, &misgiven);
+        }
+    }
+}
+
+#[test]
+fn mistakes_about_the_pairs_held_are_caught() {
+    for (holding, checks) in misholdings() {
+        for check in checks {
+            let misheld = Misheld::new(Some(holding));
+            assert_caught(&format!("{holding:?}"), check, &misheld);
         }
     }
 }

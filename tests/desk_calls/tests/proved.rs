@@ -2,8 +2,8 @@
 //! implementation.
 
 use desk_calls::checks::{
-    buffers, bytes, damage, jobs, lines, paper, places, refusals, rights, sessions, stations,
-    tables,
+    buffers, bytes, damage, jobs, lines, pairs_held, paper, places, refusals, rights, sessions,
+    stations, tables,
 };
 use desk_calls::Library;
 
@@ -195,6 +195,46 @@ fn slots_shown_as_in_the_paper() {
 #[test]
 fn rights_that_are_none() {
     paper::rights::damage(&Library);
+}
+
+#[test]
+fn pairs_held_after_every_change() {
+    paper::pairs_held::moving(&Library);
+}
+
+#[test]
+fn pairs_asked_for_as_in_the_paper() {
+    paper::pairs_held::asking(&Library);
+}
+
+#[test]
+fn the_most_pairs_that_can_be_held() {
+    paper::pairs_held::most(&Library);
+}
+
+#[test]
+fn pairs_held_after_refused_changes() {
+    paper::pairs_held::refused_changes(&Library);
+}
+
+#[test]
+fn sums_that_are_off() {
+    paper::pairs_held::damage(&Library);
+}
+
+#[test]
+fn pairs_asked_for_in_lines_and_in_jobs() {
+    pairs_held::beside_lines(&Library);
+}
+
+#[test]
+fn pairs_asked_for_behind_changes() {
+    pairs_held::behind_changes(&Library);
+}
+
+#[test]
+fn sums_of_all_sizes() {
+    pairs_held::damaged(&Library);
 }
 
 #[test]

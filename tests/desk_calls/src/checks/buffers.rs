@@ -10,7 +10,7 @@ use crate::second::Second;
 use crate::values::Desk;
 
 /// Records on the prepared desk.
-const LINES: [&[u8]; 22] = [
+const LINES: [&[u8]; 23] = [
     b"F\tA\tB\tC",
     b"I\tE\tF",
     b"K\tA\t14\tA",
@@ -22,6 +22,7 @@ const LINES: [&[u8]; 22] = [
     b"C\tE",
     b"T",
     b"U",
+    b"H",
     b"P\tF\t2\t1",
     b"W\tA\t11",
     b"W\tD\t1",
@@ -43,9 +44,12 @@ pub fn of_every_length(calls: &dyn Calls) {
     let lines = LINES.into_iter().chain([&deep_image[..]]);
     let of_closed = lines.map(|line| (prepared(), line));
     let of_open = on_open.iter().map(|line| (open, *line));
-    let of_fresh: [&[u8]; 4] = [b"U", b"T", b"G\t1\tA\t0", b"G\t7\tH\t1"];
+    let of_fresh: [&[u8]; 5] = [b"U", b"T", b"H", b"G\t1\tA\t0", b"G\t7\tH\t1"];
     let of_fresh = of_fresh.map(|line| (Desk::FRESH, line));
-    for (desk, line) in of_closed.chain(of_open).chain(of_fresh) {
+    let of_zero = [&b"H"[..], b"C\tE", b"K\tE\t0\tE", b"F\tA\tA\tE"];
+    let of_zero = of_zero.map(|line| (of_station_0(), line));
+    let of_others = of_fresh.into_iter().chain(of_zero);
+    for (desk, line) in of_closed.chain(of_open).chain(of_others) {
         both.start(&desk);
         let length = both.line(line).length;
         let shorter = [length.saturating_sub(1), length / 2, 1, 0];
@@ -56,10 +60,21 @@ pub fn of_every_length(calls: &dyn Calls) {
             both.line(line);
             both.line(b"U");
             both.line(b"T");
+            both.line(b"Z\t0");
+            both.line(b"H");
         }
     }
     both.tally.demand(10, &["0", "1", "2", "14", "a block"]);
+    both.tally.demand(3, &["H 0", "H 14", "H 19"]);
     both.tally.demand(10, SURVEYS);
+}
+
+/// The prepared desk as station 0 has it, with changes left to make.
+fn of_station_0() -> Desk {
+    let mut desk = prepared();
+    desk.control.station = 0;
+    desk.control.changes[0] = 5;
+    desk
 }
 
 /// Blocks with buffers that have room for some of their lines, whole or in part:

@@ -141,7 +141,7 @@ pub fn in_codes(calls: &dyn Calls) {
         let most = if shape.roots == 1 { PAIRS } else { 40 };
         let split = SplitPath::within(shape, most);
         let mut desk = Desk::FRESH;
-        desk.put(0, &split.value());
+        desk.hold(0, &split.value());
         both.start(&desk);
         let digits = table::written(&digits_in_turn(shape, CODE_DIGITS));
         let whole = (0..PLACES).map(|place| (place, PLACES));

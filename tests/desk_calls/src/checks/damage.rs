@@ -12,9 +12,10 @@ use crate::random::Rng;
 use crate::values::{Desk, BLOCKS, WORDS};
 
 /// Lines that would be done, refused, or be no record at all.
-const LINES: [&[u8]; 14] = [
+const LINES: [&[u8]; 15] = [
     b"T",
     b"U",
+    b"H",
     b"",
     b"C\tA",
     b"E",
@@ -58,8 +59,9 @@ pub fn of_every_kind(calls: &dyn Calls) {
     both.tally.demand(10, &["is a desk", "is no desk"]);
 }
 
-/// One word or one field changed by chance, and every value of the letter of
-/// the open plan: some are desks still.
+/// One word or one field changed by chance, every value of the letter of the open
+/// plan, and every bit of the sum: some are desks still. A number of pairs comes with
+/// the sum as it was, and with one that is right for it.
 pub fn of_any_word(calls: &dyn Calls) {
     let mut rng = Rng::new(502);
     let mut both = SideBySide::new(calls, &Desk::FRESH);
@@ -85,10 +87,17 @@ pub fn of_any_word(calls: &dyn Calls) {
                 roots.blocks[block].roots = value;
                 let mut pairs = desk;
                 pairs.blocks[block].pairs = value.into();
-                for changed in [arity, roots, pairs] {
+                let mut settled = pairs;
+                settled.settle();
+                for changed in [arity, roots, pairs, settled] {
                     ask(&mut rng, &mut both, &changed);
                 }
             }
+        }
+        for bit in 0..16 {
+            let mut changed = desk;
+            changed.control.pairs ^= 1 << bit;
+            ask(&mut rng, &mut both, &changed);
         }
     }
     both.tally

@@ -32,7 +32,7 @@ pub fn of_every_letter(calls: &dyn Calls) {
 pub fn in_chains(calls: &dyn Calls) {
     let mut rng = Rng::new(402);
     let mut both = SideBySide::new(calls, &Desk::FRESH);
-    for _ in 0..60 {
+    for _ in 0..80 {
         both.start(&some_desk(&mut rng));
         for _ in 0..40 {
             let open = both.job(some_job(&mut rng)).number == 0 && both.desk().opened != 0;
@@ -45,7 +45,8 @@ pub fn in_chains(calls: &dyn Calls) {
         .demand(10, &["0", "2", "3", "8", "9", "10", "11", "12", "16", "17"]);
     both.tally
         .demand(10, &["X 0", "X 1", "X 3", "X 5", "X 16", "X 17"]);
-    both.tally.demand(10, &["Z 0", "Z 2", "Z 18"]);
+    both.tally
+        .demand(10, &["Z 0", "Z 2", "Z 18", "H 0", "H 2", "H 19"]);
     both.tally.demand(2, &["7F"]);
 }
 
@@ -189,7 +190,7 @@ pub fn of_every_splits(calls: &dyn Calls) {
 
 /// The letters that have no splits, so that any number does.
 fn splits_of_others(both: &mut SideBySide, desk: &Desk, splits: u8) {
-    for letter in *b"PEFIKSCTZG" {
+    for letter in *b"PEFIKSCTZGH" {
         let [b, c] = match letter {
             b'P' => [2, 1],
             b'G' => [b'B', 1],

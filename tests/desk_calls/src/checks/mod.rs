@@ -7,6 +7,7 @@ pub mod bytes;
 pub mod damage;
 pub mod jobs;
 pub mod lines;
+pub mod pairs_held;
 pub mod paper;
 pub mod places;
 pub mod refusals;
@@ -22,7 +23,7 @@ use crate::calls::Calls;
 pub type Check = (&'static str, fn(&dyn Calls));
 
 /// Every check, those that take long behind the others.
-pub const ALL: [Check; 50] = [
+pub const ALL: [Check; 58] = [
     ("paper::session", paper::session),
     ("paper::session_in_jobs", paper::session_in_jobs),
     ("paper::block_without_room", paper::block_without_room),
@@ -39,6 +40,14 @@ pub const ALL: [Check; 50] = [
     ("paper::rights::shown", paper::rights::shown),
     ("paper::rights::damage", paper::rights::damage),
     ("paper::places::listed", paper::places::listed),
+    ("paper::pairs_held::moving", paper::pairs_held::moving),
+    ("paper::pairs_held::asking", paper::pairs_held::asking),
+    ("paper::pairs_held::most", paper::pairs_held::most),
+    (
+        "paper::pairs_held::refused_changes",
+        paper::pairs_held::refused_changes,
+    ),
+    ("paper::pairs_held::damage", paper::pairs_held::damage),
     ("paper::refusals_of_calls", paper::refusals_of_calls),
     ("lines::of_any_bytes", lines::of_any_bytes),
     ("lines::at_the_limit", lines::at_the_limit),
@@ -59,6 +68,9 @@ pub const ALL: [Check; 50] = [
     ("rights::of_every_record", rights::of_every_record),
     ("rights::in_chains", rights::in_chains),
     ("rights::damaged", rights::damaged),
+    ("pairs_held::beside_lines", pairs_held::beside_lines),
+    ("pairs_held::behind_changes", pairs_held::behind_changes),
+    ("pairs_held::damaged", pairs_held::damaged),
     ("places::of_full_plans", places::of_full_plans),
     ("places::of_long_words", places::of_long_words),
     ("buffers::of_every_length", buffers::of_every_length),

@@ -29,7 +29,7 @@ pub fn of_full_plans(calls: &dyn Calls) {
         };
         let plan = plans::kept(shape, &rows);
         let mut desk = Desk::FRESH;
-        desk.put(5, &plan_value(&plan));
+        desk.hold(5, &plan_value(&plan));
         both.start(&desk);
         let every = shape.roots < 3;
         let words = plan.pairs().keys();
@@ -100,7 +100,7 @@ pub fn of_long_words(calls: &dyn Calls) {
     let plan = plans::kept(shape, &rows);
     assert_eq!(plan.size(), 128, "nothing joins");
     let mut desk = Desk::FRESH;
-    desk.put(5, &plan_value(&plan));
+    desk.hold(5, &plan_value(&plan));
     let mut both = SideBySide::new(calls, &desk);
     assert_eq!(ask(&mut both, b"1"), 4835);
     for room in [4617, 4618, 4619, 4834] {

@@ -1,5 +1,6 @@
 //! Each refusal, and then what the desk does after it: an open plan is gone, and
-//! the slots, the station, the counts and the rights are as they were.
+//! the slots, the sum of their pairs, the station, the counts and the rights are as
+//! they were.
 
 use reference::COUNT_LIMIT;
 
@@ -9,7 +10,7 @@ use crate::random::desks::{prepared, with_psi_open};
 use crate::values::{Desk, Job};
 
 /// Refused on the prepared desk, or with a plan open there.
-const LINES: [&[u8]; 52] = [
+const LINES: [&[u8]; 55] = [
     b"",
     b"Y",
     b"X",
@@ -17,6 +18,9 @@ const LINES: [&[u8]; 52] = [
     b"M\t1",
     b"T",
     b"U",
+    b"H",
+    b"H\t",
+    b"H\t0",
     b"L\tA",
     b"P\tA\t2\t1",
     b"P\tI\t2\t1",
@@ -75,7 +79,16 @@ pub fn one_after_another(calls: &dyn Calls) {
         for line in LINES {
             both.start(&desk);
             both.line(line);
-            for after in [&b"E"[..], b"T", b"U", b"L\tA", b"I\tA\tG", b"C\tG"] {
+            for after in [
+                &b"E"[..],
+                b"T",
+                b"U",
+                b"L\tA",
+                b"I\tA\tG",
+                b"C\tG",
+                b"Z\t0",
+                b"H",
+            ] {
                 both.line(after);
             }
             both.start(&desk);
@@ -92,7 +105,7 @@ pub fn one_after_another(calls: &dyn Calls) {
         &[
             "0", "1", "2", "3", "4", "5", "6F", "7F", "8", "9", "10", "11", "12", "16", "17",
             "X 1", "X 2", "X 3", "X 4", "X 5", "X 8", "X 16", "X 17", "18", "Z 1", "Z 2", "Z 18",
-            "G 1", "G 2", "G 8", "G 18", "G 19",
+            "G 1", "G 2", "G 8", "G 18", "G 19", "H 0", "H 1", "H 2", "H 19",
         ],
     );
 }

@@ -49,8 +49,9 @@ pub fn with_jobs(calls: &dyn Calls) {
 pub fn of_full_desks(calls: &dyn Calls) {
     let mut rng = Rng::new(201);
     let mut both = SideBySide::new(calls, &Desk::FRESH);
-    let lines: [&[u8]; 11] = [
+    let lines: [&[u8]; 14] = [
         b"U",
+        b"H",
         b"W\tA\t1",
         b"W\tH\t1",
         b"L\tA",
@@ -59,8 +60,10 @@ pub fn of_full_desks(calls: &dyn Calls) {
         b"I\tD\tD",
         b"S\tD\tH",
         b"K\tE\t2\tE",
+        b"H",
         b"C\tH",
         b"U",
+        b"H",
     ];
     for _ in 0..24 {
         let desk = full(&mut rng);

@@ -132,10 +132,10 @@ impl<'a> SideBySide<'a> {
         answer
     }
 
-    /// Counts an answer to X, Z or G by itself: most of its numbers others have too.
+    /// Counts an answer to X, Z, G or H by itself: most of its numbers others have too.
     fn count_own(&mut self, record: &[u8], number: u8) {
         let (letter, rest) = record.split_first().unwrap_or((&0, &[]));
-        if b"XZG".contains(letter) && matches!(rest, [] | [b'\t', ..]) {
+        if b"XZGH".contains(letter) && matches!(rest, [] | [b'\t', ..]) {
             let letter = char::from(*letter);
             self.tally.count(format!("{letter} {number}"));
         }
@@ -189,6 +189,7 @@ fn placed(desk: &Desk, padding: u8) -> Box<Desk> {
         placed.control.station = desk.control.station;
         placed.control.changes = desk.control.changes;
         placed.control.rights = desk.control.rights;
+        placed.control.pairs = desk.control.pairs;
         placed.columns = desk.columns;
         Box::from_raw(Box::into_raw(place).cast())
     }

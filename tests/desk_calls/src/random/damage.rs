@@ -1,7 +1,8 @@
 //! Every way to make a desk into something that is none: each changes one thing
 //! about a sound desk and always breaks a rule, so that each must be refused with
 //! 15. Where a desk has nothing that a damage could be done to, it stays sound,
-//! and another place is tried.
+//! and another place is tried. The sum of the pairs is what the spoiled counts come to,
+//! so that it never is the reason; where it is the damage itself, the rest is sound.
 
 use library::random::damage::{with_damage, Damage};
 use library::{Plan, PLACES};
@@ -14,7 +15,7 @@ use crate::values::{Desk, OPEN, SLOTS, STATIONS};
 pub type Named = (&'static str, fn(&mut Rng, &mut Desk));
 
 /// What is done to a held slot, or to what is left of one.
-pub const OF_HELD: [Named; 16] = [
+pub const OF_HELD: [Named; 17] = [
     ("arity out of range", |rng, desk| {
         desk.blocks[held(rng, desk)].arity = *rng.pick(&[0, 1, 10, 255]);
     }),
@@ -32,6 +33,14 @@ pub const OF_HELD: [Named; 16] = [
     ("far counted", |rng, desk| {
         let pairs = &mut desk.blocks[held(rng, desk)].pairs;
         *pairs = some_far_count(rng, *pairs);
+    }),
+    ("counts that even each other out", |rng, desk| {
+        let (more, fewer) = (held(rng, desk), empty(rng, desk));
+        let by = *rng.pick(&[1, 128, 1 << 16, 1 << 63, usize::MAX]);
+        for (slot, by) in [(more, by), (fewer, by.wrapping_neg())] {
+            let pairs = &mut desk.blocks[slot].pairs;
+            *pairs = pairs.wrapping_add(by);
+        }
     }),
     ("block without words", |rng, desk| {
         let slot = held(rng, desk);
@@ -202,20 +211,56 @@ pub const OF_RIGHTS: [Named; 4] = [
     }),
 ];
 
+/// What is done to the sum of the pairs: it is off by a little, by all or by much, in
+/// its low bits or in its high ones, or by the pairs of an open plan.
+pub const OF_SUM: [Named; 7] = [
+    ("a sum one too high", |_, desk| desk.control.pairs += 1),
+    ("a sum one too low", |_, desk| {
+        desk.control.pairs = desk.control.pairs.wrapping_sub(1);
+    }),
+    ("a sum of nothing", |_, desk| desk.control.pairs = 0),
+    ("a sum of every bit", |_, desk| {
+        desk.control.pairs = u16::MAX
+    }),
+    ("a sum with another bit", |rng, desk| {
+        desk.control.pairs ^= 1 << rng.below(16);
+    }),
+    ("a sum without a slot", |rng, desk| {
+        let slot = held(rng, desk);
+        desk.control.pairs -= desk.blocks[slot].pairs as u16;
+    }),
+    ("a sum with the open plan", |rng, desk| {
+        if desk.blocks[OPEN].pairs == 0 {
+            desks::open_some(rng, desk);
+        }
+        desk.control.pairs += desk.blocks[OPEN].pairs as u16;
+    }),
+];
+
 pub fn all() -> Vec<Named> {
-    [&OF_HELD[..], &OF_EMPTY, &OF_OPEN, &OF_STATIONS, &OF_RIGHTS].concat()
+    let others: [&[Named]; 4] = [&OF_OPEN, &OF_STATIONS, &OF_RIGHTS, &OF_SUM];
+    [&OF_HELD[..], &OF_EMPTY, &others.concat()].concat()
+}
+
+/// Whether a damage is one of these.
+fn is_of(damages: &[Named], damage: Named) -> bool {
+    damages.iter().any(|(name, _)| *name == damage.0)
 }
 
 /// The desk with this damage, done where the desk has room for it.
 pub fn damaged(rng: &mut Rng, desk: &Desk, damage: Named) -> Desk {
     for _ in 0..1000 {
         let mut base = *desk;
-        if OF_OPEN.iter().any(|(name, _)| *name == damage.0) {
+        if is_of(&OF_OPEN, damage) {
             desks::open_some(rng, &mut base);
         }
         let mut spoiled = base;
         damage.1(rng, &mut spoiled);
-        if spoiled != base {
+        if !is_of(&OF_SUM, damage) {
+            spoiled.settle();
+        }
+        let sound = is_of(&OF_SUM, damage) && spoiled.control == base.control;
+        if spoiled != base && !sound {
             return spoiled;
         }
     }

@@ -33,6 +33,7 @@ pub fn prepared() -> Desk {
         changes: [COUNT_LIMIT as u32, 1, 5, 0, 7, 8, 9, COUNT_LIMIT as u32 - 1],
         ..Control::FRESH
     };
+    desk.settle();
     desk
 }
 
@@ -76,6 +77,7 @@ pub fn some_desk(rng: &mut Rng) -> Desk {
         };
         desk.put(*slot, &plan_value(&plans::plan(rng, shape)));
     }
+    desk.settle();
     if rng.chance(50) {
         open_some(rng, &mut desk);
     }
@@ -91,6 +93,7 @@ pub fn full(rng: &mut Rng) -> Desk {
         let rows = plans::paired(rng, shape, most_splits(shape));
         desk.put(block, &plan_value(&plans::kept(shape, &rows)));
     }
+    desk.settle();
     let belts = value(shape, &vec![(b"1".to_vec(), b"1".to_vec()); 128]);
     desk.opened = letter(rng.below(SLOTS));
     if rng.chance(50) {

@@ -50,7 +50,7 @@ pub const SEEDS: [u64; 16] = [
 /// A job of a letter that has jobs, its slots mostly slots and its station mostly
 /// one or nearly.
 pub fn some_job(rng: &mut Rng) -> Job {
-    let letter = *rng.pick(b"PEEFFFIKKSSCTTXXZZGG");
+    let letter = *rng.pick(b"PEEFFFIKKSSCTTXXZZGGHH");
     let mut job = Job {
         letter,
         a: some_slot(rng),

@@ -1,9 +1,11 @@
 //! The session of document 01 in full, with the replies that it, E1 and E7 give, in
 //! lines and as far as that goes in jobs; the slots of U in the order of E2; two
 //! plans of X (E3) that were worked by hand, in tests/cases/README.md; what only calls
-//! refuse, in so many words; in `stations` those of E5, in `rights` those of E6 and in
-//! `places` those of E7. Nothing here asks the second implementation.
+//! refuse, in so many words; in `stations` those of E5, in `rights` those of E6, in
+//! `places` those of E7 and in `pairs_held` those of E8. Nothing here asks the second
+//! implementation.
 
+pub mod pairs_held;
 pub mod places;
 pub mod rights;
 pub mod stations;
@@ -28,6 +30,31 @@ fn reply(calls: &dyn Calls, desk: &mut Desk, line: &str, reply: &str) {
         assert_eq!(&out[..reply.len()], reply.as_bytes(), "to {line}");
         assert!(out[reply.len()..].iter().all(|byte| *byte == b'.'));
     }
+}
+
+/// Asserts that a line is refused with this number, and what is left of the desk.
+fn line_refused(calls: &dyn Calls, desk: &Desk, line: &str, number: u8, left: &Desk) {
+    let (mut said, mut out) = (*desk, [b'.'; 9]);
+    let answer = calls.line(&mut said, line.as_bytes(), &mut out);
+    assert_eq!(answer, Written::refused(number, 0), "to {line} on {desk:?}");
+    assert_eq!((&said, out), (left, [b'.'; 9]), "after {line}");
+}
+
+/// The same of a job.
+fn job_refused(calls: &dyn Calls, desk: &Desk, job: Job, number: u8, left: &Desk) {
+    let mut done = *desk;
+    let answer = calls.job(&mut done, job);
+    assert_eq!(answer, Done::refused(number, 0), "to {job:?} on {desk:?}");
+    assert_eq!(&done, left, "after {job:?}");
+}
+
+/// A line and a job that are to be answered alike.
+type Both<'a> = (&'a str, Job);
+
+/// The same of both.
+fn refused(calls: &dyn Calls, desk: &Desk, (line, job): Both, number: u8, left: &Desk) {
+    line_refused(calls, desk, line, number, left);
+    job_refused(calls, desk, job, number, left);
 }
 
 pub fn session(calls: &dyn Calls) {

@@ -1,7 +1,7 @@
 //! The rights by the words of E6: what G gives and when it is refused, what each
 //! record needs, what U shows, and values that are no desk for the sake of a right.
 
-use super::reply;
+use super::{job_refused, line_refused, reply};
 use crate::calls::Calls;
 use crate::values::{places_of_rights, Control, Desk, Done, Job, Written, SLOTS};
 
@@ -14,22 +14,6 @@ fn gift(a: u8, b: u8, c: u8) -> Job {
         c,
         ..Job::default()
     }
-}
-
-/// Asserts that a line is refused with this number, and what is left of the desk.
-fn refused(calls: &dyn Calls, desk: &Desk, line: &str, number: u8, left: &Desk) {
-    let (mut said, mut out) = (*desk, [b'.'; 9]);
-    let answer = calls.line(&mut said, line.as_bytes(), &mut out);
-    assert_eq!(answer, Written::refused(number, 0), "to {line} on {desk:?}");
-    assert_eq!((&said, out), (left, [b'.'; 9]), "after {line}");
-}
-
-/// The same of a job.
-fn job_refused(calls: &dyn Calls, desk: &Desk, job: Job, number: u8, left: &Desk) {
-    let mut done = *desk;
-    let answer = calls.job(&mut done, job);
-    assert_eq!(answer, Done::refused(number, 0), "to {job:?} on {desk:?}");
-    assert_eq!(&done, left, "after {job:?}");
 }
 
 /// A desk with 11→12, 12→11 in A and H, and station 0 named.
@@ -89,12 +73,12 @@ pub fn refused_gifts(calls: &dyn Calls) {
         let line = format!("G\t{a}\t{}\t{c}", char::from(b));
         for (desk, number) in [(&desk, from_zero), (&other, from_four)] {
             if number > 0 {
-                refused(calls, desk, &line, number, desk);
+                line_refused(calls, desk, &line, number, desk);
                 job_refused(calls, desk, gift(a, b, c), number, desk);
             }
         }
         let while_open = if c > 2 { 1 } else { 2 };
-        refused(calls, &open, &line, while_open, &desk);
+        line_refused(calls, &open, &line, while_open, &desk);
         job_refused(calls, &open, gift(a, b, c), while_open, &desk);
     }
     // numbers that no line has digits for
@@ -183,7 +167,7 @@ pub fn needed(calls: &dyn Calls) {
                 limited.control.put_right(station, 0, a);
                 limited.control.put_right(station, 7, h);
                 if a < on_a || h < on_h {
-                    refused(calls, &limited, line, 20, &limited);
+                    line_refused(calls, &limited, line, 20, &limited);
                     job.inspect(|job| job_refused(calls, &limited, *job, 20, &limited));
                     continue;
                 }
@@ -227,7 +211,7 @@ pub fn shown(calls: &dyn Calls) {
         let mut closed = open;
         reply(calls, &mut closed, "E", "ok\t2\n");
         let mut after = desk;
-        after.put(0, &plan);
+        after.hold(0, &plan);
         *after.count() += 1;
         assert_eq!(closed, after);
         let mut done = open;
@@ -253,7 +237,7 @@ pub fn damage(calls: &dyn Calls) {
             spoiled.control.put_right(station, slot, 3);
             assert!(!calls.is_desk(&spoiled), "{spoiled:?}");
             for line in ["T", "U", "G\t1\tA\t2", "Z\t0", "", "E"] {
-                refused(calls, &spoiled, line, 15, &spoiled);
+                line_refused(calls, &spoiled, line, 15, &spoiled);
             }
             for job in [gift(1, b'A', 2), gift(9, b'I', 9), Job::default()] {
                 job_refused(calls, &spoiled, job, 15, &spoiled);

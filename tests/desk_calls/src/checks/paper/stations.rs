@@ -1,13 +1,10 @@
 //! The stations by the words of E5: whose count T gives, the refusals of Z, the limit
 //! of each station, and values that are no desk for the sake of their stations.
 
-use super::{reply, PLAN};
+use super::{refused, reply, Both, PLAN};
 use crate::calls::Calls;
 use crate::random::damage::far_stations;
 use crate::values::{Control, Desk, Done, Job, Written};
-
-/// A line and a job that are to be answered alike.
-type Both<'a> = (&'a str, Job);
 
 /// Z of this number.
 fn naming_job(station: u8) -> Job {
@@ -16,19 +13,6 @@ fn naming_job(station: u8) -> Job {
         a: station,
         ..Job::default()
     }
-}
-
-/// Asserts that a line and a job are refused with this number, and what is left of
-/// the desk.
-fn refused(calls: &dyn Calls, desk: &Desk, (line, job): Both, number: u8, left: &Desk) {
-    let (mut said, mut out) = (*desk, [b'.'; 9]);
-    let answer = calls.line(&mut said, line.as_bytes(), &mut out);
-    assert_eq!(answer, Written::refused(number, 0), "to {line} on {desk:?}");
-    assert_eq!((&said, out), (left, [b'.'; 9]), "after {line}");
-    let mut done = *desk;
-    let answer = calls.job(&mut done, job);
-    assert_eq!(answer, Done::refused(number, 0), "to {job:?} on {desk:?}");
-    assert_eq!(&done, left, "after {job:?}");
 }
 
 /// A desk with a plan of two pairs in A. Three stations have made changes, and station
@@ -55,6 +39,7 @@ fn used(calls: &dyn Calls) -> Desk {
     let control = Control {
         station: 5,
         changes: [1, 0, 0, 0, 0, 2, 0, 1],
+        pairs: 2,
         ..Control::FRESH
     };
     assert_eq!(desk.control, control);
