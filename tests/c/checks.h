@@ -38,5 +38,6 @@ void check_exercises(void);
 void check_splits(void);
 void check_stations(void);
 void check_rights(void);
+void check_pairs_held(void);
 
 #endif

@@ -56,7 +56,8 @@ bool same_desks(const struct desk *a, const struct desk *b)
     }
     return a->opened == b->opened && a->control.station == b->control.station
         && !memcmp(a->control.changes, b->control.changes, sizeof a->control.changes)
-        && !memcmp(a->control.rights, b->control.rights, sizeof a->control.rights) && !memcmp(a->columns, b->columns, sizeof a->columns);
+        && !memcmp(a->control.rights, b->control.rights, sizeof a->control.rights) && a->control.pairs == b->control.pairs
+        && !memcmp(a->columns, b->columns, sizeof a->columns);
 }
 
 bool refuses(struct desk d, struct desk_job job, uint8_t number, const struct desk *after)
@@ -84,5 +85,6 @@ int main(void)
     check_splits();
     check_stations();
     check_rights();
+    check_pairs_held();
     return failures ? EXIT_FAILURE : EXIT_SUCCESS;
 }
