@@ -49,7 +49,12 @@ class Block(ctypes.Structure):
 class Control(ctypes.Structure):
     """struct desk_control"""
 
-    _fields_ = [("station", ctypes.c_uint32), ("changes", ctypes.c_uint32 * 8), ("rights", ctypes.c_uint16 * 7)]
+    _fields_ = [
+        ("station", ctypes.c_uint32),
+        ("changes", ctypes.c_uint32 * 8),
+        ("rights", ctypes.c_uint16 * 7),
+        ("pairs", ctypes.c_uint16),
+    ]
 
 
 class Desk(ctypes.Structure):

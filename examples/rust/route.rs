@@ -52,6 +52,7 @@ struct Control {
     station: u32,
     changes: [u32; 8],
     rights: [u16; 7],
+    pairs: u16,
 }
 
 /// `struct desk`.

@@ -18,7 +18,7 @@ const BEGINNING: usize = 150;
 
 /// The letters of the records, and D, which the libraries' harnesses take for
 /// damage.
-const LETTERS: &[u8] = b"PMEFIKSWLCTUXZGD";
+const LETTERS: &[u8] = b"PMEFIKSWLCTUXZGHD";
 
 /// Changes the input that stands at the front of the room, and gives its length.
 pub fn mutate(room: &mut [u8], length: usize, seed: u64) -> usize {

@@ -28,7 +28,7 @@ fn tried(input: &[u8]) {
 /// Whether a line is handed over as a job: one in four of those that have one.
 /// Of the others few are, since a job that is refused drops the open plan.
 fn is_job(line: &[u8], chance: usize) -> bool {
-    let has_job = matches!(line, [letter, ..] if b"PEFIKSCTXZG".contains(letter));
+    let has_job = matches!(line, [letter, ..] if b"PEFIKSCTXZGH".contains(letter));
     chance % if has_job { 4 } else { 256 } == 0
 }
 
@@ -98,7 +98,7 @@ fn damage(both: &mut SideBySide, letter: u8, edits: &[u8]) {
 fn change(desk: &mut Desk, block: usize, what: u8, place: usize, how: u8) {
     let digit = u64::from(how & 15) << (how >> 4 << 2);
     let head = &mut desk.blocks[block];
-    match what % 12 {
+    match what % 14 {
         0 => head.arity = how,
         1 => head.roots = how,
         2 => head.pairs = usize::from(how),
@@ -112,6 +112,9 @@ fn change(desk: &mut Desk, block: usize, what: u8, place: usize, how: u8) {
         10 => desk
             .control
             .put_right(1 + place % 7, usize::from(how >> 2) % 8, how & 3),
+        11 => desk.control.pairs ^= 1 << (how % 16),
+        // behind a change of the counts, so that the sum isn't what is wrong
+        12 => desk.settle(),
         _ => *desk = desk.without_open(),
     }
 }
