@@ -70,6 +70,7 @@ pub fn sessions() -> Vec<Session> {
     }));
     all.extend(exercises(rng, &typed.concat()));
     all.push(session("T", 1_000_000, &mut |_| "T\n".to_string()));
+    all.push(session("H", 1_000_000, &mut |_| "H\n".to_string()));
     all.push(session("Z", 1_000_000, &mut |_| {
         format!("Z\t{}\n", letter(rng, b'0', 8))
     }));

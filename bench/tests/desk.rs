@@ -1,7 +1,7 @@
 //! The desk on arrays held to the second implementation, on random sessions
 //! without the records that it doesn't know, whole and cut into pieces; and on
-//! the blocks, the plans of X, the counts, the stations and the rights that are
-//! measured.
+//! the blocks, the plans of X, the counts, the pairs held, the stations and the rights
+//! that are measured.
 
 use bench::arrays::desk::Desk;
 
@@ -60,9 +60,14 @@ fn measured_exercises() {
 }
 
 #[test]
-fn measured_counts_and_stations() {
+fn measured_counts_pairs_and_stations() {
     let sessions = bench::sessions::sessions();
-    for (name, last) in [("T", &b"ok\t8\n"[..]), ("Z", b"ok\n"), ("G", b"ok\n")] {
+    for (name, last) in [
+        ("T", &b"ok\t8\n"[..]),
+        ("H", b"ok\t1024\n"),
+        ("Z", b"ok\n"),
+        ("G", b"ok\n"),
+    ] {
         let mut measured = sessions.iter().filter(|session| session.name == name);
         let input = measured.next().expect("it is measured").input.as_bytes();
         let (mut expected, mut replies) = (Vec::new(), Vec::new());

@@ -1,5 +1,5 @@
-//! A desk on arrays, for the records that are measured: P, M, E, F, I, K, W, X, T, Z
-//! and G, from the bytes of a line to those of its reply. What stands in a slot is known
+//! A desk on arrays, for the records that are measured: P, M, E, F, I, K, W, X, T, Z, G
+//! and H, from the bytes of a line to those of its reply. What stands in a slot is known
 //! to be a plan and isn't checked again. Any other record is refused with 1.
 
 use std::io::Write;
@@ -21,7 +21,7 @@ const TOO_MANY_PAIRS: u8 = 5;
 const EMPTY_SLOT: u8 = 9;
 const COUNT_AT_LIMIT: u8 = 16;
 const NO_STATION: u8 = 18;
-const NO_GIVER: u8 = 19;
+const WRONG_STATION: u8 = 19;
 const NO_RIGHT: u8 = 20;
 
 /// The most bytes of a line.
@@ -44,10 +44,11 @@ fn no<T>(number: u8) -> Result<T, Refusal> {
     Err(Refusal(number, 0))
 }
 
-/// Eight plans, the pairs of an open one, the counts and rights of the stations with the
-/// one that is named, and the beginning of a line.
+/// Eight plans and the sum of their pairs, the pairs of an open one, the counts and
+/// rights of the stations with the one that is named, and the beginning of a line.
 pub struct Desk {
     slots: [Plan; 8],
+    pairs: usize,
     draft: Plan,
     open: Option<usize>,
     station: usize,
@@ -60,6 +61,7 @@ impl Default for Desk {
     fn default() -> Desk {
         Desk {
             slots: [Plan::ZERO; 8],
+            pairs: 0,
             draft: Plan::ZERO,
             open: None,
             station: 0,
@@ -118,6 +120,7 @@ impl Desk {
             }
             [b"E"] => self.close(out),
             [b"T"] => self.tell(out),
+            [b"H"] => self.tell_pairs(out),
             [b"Z", &[digit @ b'0'..=b'9']] => self.name(digit - b'0', out),
             [b"G", &[station @ b'0'..=b'9'], &[slot], &[right @ b'0'..=b'2']] => {
                 self.give(station - b'0', slot, right - b'0', out)
@@ -139,6 +142,15 @@ impl Desk {
         Ok(())
     }
 
+    fn tell_pairs(&self, out: &mut Vec<u8>) -> Done {
+        self.in_turn()?;
+        if self.station != 0 {
+            return no(WRONG_STATION);
+        }
+        writeln!(out, "ok\t{}", self.pairs).expect("a vector takes all");
+        Ok(())
+    }
+
     fn name(&mut self, station: u8, out: &mut Vec<u8>) -> Done {
         self.in_turn()?;
         if usize::from(station) >= STATIONS {
@@ -157,7 +169,7 @@ impl Desk {
         }
         let slot = place(slot)?;
         if self.station != 0 || station == 0 {
-            return no(NO_GIVER);
+            return no(WRONG_STATION);
         }
         self.rights[station][slot] = right;
         out.extend_from_slice(b"ok\n");
@@ -314,6 +326,7 @@ impl Desk {
             return no(COUNT_AT_LIMIT);
         }
         *count += 1;
+        self.pairs = self.pairs + plan.pairs - self.slots[slot].pairs;
         self.slots[slot] = plan;
         writeln!(out, "ok\t{}", plan.pairs).expect("a vector takes all");
         Ok(())
