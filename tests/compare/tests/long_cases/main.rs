@@ -7,6 +7,7 @@ mod blocks;
 mod case;
 mod exercises;
 mod lines;
+mod pairs_held;
 mod places;
 mod plans;
 mod rights;
@@ -46,6 +47,10 @@ fn all() -> Vec<Case> {
         rights::of_following(),
         rights::of_each_record(),
         rights::of_every_station(),
+        pairs_held::of_eight_full_slots(),
+        pairs_held::of_open_plans(),
+        pairs_held::of_refused_results(),
+        pairs_held::of_exercises(),
     ]
 }
 
