@@ -10,6 +10,7 @@ const UNKNOWN: &[u8] = b"SLCU";
 
 #[test]
 fn random_sessions() {
+    let mut asked = 0;
     for seed in 0..100 {
         let input = known(&sessions::session(seed));
         let mut expected = Vec::new();
@@ -22,7 +23,10 @@ fn random_sessions() {
             }
             assert!(replies == expected, "seed {seed}, pieces of {size} bytes");
         }
+        let lines = input.split(|byte| *byte == b'\n');
+        asked += lines.filter(|line| *line == b"H").count();
     }
+    assert!(asked > 1000, "H came up {asked} times");
 }
 
 #[test]

@@ -2,7 +2,7 @@
 //! came up, and what has to and did not.
 
 use crate::judge::Step;
-use sessions::{tally, Tally, EXERCISES, GRANTS, NAMINGS, RIGHTS};
+use sessions::{tally, Tally, EXERCISES, GRANTS, NAMINGS, PAIRS_HELD, RIGHTS};
 use std::collections::BTreeMap;
 
 /// From so many seeds on, a reply that never came up is a failure.
@@ -12,10 +12,11 @@ const FULL_RANGE: u64 = 200;
 pub type Replies = BTreeMap<char, Tally>;
 
 /// The replies that the records of one letter have to meet.
-const OWN: [(char, &[&str]); 12] = [
+const OWN: [(char, &[&str]); 13] = [
     ('X', EXERCISES),
     ('Z', NAMINGS),
     ('G', GRANTS),
+    ('H', PAIRS_HELD),
     ('P', RIGHTS),
     ('X', RIGHTS),
     ('F', RIGHTS),
@@ -67,7 +68,7 @@ fn operation(record: &[u8]) -> char {
     let body = record.strip_suffix(b"\n").unwrap_or(record);
     let letter = body.split(|&byte| byte == b'\t').next();
     match letter {
-        Some([letter]) if b"PMEFIKSWLCTUXZG".contains(letter) => *letter as char,
+        Some([letter]) if b"PMEFIKSWLCTUXZGH".contains(letter) => *letter as char,
         _ => '?',
     }
 }
@@ -88,6 +89,7 @@ mod tests {
         assert!(missing.contains("no 1 to X") && !missing.contains("no 17"));
         assert!(missing.contains("ok to Z") && missing.contains("no 18 to Z"));
         assert!(missing.contains("no 19 to G") && missing.contains("no 20 to S"));
+        assert!(missing.contains("no 19 to H") && missing.contains("ok value to H"));
         assert!(!verdict(&few, FULL_RANGE - 1).unwrap().0);
     }
 
@@ -139,6 +141,8 @@ mod tests {
         assert_eq!(operation(b"X\t1\n"), 'X');
         assert_eq!(operation(b"Z\t1\n"), 'Z');
         assert_eq!(operation(b"G\t1\n"), 'G');
+        assert_eq!(operation(b"H\n"), 'H');
+        assert_eq!(operation(b"h\n"), '?');
         assert_eq!(operation(b"Y\t1\n"), '?');
     }
 }

@@ -11,4 +11,4 @@ mod tally;
 
 pub use rng::Rng;
 pub use session::session;
-pub use tally::{tally, Tally, EXERCISES, GRANTS, NAMINGS, PLACES, RIGHTS, SURVEYS};
+pub use tally::{tally, Tally, EXERCISES, GRANTS, NAMINGS, PAIRS_HELD, PLACES, RIGHTS, SURVEYS};

@@ -3,7 +3,7 @@
 //! are given by library calls alone, and 16 needs four thousand million
 //! changes, so no session meets them. Of U not only the lines are counted but
 //! also the replies that show something of their order, and of W where in the listing
-//! its images are and its blocks begin; X, Z and G have to meet
+//! its images are and its blocks begin; X, Z, G and H have to meet
 //! their own refusals, some of which other records have too, and each record that
 //! names slots has to lack a right now and then.
 
@@ -47,6 +47,9 @@ pub const NAMINGS: &[&str] = &["ok", "no 1", "no 2", "no 18"];
 
 /// The replies that G alone has to meet.
 pub const GRANTS: &[&str] = &["ok", "no 1", "no 2", "no 8", "no 18", "no 19"];
+
+/// The replies that H alone has to meet.
+pub const PAIRS_HELD: &[&str] = &["ok value", "no 1", "no 2", "no 19"];
 
 /// The reply that each record has to meet which names a slot and needs a right.
 pub const RIGHTS: &[&str] = &["no 20"];
@@ -227,12 +230,14 @@ mod tests {
         tally.counts.remove("no 18");
         assert_eq!(tally.missing_of(NAMINGS), ["no 18"]);
         assert_eq!(tally.missing_of(GRANTS), ["no 18"]);
+        assert!(tally.missing_of(PAIRS_HELD).is_empty());
         assert!(tally.missing_of(RIGHTS).is_empty());
         for kind in ["no 19", "no 20"] {
             tally.counts.remove(kind);
         }
         assert_eq!(tally.missing_of(GRANTS), ["no 18", "no 19"]);
         assert_eq!(tally.missing_of(RIGHTS), ["no 20"]);
+        assert_eq!(tally.missing_of(PAIRS_HELD), ["no 19"]);
     }
 
     /// A reply to U is closed by its number, so that two of them aren't one.

@@ -19,9 +19,10 @@ const ANSWERS: [&str; 20] = [
     "17", "18", "a block",
 ];
 
-/// The answers to X alone, and those to Z.
-const OWN: [&str; 13] = [
+/// The answers to X alone, those to Z, and those to H.
+const OWN: [&str; 17] = [
     "X 0", "X 1", "X 2", "X 3", "X 4", "X 5", "X 8", "X 16", "X 17", "Z 0", "Z 1", "Z 2", "Z 18",
+    "H 0", "H 1", "H 2", "H 19",
 ];
 
 pub fn of_lines(calls: &dyn Calls) {

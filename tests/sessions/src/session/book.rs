@@ -49,14 +49,19 @@ impl Session {
 
     /// A station that lacks a right and the slot, by the book.
     pub fn lacking(&mut self) -> Option<(usize, usize)> {
-        let all =
-            (1..self.rights.len()).flat_map(|station| (0..8).map(move |slot| (station, slot)));
-        let lacks = |(station, slot): &(usize, usize)| self.rights[*station][*slot] < 2;
-        let lacking: Vec<(usize, usize)> = all.filter(lacks).collect();
+        let lacking = self.all_lacking();
         match lacking.is_empty() {
             true => None,
             false => Some(*self.rng.pick(&lacking)),
         }
+    }
+
+    /// All stations that lack a right, and the slots.
+    pub(super) fn all_lacking(&self) -> Vec<(usize, usize)> {
+        let all =
+            (1..self.rights.len()).flat_map(|station| (0..8).map(move |slot| (station, slot)));
+        let lacks = |(station, slot): &(usize, usize)| self.rights[*station][*slot] < 2;
+        all.filter(lacks).collect()
     }
 
     /// A slot thought to be empty, where there is one.

@@ -2,11 +2,13 @@
 //! by weight, that load plans (`loading`) or have X make them (`exercises`), work
 //! on them and ask about them (`operations`), ask for places (`places`), name the
 //! stations that do it (`stations`), give them rights (`rights`), or bring what a desk
-//! has to refuse (`mischief`). A book (`book`) says what the slots are thought to hold and who may
-//! touch them.
+//! has to refuse (`mischief`). Between the steps the status lamp asks for the pairs held
+//! (`lamp`). A book (`book`) says what the slots are thought to hold and who may touch
+//! them.
 
 mod book;
 mod exercises;
+mod lamp;
 mod loading;
 mod operations;
 mod places;
@@ -25,6 +27,8 @@ use crate::rng::Rng;
 /// A session while it is being written.
 pub struct Session {
     pub rng: Rng,
+    /// The chance of what stands between the steps.
+    aside: Rng,
     pub bytes: Vec<u8>,
     /// The shapes of this session; the first is met most often, so that
     /// operations on two slots often meet equal shapes.
@@ -54,6 +58,7 @@ pub fn session(seed: u64) -> Vec<u8> {
     }
     for _ in 0..session.rng.between(38, 114) {
         session.step();
+        session.between_steps();
     }
     session.end()
 }
@@ -86,6 +91,7 @@ impl Session {
         let strictness = rights::some_strictness(&mut rng);
         Session {
             rng,
+            aside: Rng::new(!seed),
             bytes: Vec::new(),
             shapes: [first, second, third],
             common,
@@ -144,6 +150,7 @@ impl Session {
             self.record(&[b"U"]);
             self.record(&[b"T"]);
             self.every_count();
+            self.last_lamp();
         }
         if self.rng.chance(25) {
             self.bytes.pop();

@@ -23,7 +23,7 @@ fn a_seed_decides_its_session() {
 #[test]
 fn every_operation_and_every_shape_comes_up() {
     let lines = all_lines(0..72);
-    for letter in b"PMEFIKSWLCTUXZG" {
+    for letter in b"PMEFIKSWLCTUXZGH" {
         let found = lines.iter().any(|line| line.first() == Some(letter));
         assert!(found, "no record {}", *letter as char);
     }
@@ -201,6 +201,35 @@ fn rights_come_up() {
         let found = lines.windows(2).filter(behind).count();
         let [first, second] = [first, second].map(char::from);
         assert!(found > least, "{found} times {second} behind {first}");
+    }
+}
+
+/// H right behind each kind of change, from station 0 and from others, in open plans and
+/// in wrong forms.
+#[test]
+fn lamps_come_up() {
+    let lines = all_lines(0..200);
+    let starts = |line: &[u8], letter| line.first() == Some(&letter);
+    for (first, least) in [
+        (b'E', 100),
+        (b'F', 60),
+        (b'I', 20),
+        (b'K', 60),
+        (b'C', 15),
+        (b'X', 20),
+        (b'Z', 2000),
+        (b'G', 10),
+        (b'M', 100),
+        (b'P', 30),
+    ] {
+        let behind = |pair: &&[Vec<u8>]| starts(&pair[0], first) && pair[1] == b"H";
+        let found = lines.windows(2).filter(behind).count();
+        let first = char::from(first);
+        assert!(found > least, "{found} times H behind {first}");
+    }
+    for wrong in ["H\t", "H\t0", "H\tA", "HH", "h", "H\r", "H\0"] {
+        let found = lines.iter().filter(|line| *line == wrong.as_bytes());
+        assert!(found.count() > 3, "{wrong}");
     }
 }
 
