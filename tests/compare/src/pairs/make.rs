@@ -18,6 +18,7 @@ pub fn pair(seed: u64) -> Pair {
     };
     let mut maker = Maker {
         rng,
+        aside: Rng::new(!seed),
         station,
         keeper: if station == 0 { 7 } else { 0 },
         sides: Default::default(),
@@ -33,6 +34,9 @@ pub fn pair(seed: u64) -> Pair {
 
 struct Maker {
     rng: Rng,
+    /// The chance of what stands between the records, which thus are the same with it
+    /// and without it.
+    aside: Rng,
     station: u8,
     /// The station that makes the sides alike, with all rights. Where station 0 is
     /// observed, it is station 7, which no gift is for then.
@@ -117,6 +121,9 @@ impl Maker {
         for _ in 0..self.rng.between(1, 8) {
             let lines = self.others_records(station);
             self.send(side, &lines);
+            if self.aside.chance(10) {
+                self.send(side, b"H\n");
+            }
         }
     }
 
@@ -195,7 +202,7 @@ impl Maker {
         (0..2).for_each(|side| self.name(side, self.station));
         let start = [0, 1].map(|side| self.sides[side].input.len());
         for _ in 0..self.rng.between(3, 14) {
-            let lines = self.observed_records();
+            let lines = [self.between_records(), self.observed_records()].concat();
             (0..2).for_each(|side| self.send(side, &lines));
         }
         for side in 0..2 {
@@ -203,6 +210,33 @@ impl Maker {
             let end = self.sides[side].input.len();
             self.sides[side].turns.push(start[side]..end);
         }
+    }
+
+    /// Between them it asks for the pairs held now and then, or follows a plan that it
+    /// may not read by one that it may, into a slot that it may write.
+    fn between_records(&mut self) -> Vec<u8> {
+        match self.aside.below(20) {
+            0..=3 => b"H\n".to_vec(),
+            4 | 5 => self.following_hidden().unwrap_or_default(),
+            _ => Vec::new(),
+        }
+    }
+
+    /// The sides look alike to it, so that the first tells for both.
+    fn following_hidden(&mut self) -> Option<Vec<u8>> {
+        let desk = &self.desks[0];
+        let right = |slot: &u8| desk.stations().rights().of(self.station, *slot);
+        let slots = |fits: &dyn Fn(&u8) -> bool| (b'A'..=b'H').filter(fits).collect();
+        let hidden: Vec<u8> = slots(&|slot| right(slot) == Right::Nothing);
+        let readable: Vec<u8> =
+            slots(&|slot| right(slot) > Right::Nothing && desk.plan(*slot).is_some());
+        let writable: Vec<u8> = slots(&|slot| right(slot) == Right::ReadAndWrite);
+        if hidden.is_empty() || readable.is_empty() || writable.is_empty() {
+            return None;
+        }
+        let [a, b, c] =
+            [&hidden, &readable, &writable].map(|slots| char::from(*self.aside.pick(slots)));
+        Some(format!("F\t{a}\t{b}\t{c}\n").into_bytes())
     }
 
     /// Its records name slots of all kinds, and now and then one that there isn't.

@@ -22,6 +22,7 @@ const WRONG: &[&str] = &[
     "",
     "Y",
     "T\t",
+    "H\t",
     "Z\t8",
     "Z\t12",
     "M\t1\t1",
@@ -69,7 +70,7 @@ fn typed(rng: &mut Rng, slot: char) -> Vec<u8> {
     let mut lines = vec![format!("P\t{slot}\t{shape}")];
     lines.extend(rows.iter().map(|(from, to)| format!("M\t{from}\t{to}")));
     match rng.below(8) {
-        0 => lines.push("T".into()),
+        0 => lines.push(if slot < 'E' { "T" } else { "H" }.into()),
         1 => lines.push("M\t1\t0".into()),
         _ => {}
     }

@@ -84,6 +84,8 @@ fn pairs_differ_in_what_the_station_does_not_see() {
                 let sums = counts.map(|counts| counts.iter().sum::<u64>());
                 record == b"T\n" && sums[0] != sums[1]
             });
+            let sums = [here, there].map(|desk| desk.pairs_held().number());
+            count("H with other sums", record == b"H\n" && sums[0] != sums[1]);
             let rights = [here, there].map(|desk| desk.stations().rights());
             count("rights of others", rights[0] != rights[1]);
         }

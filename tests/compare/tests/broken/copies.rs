@@ -107,10 +107,17 @@ pub fn failures(desk: &Path) -> (usize, usize) {
     (on_cases.1, on_seeds.1)
 }
 
+/// The same, told to whoever looks at the output of the tests.
+fn failures_told(name: &str, desk: &Path) -> (usize, usize) {
+    let (on_cases, on_seeds) = failures(desk);
+    println!("{name}: {on_cases} cases, {on_seeds} sessions");
+    (on_cases, on_seeds)
+}
+
 /// Builds a copy that has to be found by the cases and by the sessions.
 pub fn is_found(name: &str) -> PathBuf {
     let desk = build(name, true);
-    let (on_cases, on_seeds) = failures(&desk);
+    let (on_cases, on_seeds) = failures_told(name, &desk);
     assert!(on_cases > 0, "{name} is not found by the cases");
     assert!(on_seeds > 0, "{name} is not found by the sessions");
     desk
@@ -118,11 +125,12 @@ pub fn is_found(name: &str) -> PathBuf {
 
 /// The same of a copy that has to be found by several cases and by several sessions,
 /// since all sessions bring what it does wrong.
-pub fn is_found_often(name: &str) {
-    let (on_cases, on_seeds) = failures(&build(name, true));
-    println!("{name}: {on_cases} cases, {on_seeds} sessions");
+pub fn is_found_often(name: &str) -> PathBuf {
+    let desk = build(name, true);
+    let (on_cases, on_seeds) = failures_told(name, &desk);
     assert!(on_cases > 1, "{name} is found by {on_cases} cases");
     assert!(on_seeds > 3, "{name} is found by {on_seeds} sessions");
+    desk
 }
 
 /// The pairs of sessions in which a station can tell the sides apart.
@@ -133,7 +141,16 @@ fn leaking_pairs(desk: &Path) -> usize {
 
 /// The same of a copy that lets a station see what it may not read.
 pub fn leaks(name: &str) {
-    let leaking = leaking_pairs(&is_found(name));
+    is_leaking(name, &is_found(name));
+}
+
+/// The same of one that is found often.
+pub fn leaks_often(name: &str) {
+    is_leaking(name, &is_found_often(name));
+}
+
+fn is_leaking(name: &str, desk: &Path) {
+    let leaking = leaking_pairs(desk);
     assert!(leaking > 0, "{name} is not found by the pairs");
 }
 

@@ -5,6 +5,7 @@
 //! spoil a second place so.
 
 mod copies;
+mod pairs_held;
 mod places;
 mod rights;
 
