@@ -31,7 +31,7 @@ const REASONS: [&str; 21] = [
     "the count of changes is at its limit",
     "the seed is out of range",
     "no such station",
-    "station 0 alone gives rights, and only to others",
+    "station 0 alone gives rights, only to others, and asks for the pairs held",
     "the station has no such right on the slot",
 ];
 

@@ -75,7 +75,8 @@ int main(void)
 {
     check("refusal_reason", !strcmp(refusal_reason(REFUSED_EMPTY), "the slot is empty")
                                 && !strcmp(refusal_reason(REFUSED_STATION), "no such station") && refusal_reason(99) != NULL);
-    check("refusal_reason of rights", !strcmp(refusal_reason(REFUSED_GRANT), "station 0 alone gives rights, and only to others")
+    check("refusal_reason of rights",
+        !strcmp(refusal_reason(REFUSED_GRANT), "station 0 alone gives rights, only to others, and asks for the pairs held")
                                           && !strcmp(refusal_reason(REFUSED_RIGHT), "the station has no such right on the slot"));
     check("refusal_reason beyond the last", !strcmp(refusal_reason(REFUSED_RIGHT + 1), refusal_reason(99)));
     check_layouts();
