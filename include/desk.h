@@ -139,7 +139,8 @@ struct desk_done {
 /* A desk with empty slots and no open plan, station 0 named, all counts 0, all rights 2 and no pairs. */
 struct desk desk_fresh(void);
 
-/* The size of the struct as the library has it. Compare it with sizeof (struct desk) where the two might have been compiled apart. */
+/* The size of the struct as the library has it. Compare it with sizeof (struct desk) where the two might have been compiled apart. It
+ * doesn't tell a program that was compiled when the struct had no `pairs` yet: that has the same size, and has to be compiled anew. */
 size_t desk_size(void);
 
 /* Whether the struct is a desk, as described above; if it isn't, desk_line and desk_do refuse it with 15. */

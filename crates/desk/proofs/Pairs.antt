@@ -30,6 +30,7 @@ use Rattle.desk.proofs.Outcomes.{operation-pass}
 use Rattle.desk.proofs.Replies.{desk-parts}
 use Rattle.desk.proofs.Stays.{desk-stays, slot-of-record}
 use Rattle.desk.proofs.Sums.{pairs-at}
+use Rattle.desk.proofs.Rights.{none-open}
 use Rattle.desk.proofs.Calls.{lent-calls-exact}
 
 abbrev sum : Desk → ℕ
@@ -46,20 +47,28 @@ record Tallied (d : Desk) (r : Record) (e : Effect) : Type 0 where
 abbrev tallyAt : Desk → Bytes → ℕ → Tally
 tallyAt d l i = record { kept = pairsOfSlot (held (respondLine d l .0) i); lost = pairsOfSlot (held d i) }
 
-module _ (d : Desk) (D : IsDesk d) where
-  -- no plan is open at a record of slots
-  slots-closed : (r : Record) → needsOpen r ≡ false → Tested d r → slotsChanged d r ≡ targetSlots (slotsNamed r)
-  slots-closed r n t =
-      let none-open = sym {A = Bool} (ap (λ b. elim b as (λ _. Bool) [ true ↦ not (isOpen d) | false ↦ isOpen d ]) n) in
-      by (d .draft) (none-open ∙ t .admitted .open-fits)
-    where
-      by : (x : Option Draft) → given x ≡ false
-          → _≡_ {A = List ℕ} (elim x [ some o ↦ o .slot ∷ [] | none ↦ targetSlots (slotsNamed r) ]) (targetSlots (slotsNamed r))
-      by none e = refl
-      by (some o) e = absurd (clash refl e)
+module _ (d : Desk) where
+  -- the slots that a record changes, by whether a plan is open
+  slots-closed : (r : Record) → d .draft ≡ none → slotsChanged d r ≡ targetSlots (slotsNamed r)
+  slots-closed r e = rw e refl
 
   slot-open : (r : Record) (o : Draft) → d .draft ≡ some o → slotsChanged d r ≡ o .slot ∷ []
-  slot-open r o e = ap (λ x. elim x as (λ _. List ℕ) [ some o ↦ o .slot ∷ [] | none ↦ targetSlots (slotsNamed r) ]) e
+  slot-open r o e = rw e refl
+
+  -- whether a line made a change, by its record, and what is tallied of it, by its reply too
+  abbrev madeBy : Outcome Record → Bool
+  madeBy o = elim o as (λ _. Bool) [ refuse n c ↦ false | pass r ↦ isChange r && isDone (operation d r) ]
+
+  abbrev changeBy : Outcome Record → Reply → Tally
+  changeBy o y =
+      elim o [ refuse n c ↦ noPairs | pass r ↦ record { kept = pairsTold y; lost = pairsAt d (slotsChanged d r) } ]
+
+module _ (d : Desk) (D : IsDesk d) where
+  -- no plan is open at a record of slots
+  closed-at : (r : Record) → needsOpen r ≡ false → Tested d r → slotsChanged d r ≡ targetSlots (slotsNamed r)
+  closed-at r n t =
+      let as-open = sym {A = Bool} (ap (λ b. elim b as (λ _. Bool) [ true ↦ not (isOpen d) | false ↦ isOpen d ]) n) in
+      slots-closed d r (none-open (d .draft) (as-open ∙ t .admitted .open-fits))
 
   tallied : (r : Record) (i : ℕ) → i < slotCount → slotsChanged d r ≡ i ∷ [] → (x : Option Plan) (y : Reply) → pairsTold y ≡ pairsOfSlot x
       → Tallied d r (changed d i x, y)
@@ -87,27 +96,27 @@ module _ (d : Desk) (D : IsDesk d) where
   job-told (M from to) t = any-then _ (λ _. any-then _ (λ _. any-then _ (λ _. passes refl)))
   job-told E t =
       passes-then (plan-open d) (λ o e. any-then _ (λ _. passes
-      (kept-told E (o .slot) (D .drafted o e .slot-named) (slot-open E o e) (closed o))))
+      (kept-told E (o .slot) (D .drafted o e .slot-named) (slot-open d E o e) (closed o))))
   job-told (F a b c) t =
       let named = slot-of-record d (F a b c) t (writing c) (List·Memᴰ·tail (List·Memᴰ·tail (List·Memᴰ·head refl))) in
-      any-then _ (λ _. any-then _ (λ _. any-then _ (λ p. passes (kept-told (F a b c) _ named (slots-closed (F a b c) refl t) p))))
+      any-then _ (λ _. any-then _ (λ _. any-then _ (λ p. passes (kept-told (F a b c) _ named (closed-at (F a b c) refl t) p))))
   job-told (I a c) t =
       let named = slot-of-record d (I a c) t (writing c) (List·Memᴰ·tail (List·Memᴰ·head refl)) in
-      any-then _ (λ _. any-then _ (λ p. passes (kept-told (I a c) _ named (slots-closed (I a c) refl t) p)))
+      any-then _ (λ _. any-then _ (λ p. passes (kept-told (I a c) _ named (closed-at (I a c) refl t) p)))
   job-told (K a k c) t =
       let named = slot-of-record d (K a k c) t (writing c) (List·Memᴰ·tail (List·Memᴰ·head refl)) in
-      any-then _ (λ _. any-then _ (λ _. any-then _ (λ p. passes (kept-told (K a k c) _ named (slots-closed (K a k c) refl t) p))))
+      any-then _ (λ _. any-then _ (λ _. any-then _ (λ p. passes (kept-told (K a k c) _ named (closed-at (K a k c) refl t) p))))
   job-told (S a b) t = any-then _ (λ _. any-then _ (λ _. any-then _ (λ _. passes refl)))
   job-told (W a code) t = any-then _ (λ _. any-then _ (λ _. passes refl))
   job-told (L a) t = any-then _ (λ _. passes refl)
   job-told (C a) t =
       let named = slot-of-record d (C a) t (writing a) (List·Memᴰ·head refl) in
-      any-then _ (λ _. passes (tallied (C a) _ named (slots-closed (C a) refl t) none ok refl))
+      any-then _ (λ _. passes (tallied (C a) _ named (closed-at (C a) refl t) none ok refl))
   job-told T t = passes refl
   job-told U t = passes refl
   job-told (X a n r s seed) t =
       let named = slot-of-record d (X a n r s seed) t (writing a) (List·Memᴰ·head refl) in
-      any-then _ (λ _. any-then _ (λ p. passes (kept-told (X a n r s seed) _ named (slots-closed (X a n r s seed) refl t) p)))
+      any-then _ (λ _. any-then _ (λ p. passes (kept-told (X a n r s seed) _ named (closed-at (X a n r s seed) refl t) p)))
   job-told (Z s) t = passes refl
   job-told (G s a x) t = any-then _ (λ _. passes refl)
   job-told H t = any-then _ (λ _. passes refl)
@@ -128,11 +137,7 @@ module _ (d : Desk) (D : IsDesk d) where
   tallyBy (pass r) y = tallyOfDone (isChange r && isDone (operation d r)) r y
 
   tally-by : (o : Outcome Record) (y : Reply)
-      → elim (elim o as (λ _. Bool) [ refuse n c ↦ false | pass r ↦ isChange r && isDone (operation d r) ]) as (λ _. Tally) [
-        | false ↦ noPairs
-        | true ↦ elim o [ refuse n c ↦ noPairs | pass r ↦ record { kept = pairsTold y; lost = pairsAt d (slotsChanged d r) } ]
-      ]
-      ≡ tallyBy o y
+      → elim (madeBy d o) as (λ _. Tally) [ false ↦ noPairs | true ↦ changeBy d o y ] ≡ tallyBy o y
   tally-by (refuse n c) y = refl
   tally-by (pass r) y = refl
 
@@ -151,15 +156,11 @@ module _ (d : Desk) (D : IsDesk d) where
       by (refuse n c) = omega (arith, dropped-sum)
       by (pass r) = by-outcome (isChange r) r (operation d r) (passes-operation d r (job-told r))
 
-  -- whether a line made a change, by its record
-  abbrev madeBy : Outcome Record → Bool
-  madeBy o = elim o as (λ _. Bool) [ refuse n c ↦ false | pass r ↦ isChange r && isDone (operation d r) ]
-
-  -- a line that made one
+  -- a line that made a change
   change-told : (l : Bytes) (r : Record) → recordOf l ≡ pass r → madeChange d l ≡ true → Tallied d r (respondLine d l)
   unfolding respondLine lineOperation _>>=_
   change-told l r e m =
-      subst (λ o. madeBy o ≡ true → Tallied d r (settle d (o >>= operation d))) (sym e)
+      subst (λ o. madeBy d o ≡ true → Tallied d r (settle d (o >>= operation d))) (sym e)
       (by (isChange r) (operation d r) (passes-operation d r (job-told r))) m
     where
       by : (b : Bool) (o : Outcome Effect) → Passes (Told b r) o → (b && isDone o) ≡ true → Tallied d r (settle d o)
@@ -176,7 +177,7 @@ module _ (d : Desk) (D : IsDesk d) where
       let kept = t .told ∙ ap (λ j. pairsOfSlot (held (respondLine d l .0) j)) (sym here) in
       let lost = ap (pairsAt d) (t .only) ∙ only-at (t .slot) ∙ ap (λ j. pairsOfSlot (held d j)) (sym here) in
       let reply = respondLine d l .1 in
-      tally-by (recordOf l) reply ∙ ap (λ o. tallyBy o reply) e ∙ ap (λ b. tallyOfDone b r reply) (subst (λ o. madeBy o ≡ true) e m)
+      tally-by (recordOf l) reply ∙ ap (λ o. tallyBy o reply) e ∙ ap (λ b. tallyOfDone b r reply) (subst (λ o. madeBy d o ≡ true) e m)
       ∙ ap₂ (λ (k : ℕ) (n : ℕ). record { kept = k; lost = n }) kept lost
     where
       one-of : (i j : ℕ) → List·Memᴰ i (j ∷ []) → i ≡ j
@@ -197,7 +198,7 @@ lines-told (l ∷ ls) d D =
     let rest = lines-told ls (respondLine d l .0) (desk-stays .line d l D) in
     omega (arith, here, rest)
 
-pub lines-stay : (ls : List Bytes) (d : Desk) → IsDesk d → IsDesk (deskAfter d (run d ls))
+lines-stay : (ls : List Bytes) (d : Desk) → IsDesk d → IsDesk (deskAfter d (run d ls))
 unfolding run
 lines-stay [] d D = D
 lines-stay (l ∷ ls) d D = lines-stay ls (respondLine d l .0) (desk-stays .line d l D)
@@ -252,29 +253,20 @@ tally-exact =
       no-change = λ d l m. rw (m, tallyOf) refl;
       target-changed = λ d l r D o e m u named t.
           change-tallied d D l r e m (slotNumber (u .slot))
-          (subst (List·Memᴰ (slotNumber (u .slot))) (sym (none-open d r o)) (target-named (slotsNamed r) u named t));
+          (subst (List·Memᴰ (slotNumber (u .slot))) (sym (slots-closed d r o)) (target-named (slotsNamed r) u named t));
       plan-closed = λ d l o D q m. closed-tallied d D l o q m (recordOf l) refl;
       replied = λ d l n m e. rw (m, tallyOf) (kept-replied d (respondLine d l .1) n e (recordOf l) m);
     }
   where
-    kept-replied : (d : Desk) (y : Reply) (n : ℕ) → y ≡ okNumber n → (o : Outcome Record)
-        → elim o as (λ _. Bool) [ refuse n c ↦ false | pass r ↦ isChange r && isDone (operation d r) ] ≡ true
-        → elim o as (λ _. Tally) [
-          | refuse n c ↦ noPairs
-          | pass r ↦ record { kept = pairsTold y; lost = pairsAt d (slotsChanged d r) }
-        ] .kept
-        ≡ n
+    kept-replied : (d : Desk) (y : Reply) (n : ℕ) → y ≡ okNumber n → (o : Outcome Record) → madeBy d o ≡ true → changeBy d o y .kept ≡ n
     kept-replied d y n e (refuse k c) m = absurd (clash m refl)
     kept-replied d y n e (pass r) m = ap pairsTold e
-
-    none-open : (d : Desk) (r : Record) → d .draft ≡ none → slotsChanged d r ≡ targetSlots (slotsNamed r)
-    none-open d r o = rw o refl
 
     closed-tallied : (d : Desk) → IsDesk d → (l : Bytes) (o : Draft) → d .draft ≡ some o → madeChange d l ≡ true
         → (x : Outcome Record) → recordOf l ≡ x → tallyOf d l ≡ tallyAt d l (o .slot)
     closed-tallied d D l o q m (pass r) e =
-        change-tallied d D l r e m (o .slot) (subst (List·Memᴰ (o .slot)) (sym (slot-open d D r o q)) (List·Memᴰ·head refl))
-    closed-tallied d D l o q m (refuse n c) e = absurd (clash m (ap (madeBy d D) e))
+        change-tallied d D l r e m (o .slot) (subst (List·Memᴰ (o .slot)) (sym (slot-open d r o q)) (List·Memᴰ·head refl))
+    closed-tallied d D l o q m (refuse n c) e = absurd (clash m (ap (madeBy d) e))
 
 pub pairs-held : PairsHeld
 pairs-held =

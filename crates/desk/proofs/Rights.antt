@@ -162,7 +162,7 @@ had-right d r =
 abbrev Owned : Desk → Type 0
 Owned d = (o : Draft) → d .draft ≡ some o → 2 ≤ ownRight d (o .slot)
 
-none-open : (x : Option Draft) → given x ≡ false → x ≡ none
+pub none-open : (x : Option Draft) → given x ≡ false → x ≡ none
 none-open none e = refl
 none-open (some o) e = absurd (clash refl e)
 

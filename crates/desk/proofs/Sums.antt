@@ -2,7 +2,7 @@
 -- and what it holds is put to it; and of a desk it is at most 1,024.
 use Prim.Native.Nat.{ℕ, zero, suc, _+_, _*_, _≤_, _<_}
 use native.Mathlib.Omega.{arith}
-use native.Mathlib.Nat.{not-suc-le-zero, le-of-suc-le-suc}
+use native.Mathlib.Nat.{not-suc-le-zero, le-of-suc-le-suc, suc-mul}
 use mathlib.Core.Path.{_≡_, refl}
 use mathlib.Core.List.{List, [], _∷_}
 use mathlib.Core.Option.{Option, none, some}
@@ -32,14 +32,15 @@ pub few-pairs : (p : Plan) → Kept p → length (p .rows) ≤ maxPairs
 unfolding granted
 few-pairs p k = leb→le (length (p .rows)) maxPairs (and-left (leb (length (p .rows)) maxPairs) (all pairFits (p .rows)) (k .within))
 
-few-summed : (l : List (Option Plan)) → ((i : ℕ) (p : Plan) → getD l i none ≡ some p → Kept p) → pairsOfSlots l ≤ length l * 128
-unfolding maxPairs
-few-summed [] k = omega arith
-few-summed (none ∷ l) k = let rest = few-summed l (λ i. k (suc i)) in omega (arith, rest)
-few-summed (some p ∷ l) k =
-    let rest = few-summed l (λ i. k (suc i)) in
-    omega (arith, rest, few-pairs p (k zero p refl))
+-- where no plan that is held has more pairs than some number, so many slots have no more than so many times the number
+few-summed : (most : ℕ) (l : List (Option Plan)) → ((i : ℕ) (p : Plan) → getD l i none ≡ some p → length (p .rows) ≤ most)
+    → pairsOfSlots l ≤ length l * most
+few-summed most [] k = omega arith
+few-summed most (none ∷ l) k = let rest = few-summed most l (λ i. k (suc i)) in omega (arith, rest, suc-mul (length l) most)
+few-summed most (some p ∷ l) k =
+    let rest = few-summed most l (λ i. k (suc i)) in
+    omega (arith, rest, k zero p refl, suc-mul (length l) most)
 
 pub few-held : (d : Desk) → IsDesk d → d .control .pairs ≤ 1_024
-unfolding slotCount
-few-held d D = omega (arith, D .summed, few-summed (d .slots) (D .kept), D .eight)
+unfolding slotCount maxPairs
+few-held d D = omega (arith, D .summed, few-summed 128 (d .slots) (λ i p e. few-pairs p (D .kept i p e)), D .eight)

@@ -47,12 +47,14 @@ slot-table v t = by (eqb (v .pairs) 0) refl t
         (and-right (zeros (v .from)) (zeros (v .to)) z))
     by false e p = kept-plan v p .0
 
--- and so few pairs that they can be added up
+-- each slot by itself, where all are tested, and that it has so few pairs that they can be added up
+one-tested : (h : Head) (columns : List ℕ) → T (slotsTest h columns) → (i : ℕ) → i < slotCount → T (slotTest (valueAt h columns i))
+one-tested h columns t i k =
+    all-at (λ j. slotTest (valueAt h columns j)) (count 0 slotCount) t i (count-mem 0 slotCount i (omega arith) (omega (arith, k)))
+
 pub few-tested : (h : Head) (columns : List ℕ) → T (slotsTest h columns) → (i : ℕ) → i < slotCount → sizeAt h i .pairs ≤ maxPairs
 unfolding valueAt
-few-tested h columns t i k =
-    few-in-table (valueAt h columns i) (slot-table (valueAt h columns i)
-    (all-at (λ j. slotTest (valueAt h columns j)) (count 0 slotCount) t i (count-mem 0 slotCount i (omega arith) (omega (arith, k)))))
+few-tested h columns t i k = few-in-table (valueAt h columns i) (slot-table (valueAt h columns i) (one-tested h columns t i k))
 
 slot-keeps : (v : Plan) → T (slotTest v) → (p : PlanOf) → heldBy v ≡ some p → Kept p
 slot-keeps v t p = by (eqb (v .pairs) 0) t
@@ -144,11 +146,7 @@ module _ (h : Head) (columns : List ℕ) (headed : length (h .sizes) ≡ blockCo
     is-open = and-right (counts && small) opens (and-left (counts && small && opens) (slotsTest h columns) tested)
 
     slot-tested : (i : ℕ) → i < slotCount → T (slotTest (valueAt h columns i))
-    unfolding holdsTest
-    slot-tested i k =
-        all-at (λ j. slotTest (valueAt h columns j)) (count 0 slotCount)
-        (and-right (counts && small && opens) (slotsTest h columns) tested) i
-        (count-mem 0 slotCount i (omega arith) (omega arith))
+    slot-tested i k = one-tested h columns (and-right (counts && small && opens) (slotsTest h columns) tested) i k
 
     eight : length (slotsOf h columns) ≡ slotCount
     eight = length-map (count 0 slotCount) (slotAt h columns) ∙ count-length 0 slotCount

@@ -14,7 +14,7 @@ use Rattle.slots.specs.Desks.{slotsOf, fullIn, Countable, deskOf, HoldsD
 use Rattle.slots.proofs.Held.{control-held, slot-pairs}
 
 module _ (h : Head) (columns : List ℕ) (H : HoldsDesk h columns) where
-  pub few-stored : h .control .pairs ≤ 1_024
+  few-stored : h .control .pairs ≤ 1_024
   unfolding deskOf
   few-stored = few-held (deskOf h columns) (H .is-desk)
 
