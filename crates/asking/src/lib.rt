@@ -1,6 +1,8 @@
 // The records that change nothing (document 01, "Records"): S compares, W routes, L lists, T counts, U surveys, and H tells the pairs held
 // (change request E8). Each gives its reply alone. A slot's plan is lent in parts of the columns, and none is copied. What W, L and U reply
 // is written into the output where it is found, and told by its length.
+#![tactic(auto)]
+
 ghost use Rattle.desk.specs.Records.{Record, S, W, L, T, U};
 ghost use Rattle.slots.specs.Desks.{HoldsDesk};
 ghost use Rattle.slots.specs.Works.{HeadOfDesk, Tells, TellsSilently, TellsByHead};

@@ -1,6 +1,8 @@
 // Columns (document 01, "Codes"): sorted lists of packed words. What is asked of a column, which word of it begins a word and
 // which words a word begins, whether its words overlap, whether a block is covered, is answered by binary search or in one pass over the
 // words. Like those of the crate `tables` above, these functions may ask something of their callers.
+#![tactic(auto)]
+
 ghost use Rattle.std.specs.Prelude.{◌≡◌, true, false, ◌+◌, ◌-◌, ◌≤◌, T, length};
 ghost use Rattle.higman.specs.Words.{child, is_word};
 ghost use Rattle.higman.specs.Bases.{all, listed, covered, gap, overlap};

@@ -313,6 +313,20 @@ none_open : (d : Desk) (r : Record) → d.draft ≡ none → OfOpenPlan r → op
 unfolding operation admission kind ◌>>=◌
 none_open d (M from to) e h = rw e
 none_open d E e h = rw e
+none_open d (P _ _ _) e h = elim h [ ]
+none_open d (F _ _ _) e h = elim h [ ]
+none_open d (I _ _) e h = elim h [ ]
+none_open d (K _ _ _) e h = elim h [ ]
+none_open d (S _ _) e h = elim h [ ]
+none_open d (W _ _) e h = elim h [ ]
+none_open d (L _) e h = elim h [ ]
+none_open d (C _) e h = elim h [ ]
+none_open d Tᴿ e h = elim h [ ]
+none_open d U e h = elim h [ ]
+none_open d (X _ _ _ _ _) e h = elim h [ ]
+none_open d (Z _) e h = elim h [ ]
+none_open d (G _ _ _) e h = elim h [ ]
+none_open d H e h = elim h [ ]
 
 one_open : (d : Desk) (o : Draft) (r : Record) → d.draft ≡ some o → (OfOpenPlan r → ⊥) → operation d r ≡ refuse wrong_state none
 unfolding operation admission kind ◌>>=◌

@@ -45,6 +45,7 @@ here : (l : List (Option Plan)) (k : ℕ) (q : Plan) → Stands (some q ∷ l) k
 here l k q = let z : k - k ≡ 0 = omega arith in record { from_here = le_refl k; holds = subst (λ n. get_or (some q ∷ l) n none ≡ some q) (sym z) refl }
 
 stands : (l : List (Option Plan)) (k : ℕ) (h : Held) → Memᴰ h (held_from k l) → Stands l k h
+stands [] k h m = elim m [ ]
 stands (none ∷ l) k h m = later none l k h (stands l (suc k) h m)
 stands (some q ∷ l) k h (Memᴰ.head e) = subst (Stands (some q ∷ l) k) (sym e) (here l k q)
 stands (some q ∷ l) k h (Memᴰ.tail m) = later (some q) l k h (stands l (suc k) h m)

@@ -2,6 +2,8 @@
 // there"): a desk is a value of the caller's, `desk_line` answers a line of bytes into a lent buffer, `desk_feed` the lines of a piece of
 // input, and `desk_do` a record without text. The crate's module `serving` has the work, by value. Number 0 stands for a job done, and a
 // refusal has document 01's number. A slice is passed as a pointer and a length.
+#![tactic(auto)]
+
 ghost use Rattle.std.specs.Prelude.{◌≡◌};
 ghost use Rattle.desk.specs.Desk.{fresh_desk};
 ghost use Rattle.desk_values.specs.Values.{is_desk_value, packed_desk};

@@ -1,6 +1,8 @@
 // A desk as one value, which programs in C and Rust hold (document 01, "Records"): the blocks of the slots and of the open plan with their
 // sizes, the letter of the slot that an open plan is meant for, and the control block. Each desk is one value and no other (`DeskValues`):
 // what is unused is zero, so that equal desks are equal field by field.
+#![tactic(auto)]
+
 ghost use Rattle.std.specs.Prelude.{◌≡◌, true, ◌≤◌};
 ghost use Rattle.higman.specs.Limits.{max_pairs};
 ghost use Rattle.operations.specs.Plans.{in_table};

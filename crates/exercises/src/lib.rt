@@ -1,5 +1,7 @@
 // Plans made by numbers (change request E3, "Load to exercise a new line"): from the belts by splits and a shuffle that a generator draws,
 // reduced and kept. `make` promises an equality with `exercise` of the crate `higman`, for every number of splits and every seed.
+#![tactic(auto)]
+
 ghost use Rattle.std.specs.Prelude.{◌≡◌, T};
 ghost use Rattle.higman.specs.Limits.{shape_in_range};
 ghost use Rattle.higman.specs.Exercises.{exercise};

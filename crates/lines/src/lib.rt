@@ -1,6 +1,8 @@
 // The desk's answer to a line of bytes (document 01, "Records"): the line becomes a record, the record is worked on a head and lent
 // columns, and the reply is written at the front of the lent output. `step` promises an equality with `respond_line` of the crate `desk`,
 // through the desk that the head and columns hold.
+#![tactic(auto)]
+
 ghost use Rattle.std.specs.Prelude.{◌≡◌, ◌≤◌, length};
 ghost use Rattle.desk.specs.Replies.{respond_line};
 ghost use Rattle.replies.specs.Sizes.{max_reply};

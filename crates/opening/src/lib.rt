@@ -1,5 +1,7 @@
 // The records that open a plan and add to it (document 01, "Records": "P⇥slot⇥n⇥r opens a plan. M⇥from⇥to adds a pair. Neither replies
 // when accepted.").
+#![tactic(auto)]
+
 ghost use Rattle.desk.specs.Records.{P, M};
 ghost use Rattle.slots.specs.Desks.{HoldsDesk};
 ghost use Rattle.slots.specs.Works.{HeadOfDesk, DoneByHead, DoneSilently};

@@ -1,6 +1,8 @@
 // What is done with plans that are known to be plans (document 01, "Plans"). The desk's slots hold plans and nothing else, so that these
 // functions ask for plans and check none; the crate `plans` makes the check for everyone else. Each promise is an equality with an
 // answer of the crate `higman`, through the words that the packed numbers hold.
+#![tactic(auto)]
+
 pub mod answers;
 pub mod closing;
 pub mod comparing;

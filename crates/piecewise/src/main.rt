@@ -1,6 +1,8 @@
 // A test program: the desk of the crate `desk_core`, fed its standard input in pieces of odd sizes, so that lines are cut anywhere and
 // several lines come in one piece. Its replies go to standard output, where `tests/compare` holds them to the second implementation.
 // With an argument, whatever it is, it takes pieces as large as its buffer, to be measured (`bench/`).
+#![tactic(auto)]
+
 ghost use Rattle.std.specs.Prelude.{◌≤◌, length};
 ghost use Rattle.replies.specs.Sizes.{max_reply};
 ghost use Rattle.desk_core.specs.Feeding.{HoldsState};

@@ -1,6 +1,8 @@
 // The desk program (document 01, "Records": "The desk program reads standard input, one record a line .. Replies are lines ended the same
 // way"): the desk of the crate `desk_core`, fed what each read brings, its replies written before the next read. The promises speak of what
 // stands in the buffers, which is as far as a proof can look: what read and write do is the system's.
+#![tactic(auto)]
+
 ghost use Rattle.std.specs.Prelude.{◌≡◌, true, ◌≤◌, length, take};
 ghost use Rattle.replies.specs.Sizes.{max_reply};
 ghost use Rattle.desk_core.specs.Feeding.{HoldsState};

@@ -1,6 +1,8 @@
 // The library of plans (document 01, "Plans"). A plan is two columns of packed words; the calls judge drafts, keep, follow, invert,
 // repeat, compare and list plans, and route codes by them. Each takes any value and refuses what is no plan: its promise is one equality
 // with an answer of the crate `higman`, through the words that the packed numbers hold, and one with what a lent buffer then holds.
+#![tactic(auto)]
+
 pub mod comparing;
 pub mod drafts;
 pub mod following;

@@ -1,5 +1,7 @@
 // The library of plans for programs in C and Rust: the calls of the crate `plans` under names of their own, with numbers in the place of
 // enums. Number 0 stands for a job done, and a refusal has document 01's number. A slice is passed as a pointer and a length.
+#![tactic(auto)]
+
 ghost use Rattle.std.specs.Prelude.{◌≡◌, length};
 ghost use Rattle.operations.specs.Plans.{is_plan};
 ghost use Rattle.operations.specs.Answers.{answer_number};

@@ -1,6 +1,8 @@
 // From a line of bytes to a record (document 01, "Records"): which record a line is, with its numbers, and where in the line its words
 // stand. Nothing of the line is copied. `read` promises one equality with the record that the definitions of the crate `desk` give,
 // for every line of bytes; the functions below it promise the same of the fields behind a letter.
+#![tactic(auto)]
+
 ghost use Rattle.std.specs.Prelude.{◌≡◌, drop};
 ghost use Rattle.higman.specs.Text.{byte};
 ghost use Rattle.records.specs.Reading.{read_line};

@@ -1,5 +1,7 @@
 // The desk in code (document 01, "Records"): a small head that goes by value, and the columns of all plans, lent where they lie. What the
 // two stand for is a desk of the crate `desk` (`desk_of`), and each function promises what the definitions give for it.
+#![tactic(auto)]
+
 ghost use Rattle.std.specs.Prelude.{◌≡◌, true, false};
 ghost use Rattle.higman.specs.Listing.{is_slot, slot_number};
 ghost use Rattle.higman.specs.Bases.{all};

@@ -1,6 +1,8 @@
 // The records about stations. One names a station (change request E5): "A record Z⇥digit names the station for the records after it",
 // "counts no change and replies `ok`". One gives a station a right on a slot (change request E6): "Station 0 sends G⇥station⇥slot⇥right
 // .. and gets `ok`; it counts no change."
+#![tactic(auto)]
+
 ghost use Rattle.desk.specs.Records.{Z};
 ghost use Rattle.slots.specs.Works.{DoneByHead};
 ghost use Rattle.stations.specs.Granted.{GrantedByHead};
