@@ -11,78 +11,78 @@ use Rattle.columns.proofs.Extensions.{Passed, passed_none, passed_next, passed_a
 use Rattle.columns.proofs.extending.Statement.{statement}
 use Rattle.columns.proofs.extending.Tie as tie
 
-abbrev invariant-loop : tie.invariant-loop
-invariant-loop column w start end₀ end = Passed column (unpack w) start end
+abbrev invariant-loop-end : tie.invariant-loop-end
+invariant-loop-end column w start end₀ end = Passed column (unpack w) start end
 
-abbrev decreases-loop : tie.decreases-loop
-decreases-loop column w start end₀ end = length column - end
+abbrev decreases-loop-end : tie.decreases-loop-end
+decreases-loop-end column w start end₀ end = length column - end
 
 -- the turn of the loop in which a word is looked at
-abbrev looped : tie.After-begins invariant-loop decreases-loop → tie.At-loop invariant-loop decreases-loop
+abbrev looped : tie.After-begins invariant-loop-end decreases-loop-end → tie.At-loop-end invariant-loop-end decreases-loop-end
 looped c = c.before.before.before
 
-first-after-requires : tie.Need-first-after-requires invariant-loop decreases-loop
-first-after-requires c κs = search rules
+first_after-start-requires : tie.Need-first_after-start-requires invariant-loop-end decreases-loop-end
+first_after-start-requires c κs = search rules
 
-loop-holds : tie.Need-loop-init invariant-loop decreases-loop
-loop-holds c =
+loop-end-init : tie.Need-loop-end-init invariant-loop-end decreases-loop-end
+loop-end-init c =
     let s = c.before.before in
-    passed_none s.args.column.now s.requires s.args.w c.first-after.result c.first-after.ensures
+    passed_none s.args.column.now s.requires s.args.w c.first_after-start.result c.first_after-start.ensures
 
-mul-begins : tie.Need-overflow-mul-begins invariant-loop decreases-loop
-mul-begins c = omega arith
+offset_bounds-column-end : tie.Need-offset_bounds-column-end invariant-loop-end decreases-loop-end
+offset_bounds-column-end c = omega arith
 
-shared-slice-read-begins : tie.Need-shared-slice-read-begins invariant-loop decreases-loop
-shared-slice-read-begins c = omega arith
+bounds-column-end : tie.Need-bounds-column-end invariant-loop-end decreases-loop-end
+bounds-column-end c = omega arith
 
-begins-requires : tie.Need-begins-requires invariant-loop decreases-loop
+begins-requires : tie.Need-begins-requires invariant-loop-end decreases-loop-end
 begins-requires c κs = search rules
 
-returns : tie.Need-returns invariant-loop decreases-loop
+returns-then-not-begins : tie.Need-returns-then-not-begins invariant-loop-end decreases-loop-end
+returns-then-not-begins c =
+    let b = c.before in
+    let l = looped b in
+    let f = l.before in
+    let s = f.before.before in
+    passed_last s.args.column.now s.requires s.args.w f.first_after-start.result f.first_after-start.ensures l.loop-end.end l.loop-end.invariant
+    b.before.before.loop-end-test.true (sym b.begins.ensures ∙ c.if-not-begins.true)
+
+overflow_add-end : tie.Need-overflow_add-end invariant-loop-end decreases-loop-end
+overflow_add-end c = omega arith
+
+loop-end-smaller : tie.Need-loop-end-smaller invariant-loop-end decreases-loop-end
+loop-end-smaller c = omega arith
+
+loop-end-preserved : tie.Need-loop-end-preserved invariant-loop-end decreases-loop-end
+loop-end-preserved c =
+    let b = c.before in
+    let l = looped b in
+    let f = l.before in
+    let s = f.before.before in
+    passed_next s.args.column.now s.requires s.args.w f.first_after-start.result f.first_after-start.ensures l.loop-end.end l.loop-end.invariant
+    b.before.before.loop-end-test.true (sym b.begins.ensures ∙ c.if-not-begins.false)
+
+returns : tie.Need-returns invariant-loop-end decreases-loop-end
 returns c =
-    let b = c.before in
-    let l = looped b in
-    let f = l.before in
-    let s = f.before.before in
-    passed_last s.args.column.now s.pre s.args.w f.first-after.result f.first-after.ensures l.loop.end l.loop.inv
-    b.before.before.loop-test.true (sym b.begins.ensures ∙ not-true b.begins.result c.if1.true)
-
-add-end : tie.Need-overflow-add-end invariant-loop decreases-loop
-add-end c = omega arith
-
-loop-less : tie.Need-loop-smaller invariant-loop decreases-loop
-loop-less c = omega arith
-
-loop-again : tie.Need-loop-preserved invariant-loop decreases-loop
-loop-again c =
-    let b = c.before in
-    let l = looped b in
-    let f = l.before in
-    let s = f.before.before in
-    passed_next s.args.column.now s.pre s.args.w f.first-after.result f.first-after.ensures l.loop.end l.loop.inv
-    b.before.before.loop-test.true (sym b.begins.ensures ∙ not-false b.begins.result c.if1.false)
-
-returns-2 : tie.Need-returns-2 invariant-loop decreases-loop
-returns-2 c =
     let l = c.before in
     let f = l.before in
     let s = f.before.before in
-    passed_all s.args.column.now s.requires s.args.w f.first-after.result f.first-after.ensures l.loop.end l.loop.invariant
-    c.loop-test.false
+    passed_all s.args.column.now s.requires s.args.w f.first_after-start.result f.first_after-start.ensures l.loop-end.end l.loop-end.invariant
+    c.loop-end-test.false
 
-pub extending-spec : {M : Type 1} → statement M
-extending-spec =
+pub extending_spec : {M : Type 1} → statement M
+extending_spec =
     tie.close
     (tie.spec
-    invariant-loop
-    decreases-loop
-    first-after-requires
-    loop-holds
-    mul-begins
-    shared-slice-read-begins
+    invariant-loop-end
+    decreases-loop-end
+    first_after-start-requires
+    loop-end-init
+    offset_bounds-column-end
+    bounds-column-end
     begins-requires
-    returns
-    add-end
-    loop-less
-    loop-again
-    returns-2)
+    returns-then-not-begins
+    overflow_add-end
+    loop-end-smaller
+    loop-end-preserved
+    returns)
