@@ -13,56 +13,56 @@ use Rattle.records.proofs.read.Statement.{statement}
 use Rattle.records.proofs.read.Tie as tie
 
 -- where the line is not too long
-reads-as-parsed : (c : tie.Else2) →
-    let line = c.before.before.before.args.line.now in
+reads_as_parsed : (c : tie.Else-line-gt-MAX_LINE) →
+    let line = c.args.line.now in
     read_line line ≡ placed_if (parse line)
-reads-as-parsed c =
-    let line = c.before.before.before.args.line.now in
-    read_within line (omega (arith, line_limit, c.if2.false))
+reads_as_parsed c =
+    let line = c.args.line.now in
+    read_within line (omega (arith, line_limit, c.if-line-gt-MAX_LINE.false))
+
+returns-then-line-eq0 : tie.Need-returns-then-line-eq0
+returns-then-line-eq0 c =
+    let line = c.args.line.now in
+    let short : length line ≤ max_line = omega (arith, line_limit, c.if-line-eq0.true) in
+    sym (read_within line short ∙ ap placed_if (parse_empty line c.if-line-eq0.true))
+
+returns-then-line-gt-MAX_LINE : tie.Need-returns-then-line-gt-MAX_LINE
+returns-then-line-gt-MAX_LINE c =
+    let line = c.args.line.now in
+    read_too_long line (omega (arith, line_limit, c.if-line-gt-MAX_LINE.true))
+
+returns-then-line-eq1 : tie.Need-returns-then-line-eq1
+returns-then-line-eq1 c =
+    let t = c.before.before in
+    let line = c.args.line.now in
+    c.read_alone.ensures ∙ sym (reads_as_parsed t.before ∙ parse_alone line c.if-line-eq1.true)
+
+returns-then-line-ne-TAB : tie.Need-returns-then-line-ne-TAB
+returns-then-line-ne-TAB c =
+    let e = c.before.before in
+    let line = c.args.line.now in
+    let several : 1 < length line = omega (arith, c.if-line-eq0.false, c.if-line-eq1.false) in
+    sym (reads_as_parsed e.before ∙ ap placed_if (parse_long_letter line several c.if-line-ne-TAB.true))
 
 returns : tie.Need-returns
 returns c =
-    let line = c.before.before.args.line.now in
-    let short : length line ≤ max_line = omega (arith, line_limit, c.if1.true) in
-    sym (read_within line short ∙ ap placed_if (parse_empty line c.if1.true))
-
-returns-2 : tie.Need-returns-2
-returns-2 c =
-    let line = c.before.before.before.args.line.now in
-    read_too_long line (omega (arith, line_limit, c.if2.true))
-
-returns-3 : tie.Need-returns-3
-returns-3 c =
-    let t = c.before.before in
-    let line = t.before.before.before.before.args.line.now in
-    c.read-alone.ensures ∙ sym (reads-as-parsed t.before ∙ parse_alone line t.if3.true)
-
-returns-4 : tie.Need-returns-4
-returns-4 c =
-    let e = c.before.before in
-    let line = e.before.before.before.before.args.line.now in
-    let several : 1 < length line = omega (arith, e.before.before.if1.false, e.if3.false) in
-    sym (reads-as-parsed e.before ∙ ap placed_if (parse_long_letter line several c.if4.true))
-
-returns-5 : tie.Need-returns-5
-returns-5 c =
     let t = c.before.before in
     let e = t.before.before in
-    let line = e.before.before.before.before.args.line.now in
-    let several : 1 < length line = omega (arith, e.before.before.if1.false, e.if3.false) in
-    c.read-fields.ensures ∙ sym (reads-as-parsed e.before ∙ parse_letter line several t.if4.false)
+    let line = c.args.line.now in
+    let several : 1 < length line = omega (arith, c.if-line-eq0.false, c.if-line-eq1.false) in
+    c.read_fields.ensures ∙ sym (reads_as_parsed e.before ∙ parse_letter line several c.if-line-ne-TAB.false)
 
 pub read_spec : {M : Type 1} → statement M
 read_spec =
     tie.close
     (tie.spec
-    returns
-    returns-2
+    returns-then-line-eq0
+    returns-then-line-gt-MAX_LINE
     (λ c. search rules)
     (λ c κs. search rules)
-    returns-3
+    returns-then-line-eq1
     (λ c. search rules)
-    returns-4
+    returns-then-line-ne-TAB
     (λ c. search rules)
     (λ c κs. search rules)
-    returns-5)
+    returns)

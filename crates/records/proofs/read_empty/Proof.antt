@@ -12,29 +12,33 @@ use Rattle.records.proofs.Readers.{singles_end, one_missing, one_slot_read}
 use Rattle.records.proofs.read_empty.Statement.{statement}
 use Rattle.records.proofs.read_empty.Tie as tie
 
-slot-found : (c : tie.Else1) → singles 1 (drop 2 c.before.before.before.args.line.now) ≡ true
-slot-found c = sym c.before.singles.ensures ∙ not-false c.before.singles.result c.if1.false
+slot_found : (c : tie.Else-not-singles) → singles 1 (drop 2 c.args.line.now) ≡ true
+slot_found c = sym c.singles.ensures ∙ c.if-not-singles.false
+
+returns-then-not-singles : tie.Need-returns-then-not-singles
+unfolding behind_letter grammar
+returns-then-not-singles c =
+    let line = c.args.line.now in
+    let missing = sym c.singles.ensures ∙ c.if-not-singles.true in
+    sym (ap placed_if (one_missing C line slot_single missing))
+
+bounds-line-2 : tie.Need-bounds-line-2
+bounds-line-2 c =
+    let e = c.before in
+    omega (arith, singles_end c.args.line.now 0 (slot_found e))
 
 returns : tie.Need-returns
 unfolding behind_letter grammar
 returns c =
-    let s = c.before in
-    let line = s.before.before.args.line.now in
-    let missing = sym s.singles.ensures ∙ not-true s.singles.result c.if1.true in
-    sym (ap placed_if (one_missing C line slot_single missing))
-
-shared-slice-read-t5 : tie.Need-shared-slice-read-t5
-shared-slice-read-t5 c =
     let e = c.before in
-    omega (arith, singles_end e.before.before.before.args.line.now 0 (slot-found e))
+    let line = c.args.line.now in
+    sym (ap placed_if (one_slot_read line (slot_found e) C))
 
-returns-2 : tie.Need-returns-2
-unfolding behind_letter grammar
-returns-2 c =
-    let e = c.before in
-    let line = e.before.before.before.args.line.now in
-    sym (ap placed_if (one_slot_read line (slot-found e) C))
-
-pub read-empty-spec : {M : Type 1} → statement M
-read-empty-spec =
-    tie.close (tie.spec (λ c κs. search rules) returns shared-slice-read-t5 returns-2)
+pub read_empty_spec : {M : Type 1} → statement M
+read_empty_spec =
+    tie.close
+    (tie.spec
+    (λ c κs. search rules)
+    returns-then-not-singles
+    bounds-line-2
+    returns)

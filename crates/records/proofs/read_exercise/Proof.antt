@@ -16,133 +16,128 @@ use Rattle.records.proofs.read_exercise.Statement.{statement}
 use Rattle.records.proofs.read_exercise.Tie as tie
 
 -- where the fields have been found, and n and r are digits
-slot-found : (c : tie.Else1) → single_then (drop 2 c.before.before.before.args.line.now) ≡ true
-slot-found c = sym c.before.single-then.ensures ∙ not-false c.before.single-then.result c.if1.false
+slot_found : (c : tie.Else-not-single_then) → single_then (drop 2 c.args.line.now) ≡ true
+slot_found c = sym c.single_then.ensures ∙ c.if-not-single_then.false
 
-second-found : (c : tie.Else2) → single_then (drop 4 c.before.before.before.before.before.args.line.now) ≡ true
-second-found c = sym c.before.single-then2.ensures ∙ not-false c.before.single-then2.result c.if2.false
+second_found : (c : tie.Else-not-single_then-2) → single_then (drop 4 c.args.line.now) ≡ true
+second_found c = sym c.single_then-2.ensures ∙ c.if-not-single_then-2.false
 
-third-found : (c : tie.Else3) → single_then (drop 6 c.before.before.before.before.before.before.before.args.line.now) ≡ true
-third-found c = sym c.before.single-then3.ensures ∙ not-false c.before.single-then3.result c.if3.false
+third_found : (c : tie.Else-not-single_then-3) → single_then (drop 6 c.args.line.now) ≡ true
+third_found c = sym c.single_then-3.ensures ∙ c.if-not-single_then-3.false
 
-arity-found : (c : tie.Else4) →
-    let e = c.before.before.before.before in
-    is_numeral (get_or e.before.before.before.before.before.before.before.args.line.now 4 0) ≡ true
-arity-found c = sym c.before.is-numeral.ensures ∙ not-false c.before.is-numeral.result c.if4.false
+arity_found : (c : tie.Else-not-is_numeral) →
+    is_numeral (get_or c.args.line.now 4 0) ≡ true
+arity_found c = sym c.is_numeral.ensures ∙ c.if-not-is_numeral.false
 
-roots-found : (c : tie.Else5) →
-    let e = c.before.before.before.before.before.before in
-    is_numeral (get_or e.before.before.before.before.before.before.before.args.line.now 6 0) ≡ true
-roots-found c = sym c.before.is-numeral2.ensures ∙ not-false c.before.is-numeral2.result c.if5.false
+roots_found : (c : tie.Else-not-is_numeral-2) →
+    is_numeral (get_or c.args.line.now 6 0) ≡ true
+roots_found c = sym c.is_numeral-2.ensures ∙ c.if-not-is_numeral-2.false
 
-returns : tie.Need-returns
+returns-then-not-single_then : tie.Need-returns-then-not-single_then
 unfolding behind_letter grammar
-returns c =
-    let s = c.before in
-    let missing = sym s.single-then.ensures ∙ not-true s.single-then.result c.if1.true in
-    sym (ap placed_if (exercise_no_arity s.before.before.args.line.now missing))
+returns-then-not-single_then c =
+    let missing = sym c.single_then.ensures ∙ c.if-not-single_then.true in
+    sym (ap placed_if (exercise_no_arity c.args.line.now missing))
 
-returns-2 : tie.Need-returns-2
+returns-then-not-single_then-2 : tie.Need-returns-then-not-single_then-2
 unfolding behind_letter grammar
-returns-2 c =
+returns-then-not-single_then-2 c =
     let s = c.before in
     let e = s.before in
-    let line = e.before.before.before.args.line.now in
-    let missing = sym s.single-then2.ensures ∙ not-true s.single-then2.result c.if2.true in
-    sym (ap placed_if (exercise_no_roots line (slot-found e) missing))
+    let line = c.args.line.now in
+    let missing = sym c.single_then-2.ensures ∙ c.if-not-single_then-2.true in
+    sym (ap placed_if (exercise_no_roots line (slot_found e) missing))
 
-returns-3 : tie.Need-returns-3
+returns-then-not-single_then-3 : tie.Need-returns-then-not-single_then-3
 unfolding behind_letter grammar
-returns-3 c =
+returns-then-not-single_then-3 c =
     let s = c.before in
     let e = s.before in
     let d = e.before.before in
-    let line = d.before.before.before.args.line.now in
-    let missing = sym s.single-then3.ensures ∙ not-true s.single-then3.result c.if3.true in
-    sym (ap placed_if (exercise_no_splits line (slot-found d) (second-found e) missing))
+    let line = c.args.line.now in
+    let missing = sym c.single_then-3.ensures ∙ c.if-not-single_then-3.true in
+    sym (ap placed_if (exercise_no_splits line (slot_found d) (second_found e) missing))
 
-shared-slice-read-arity : tie.Need-shared-slice-read-arity
-shared-slice-read-arity c =
+bounds-line-4 : tie.Need-bounds-line-4
+bounds-line-4 c =
     let e = c.before in
-    let line = e.before.before.before.before.before.before.before.args.line.now in
-    omega (arith, then_within_lem line 6 (third-found e))
+    let line = c.args.line.now in
+    omega (arith, then_within_lem line 6 (third_found e))
 
-shared-slice-read-roots : tie.Need-shared-slice-read-roots
-shared-slice-read-roots c =
+bounds-line-6 : tie.Need-bounds-line-6
+bounds-line-6 c =
     let e = c.before.before in
-    let line = e.before.before.before.before.before.before.before.args.line.now in
-    omega (arith, then_within_lem line 6 (third-found e))
+    let line = c.args.line.now in
+    omega (arith, then_within_lem line 6 (third_found e))
 
-returns-4 : tie.Need-returns-4
+returns-then-not-is_numeral : tie.Need-returns-then-not-is_numeral
 unfolding behind_letter grammar
-returns-4 c =
+returns-then-not-is_numeral c =
     let n = c.before in
     let e = n.before.before.before.before.before in
     let d = e.before.before in
-    let line = d.before.before.before.args.line.now in
-    let wrong = sym n.is-numeral.ensures ∙ not-true n.is-numeral.result c.if4.true in
-    sym (ap placed_if (exercise_wrong_arity line (slot-found d) (second-found e) wrong))
+    let line = c.args.line.now in
+    let wrong = sym c.is_numeral.ensures ∙ c.if-not-is_numeral.true in
+    sym (ap placed_if (exercise_wrong_arity line (slot_found d) (second_found e) wrong))
 
-returns-5 : tie.Need-returns-5
+returns-then-not-is_numeral-2 : tie.Need-returns-then-not-is_numeral-2
 unfolding behind_letter grammar
-returns-5 c =
+returns-then-not-is_numeral-2 c =
     let r = c.before in
     let n = r.before in
     let e = n.before.before.before.before in
     let d = e.before.before in
     let s = d.before.before in
-    let line = s.before.before.before.args.line.now in
-    let wrong = sym r.is-numeral2.ensures ∙ not-true r.is-numeral2.result c.if5.true in
-    sym (ap placed_if (exercise_wrong_roots line (slot-found s) (second-found d) (third-found e) (arity-found n) wrong))
+    let line = c.args.line.now in
+    let wrong = sym c.is_numeral-2.ensures ∙ c.if-not-is_numeral-2.true in
+    sym (ap placed_if (exercise_wrong_roots line (slot_found s) (second_found d) (third_found e) (arity_found n) wrong))
 
-shared-slice-read-read-splits-and-seed : tie.Need-shared-slice-read-read-splits-and-seed
-shared-slice-read-read-splits-and-seed c =
+bounds-line-2 : tie.Need-bounds-line-2
+bounds-line-2 c =
     let e = c.before.before.before.before.before.before.before in
-    let line = e.before.before.before.before.before.before.before.args.line.now in
-    omega (arith, then_within_lem line 6 (third-found e))
+    let line = c.args.line.now in
+    omega (arith, then_within_lem line 6 (third_found e))
 
-sub-read-splits-and-seed : tie.Need-overflow-sub-read-splits-and-seed
-sub-read-splits-and-seed c =
+overflow_sub-arity : tie.Need-overflow_sub-arity
+overflow_sub-arity c =
     let n = c.before.before.before in
-    let e = n.before.before.before.before in
-    numeral_from (get_or e.before.before.before.before.before.before.before.args.line.now 4 0) (arity-found n)
+    numeral_from (get_or c.args.line.now 4 0) (arity_found n)
 
-sub-read-splits-and-seed-2 : tie.Need-overflow-sub-read-splits-and-seed-2
-sub-read-splits-and-seed-2 c =
+overflow_sub-roots : tie.Need-overflow_sub-roots
+overflow_sub-roots c =
     let r = c.before in
-    let e = r.before.before.before.before.before.before in
-    numeral_from (get_or e.before.before.before.before.before.before.before.args.line.now 6 0) (roots-found r)
+    numeral_from (get_or c.args.line.now 6 0) (roots_found r)
 
-returns-6 : tie.Need-returns-6
+returns : tie.Need-returns
 unfolding behind_letter behind_shape grammar
-returns-6 c =
+returns c =
     let r = c.before.before in
     let n = r.before.before in
     let e = n.before.before.before.before in
     let d = e.before.before in
     let s = d.before.before in
-    let line = s.before.before.before.args.line.now in
-    let shape = exercise_shape line (slot-found s) (second-found d) (third-found e) (arity-found n) (roots-found r) in
-    c.read-splits-and-seed.ensures ∙ sym (ap placed_if shape)
+    let line = c.args.line.now in
+    let shape = exercise_shape line (slot_found s) (second_found d) (third_found e) (arity_found n) (roots_found r) in
+    c.read_splits_and_seed.ensures ∙ sym (ap placed_if shape)
 
-pub read-exercise-spec : {M : Type 1} → statement M
-read-exercise-spec =
+pub read_exercise_spec : {M : Type 1} → statement M
+read_exercise_spec =
     tie.close
     (tie.spec
     (λ c κs. search rules)
-    returns
+    returns-then-not-single_then
     (λ c κs. search rules)
-    returns-2
+    returns-then-not-single_then-2
     (λ c κs. search rules)
-    returns-3
-    shared-slice-read-arity
-    shared-slice-read-roots
+    returns-then-not-single_then-3
+    bounds-line-4
+    bounds-line-6
     (λ c κs. search rules)
-    returns-4
+    returns-then-not-is_numeral
     (λ c κs. search rules)
-    returns-5
-    shared-slice-read-read-splits-and-seed
-    sub-read-splits-and-seed
-    sub-read-splits-and-seed-2
+    returns-then-not-is_numeral-2
+    bounds-line-2
+    overflow_sub-arity
+    overflow_sub-roots
     (λ c κs. search rules)
-    returns-6)
+    returns)

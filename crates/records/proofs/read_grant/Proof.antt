@@ -15,105 +15,102 @@ use Rattle.records.proofs.read_grant.Statement.{statement}
 use Rattle.records.proofs.read_grant.Tie as tie
 
 -- where the fields have been found, and the station and the right are digits
-fields-found : (c : tie.Else1) → singles 3 (drop 2 c.before.before.before.args.line.now) ≡ true
-fields-found c = sym c.before.singles.ensures ∙ not-false c.before.singles.result c.if1.false
+fields_found : (c : tie.Else-not-singles) → singles 3 (drop 2 c.args.line.now) ≡ true
+fields_found c = sym c.singles.ensures ∙ c.if-not-singles.false
 
-station-found : (c : tie.Else2) →
-    let e = c.before.before.before.before in
-    is_numeral (get_or e.before.before.before.args.line.now 2 0) ≡ true
-station-found c = sym c.before.is-numeral.ensures ∙ not-false c.before.is-numeral.result c.if2.false
+station_found : (c : tie.Else-not-is_numeral) →
+    is_numeral (get_or c.args.line.now 2 0) ≡ true
+station_found c = sym c.is_numeral.ensures ∙ c.if-not-is_numeral.false
 
-right-found : (c : tie.Else3) →
-    let e = c.before.before.before.before.before.before in
-    is_numeral (get_or e.before.before.before.args.line.now 6 0) ≡ true
-right-found c = sym c.before.is-numeral2.ensures ∙ not-false c.before.is-numeral2.result c.if3.false
+right_found : (c : tie.Else-not-is_numeral-2) →
+    is_numeral (get_or c.args.line.now 6 0) ≡ true
+right_found c = sym c.is_numeral-2.ensures ∙ c.if-not-is_numeral-2.false
+
+returns-then-not-singles : tie.Need-returns-then-not-singles
+unfolding behind_letter grammar
+returns-then-not-singles c =
+    let line = c.args.line.now in
+    let missing = sym c.singles.ensures ∙ c.if-not-singles.true in
+    sym (ap placed_if (three_missing G line digit_single slot_single right_single missing))
+
+bounds-line-2 : tie.Need-bounds-line-2
+bounds-line-2 c =
+    let e = c.before in
+    omega (arith, singles_end c.args.line.now 2 (fields_found e))
+
+bounds-line-6 : tie.Need-bounds-line-6
+bounds-line-6 c =
+    let e = c.before.before in
+    omega (arith, singles_end c.args.line.now 2 (fields_found e))
+
+returns-then-not-is_numeral : tie.Need-returns-then-not-is_numeral
+unfolding behind_letter grammar
+returns-then-not-is_numeral c =
+    let n = c.before in
+    let e = n.before.before.before in
+    let line = c.args.line.now in
+    let wrong = sym c.is_numeral.ensures ∙ c.if-not-is_numeral.true in
+    sym (ap placed_if (grant_wrong_station line (fields_found e) wrong))
+
+returns-then-not-is_numeral-2 : tie.Need-returns-then-not-is_numeral-2
+unfolding behind_letter grammar
+returns-then-not-is_numeral-2 c =
+    let r = c.before in
+    let n = r.before in
+    let e = n.before.before.before.before in
+    let line = c.args.line.now in
+    let wrong = sym c.is_numeral-2.ensures ∙ c.if-not-is_numeral-2.true in
+    sym (ap placed_if (grant_no_digit line (fields_found e) (station_found n) wrong))
+
+returns-then-right-gt50 : tie.Need-returns-then-right-gt50
+unfolding behind_letter grammar
+returns-then-right-gt50 c =
+    let r = c.before in
+    let n = r.before.before in
+    let e = n.before.before.before.before in
+    let line = c.args.line.now in
+    sym (ap placed_if (grant_above line (fields_found e) (station_found n) (right_found r) c.if-right-gt50.true))
+
+overflow_sub-result : tie.Need-overflow_sub-result
+overflow_sub-result c =
+    let n = c.before.before.before in
+    let line = c.args.line.now in
+    numeral_from (get_or line 2 0) (station_found n)
+
+bounds-line-4 : tie.Need-bounds-line-4
+bounds-line-4 c =
+    let e = c.before.before.before.before.before.before.before.before in
+    omega (arith, singles_end c.args.line.now 2 (fields_found e))
+
+overflow_sub-result-2 : tie.Need-overflow_sub-result-2
+overflow_sub-result-2 c =
+    let r = c.before.before in
+    let line = c.args.line.now in
+    numeral_from (get_or line 6 0) (right_found r)
 
 returns : tie.Need-returns
 unfolding behind_letter grammar
 returns c =
-    let s = c.before in
-    let line = s.before.before.args.line.now in
-    let missing = sym s.singles.ensures ∙ not-true s.singles.result c.if1.true in
-    sym (ap placed_if (three_missing G line digit_single slot_single right_single missing))
-
-shared-slice-read-holder : tie.Need-shared-slice-read-holder
-shared-slice-read-holder c =
-    let e = c.before in
-    omega (arith, singles_end e.before.before.before.args.line.now 2 (fields-found e))
-
-shared-slice-read-right : tie.Need-shared-slice-read-right
-shared-slice-read-right c =
-    let e = c.before.before in
-    omega (arith, singles_end e.before.before.before.args.line.now 2 (fields-found e))
-
-returns-2 : tie.Need-returns-2
-unfolding behind_letter grammar
-returns-2 c =
-    let n = c.before in
-    let e = n.before.before.before in
-    let line = e.before.before.before.args.line.now in
-    let wrong = sym n.is-numeral.ensures ∙ not-true n.is-numeral.result c.if2.true in
-    sym (ap placed_if (grant_wrong_station line (fields-found e) wrong))
-
-returns-3 : tie.Need-returns-3
-unfolding behind_letter grammar
-returns-3 c =
-    let r = c.before in
-    let n = r.before in
-    let e = n.before.before.before.before in
-    let line = e.before.before.before.args.line.now in
-    let wrong = sym r.is-numeral2.ensures ∙ not-true r.is-numeral2.result c.if3.true in
-    sym (ap placed_if (grant_no_digit line (fields-found e) (station-found n) wrong))
-
-returns-4 : tie.Need-returns-4
-unfolding behind_letter grammar
-returns-4 c =
-    let r = c.before in
-    let n = r.before.before in
-    let e = n.before.before.before.before in
-    let line = e.before.before.before.args.line.now in
-    sym (ap placed_if (grant_above line (fields-found e) (station-found n) (right-found r) c.if4.true))
-
-sub-t7 : tie.Need-overflow-sub-t7
-sub-t7 c =
-    let n = c.before.before.before in
-    let line = n.before.before.before.before.before.before.before.args.line.now in
-    numeral_from (get_or line 2 0) (station-found n)
-
-shared-slice-read-t10 : tie.Need-shared-slice-read-t10
-shared-slice-read-t10 c =
-    let e = c.before.before.before.before.before.before.before.before in
-    omega (arith, singles_end e.before.before.before.args.line.now 2 (fields-found e))
-
-sub-t11 : tie.Need-overflow-sub-t11
-sub-t11 c =
-    let r = c.before.before in
-    let line = r.before.before.before.before.before.before.before.before.before.args.line.now in
-    numeral_from (get_or line 6 0) (right-found r)
-
-returns-5 : tie.Need-returns-5
-unfolding behind_letter grammar
-returns-5 c =
     let r = c.before.before in
     let n = r.before.before in
     let e = n.before.before.before.before in
-    let line = e.before.before.before.args.line.now in
-    grant_read line (fields-found e) (station-found n) (right-found r) (omega (arith, c.before.if4.false))
+    let line = c.args.line.now in
+    grant_read line (fields_found e) (station_found n) (right_found r) (omega (arith, c.if-right-gt50.false))
 
-pub read-grant-spec : {M : Type 1} → statement M
-read-grant-spec =
+pub read_grant_spec : {M : Type 1} → statement M
+read_grant_spec =
     tie.close
     (tie.spec
     (λ c κs. search rules)
-    returns
-    shared-slice-read-holder
-    shared-slice-read-right
+    returns-then-not-singles
+    bounds-line-2
+    bounds-line-6
     (λ c κs. search rules)
-    returns-2
+    returns-then-not-is_numeral
     (λ c κs. search rules)
-    returns-3
-    returns-4
-    sub-t7
-    shared-slice-read-t10
-    sub-t11
-    returns-5)
+    returns-then-not-is_numeral-2
+    returns-then-right-gt50
+    overflow_sub-result
+    bounds-line-4
+    overflow_sub-result-2
+    returns)

@@ -22,103 +22,98 @@ use Rattle.records.proofs.read_power.Statement.{statement}
 use Rattle.records.proofs.read_power.Tie as tie
 
 -- where the first slot, and where the last one has been found
-slot-found : (c : tie.Else1) → single_then (drop 2 c.before.before.before.args.line.now) ≡ true
-slot-found c = sym c.before.single-then.ensures ∙ not-false c.before.single-then.result c.if1.false
+slot_found : (c : tie.Else-not-single_then) → single_then (drop 2 c.args.line.now) ≡ true
+slot_found c = sym c.single_then.ensures ∙ c.if-not-single_then.false
 
-target_found : (c : tie.Else3) →
-    let f = c.before.before.before in
-    single_last (drop (f.field-end.result + 1) f.before.before.before.before.args.line.now) ≡ true
-target_found c = sym c.before.single-last.ensures ∙ not-false c.before.single-last.result c.if3.false
+target_found : (c : tie.Else-not-single_last) →
+    single_last (drop (c.field_end-end.result + 1) c.args.line.now) ≡ true
+target_found c = sym c.single_last.ensures ∙ c.if-not-single_last.false
 
 -- what is read between them is the field there
 number_is : (c : tie.After-signed) →
-    let f = c.before.before.before.before.before in
-    let line = f.before.before.before.before.args.line.now in
+    let line = c.args.line.now in
     c.signed.result ≡ whole_of (signed_field max_numeral (first_field (drop 4 line)))
 number_is c =
-    let f = c.before.before.before.before.before in
-    let line = f.before.before.before.before.args.line.now in
-    c.signed.ensures ∙ ap (λ l. whole_of (signed_field max_numeral l)) (part_is_first line 4 f.field-end.result f.field-end.ensures)
+    let line = c.args.line.now in
+    c.signed.ensures ∙ ap (λ l. whole_of (signed_field max_numeral l)) (part_is_first line 4 c.field_end-end.result c.field_end-end.ensures)
+
+returns-then-not-single_then : tie.Need-returns-then-not-single_then
+unfolding behind_letter grammar
+returns-then-not-single_then c =
+    let line = c.args.line.now in
+    let missing = sym c.single_then.ensures ∙ c.if-not-single_then.true in
+    sym (ap placed_if (power_no_number line missing))
+
+returns-then-line-end : tie.Need-returns-then-line-end
+unfolding behind_letter grammar
+returns-then-line-end c =
+    let f = c.before in
+    let line = c.args.line.now in
+    sym (ap placed_if (power_no_target line (slot_found f.before) c.field_end-end.result c.field_end-end.ensures c.if-line-end.true))
+
+returns-then-not-single_last : tie.Need-returns-then-not-single_last
+unfolding behind_letter grammar
+returns-then-not-single_last c =
+    let s = c.before in
+    let f = s.before.before in
+    let line = c.args.line.now in
+    let end = c.field_end-end.result in
+    let wrong = sym c.single_last.ensures ∙ c.if-not-single_last.true in
+    sym (ap placed_if (power_wrong_target line (slot_found f.before) end c.field_end-end.ensures c.if-line-end.false wrong))
+
+enum_told-1 : tie.Need-enum_told-1
+enum_told-1 c = search rules
+
+returns-in_default : tie.Need-returns-in_default
+unfolding behind_letter grammar
+returns-in_default c =
+    let s = c.before in
+    let room = s.before.before.before.before in
+    let f = room.before in
+    let line = c.args.line.now in
+    let end = c.field_end-end.result in
+    let wrong = whole_none (signed_field max_numeral (first_field (drop 4 line))) (sym (number_is s) ∙ c.in_default.is) in
+    sym (ap placed_if (power_wrong_number line (slot_found f.before) end c.field_end-end.ensures c.if-line-end.false wrong))
+
+bounds-line-behind : tie.Need-bounds-line-behind
+bounds-line-behind c =
+    let e = c.before.before.before.before.before in
+    omega (arith, last_ends c.args.line.now (c.field_end-end.result + 1) (target_found e))
 
 returns : tie.Need-returns
 unfolding behind_letter grammar
 returns c =
-    let s = c.before in
-    let line = s.before.before.args.line.now in
-    let missing = sym s.single-then.ensures ∙ not-true s.single-then.result c.if1.true in
-    sym (ap placed_if (power_no_number line missing))
-
-returns-2 : tie.Need-returns-2
-unfolding behind_letter grammar
-returns-2 c =
-    let f = c.before in
-    let line = f.before.before.before.before.args.line.now in
-    sym (ap placed_if (power_no_target line (slot-found f.before) f.field-end.result f.field-end.ensures c.if2.true))
-
-returns-3 : tie.Need-returns-3
-unfolding behind_letter grammar
-returns-3 c =
-    let s = c.before in
-    let f = s.before.before in
-    let line = f.before.before.before.before.args.line.now in
-    let end = f.field-end.result in
-    let wrong = sym s.single-last.ensures ∙ not-true s.single-last.result c.if3.true in
-    sym (ap placed_if (power_wrong_target line (slot-found f.before) end f.field-end.ensures s.before.if2.false wrong))
-
-enum_told : tie.Need-enum-told
-enum_told c = search rules
-
-returns-4 : tie.Need-returns-4
-unfolding behind_letter grammar
-returns-4 c =
-    let s = c.before.before in
-    let room = s.before.before.before.before in
-    let f = room.before in
-    let line = f.before.before.before.before.args.line.now in
-    let end = f.field-end.result in
-    let wrong = whole_none (signed_field max_numeral (first_field (drop 4 line))) (sym (number_is s) ∙ c.enum_told.given.1) in
-    sym (ap placed_if (power_wrong_number line (slot-found f.before) end f.field-end.ensures room.if2.false wrong))
-
-shared-slice-read-t15 : tie.Need-shared-slice-read-t15
-shared-slice-read-t15 c =
-    let e = c.before.before.before.before.before.before.before in
-    let f = e.before.before.before in
-    omega (arith, last_ends f.before.before.before.before.args.line.now (f.field-end.result + 1) (target_found e))
-
-returns-5 : tie.Need-returns-5
-unfolding behind_letter grammar
-returns-5 c =
     let n = c.before.before.before in
-    let s = n.before.before in
+    let s = n in
     let e = s.before.before in
     let room = e.before.before in
     let f = room.before in
-    let line = f.before.before.before.before.args.line.now in
-    let end = f.field-end.result in
+    let line = c.args.line.now in
+    let end = c.field_end-end.result in
     let field = first_field (drop 4 line) in
-    let k = n.k.given.0.0 in
-    let number = whole_some (signed_field max_numeral field) k (sym (number_is s) ∙ n.k.given.1) in
+    let k = c.in-Number.k in
+    let number = whole_some (signed_field max_numeral field) k (sym (number_is s) ∙ c.in-Number.is) in
     ap (λ j. Power (get_or line 2 0) j (get_or line (end + 1) 0)) (to_z-of_z w32 k (numeral_fits k (signed_small field k number)))
-    ∙ sym (ap placed_if (power_read line (slot-found f.before) end f.field-end.ensures room.if2.false k number (target_found e)))
+    ∙ sym (ap placed_if (power_read line (slot_found f.before) end c.field_end-end.ensures c.if-line-end.false k number (target_found e)))
 
-pub read-power-spec : {M : Type 1} → statement M
-read-power-spec =
+pub read_power_spec : {M : Type 1} → statement M
+read_power_spec =
     tie.close
     (tie.spec
     (λ c κs. search rules)
-    returns
+    returns-then-not-single_then
     (λ c κs. search rules)
-    returns-2
-    (λ c. search rules)
-    (λ c κs. search rules)
-    returns-3
-    (λ c. search rules)
-    (λ c. search rules)
+    returns-then-line-end
     (λ c. search rules)
     (λ c κs. search rules)
+    returns-then-not-single_last
     (λ c. search rules)
-    enum_told
-    returns-4
     (λ c. search rules)
-    shared-slice-read-t15
-    returns-5)
+    (λ c. search rules)
+    (λ c κs. search rules)
+    (λ c. search rules)
+    enum_told-1
+    returns-in_default
+    (λ c. search rules)
+    bounds-line-behind
+    returns)

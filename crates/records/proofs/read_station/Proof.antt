@@ -15,56 +15,53 @@ use Rattle.records.proofs.read_station.Statement.{statement}
 use Rattle.records.proofs.read_station.Tie as tie
 
 -- where the field has been found, and is a digit
-field_found : (c : tie.Else1) → singles 1 (drop 2 c.before.before.before.args.line.now) ≡ true
-field_found c = sym c.before.singles.ensures ∙ not-false c.before.singles.result c.if1.false
+field_found : (c : tie.Else-not-singles) → singles 1 (drop 2 c.args.line.now) ≡ true
+field_found c = sym c.singles.ensures ∙ c.if-not-singles.false
 
-digit-found : (c : tie.Else2) →
-    let e = c.before.before.before in
-    is_numeral (get_or e.before.before.before.args.line.now 2 0) ≡ true
-digit-found c = sym c.before.is-numeral.ensures ∙ not-false c.before.is-numeral.result c.if2.false
+digit_found : (c : tie.Else-not-is_numeral) →
+    is_numeral (get_or c.args.line.now 2 0) ≡ true
+digit_found c = sym c.is_numeral.ensures ∙ c.if-not-is_numeral.false
+
+returns-then-not-singles : tie.Need-returns-then-not-singles
+unfolding behind_letter grammar
+returns-then-not-singles c =
+    let line = c.args.line.now in
+    let missing = sym c.singles.ensures ∙ c.if-not-singles.true in
+    sym (ap placed_if (one_missing Z line digit_single missing))
+
+bounds-line-2 : tie.Need-bounds-line-2
+bounds-line-2 c =
+    let e = c.before in
+    omega (arith, singles_end c.args.line.now 0 (field_found e))
+
+returns-then-not-is_numeral : tie.Need-returns-then-not-is_numeral
+unfolding behind_letter grammar
+returns-then-not-is_numeral c =
+    let n = c.before in
+    let e = n.before.before in
+    let line = c.args.line.now in
+    let wrong = sym c.is_numeral.ensures ∙ c.if-not-is_numeral.true in
+    sym (ap placed_if (station_no_digit line (field_found e) wrong))
+
+overflow_sub-result : tie.Need-overflow_sub-result
+overflow_sub-result c =
+    omega (arith, numeral_from (get_or c.args.line.now 2 0) (digit_found c))
 
 returns : tie.Need-returns
 unfolding behind_letter grammar
 returns c =
-    let s = c.before in
-    let line = s.before.before.args.line.now in
-    let missing = sym s.singles.ensures ∙ not-true s.singles.result c.if1.true in
-    sym (ap placed_if (one_missing Z line digit_single missing))
-
-shared-slice-read-station : tie.Need-shared-slice-read-station
-shared-slice-read-station c =
-    let e = c.before in
-    omega (arith, singles_end e.before.before.before.args.line.now 0 (field_found e))
-
-returns-2 : tie.Need-returns-2
-unfolding behind_letter grammar
-returns-2 c =
-    let n = c.before in
-    let e = n.before.before in
-    let line = e.before.before.before.args.line.now in
-    let wrong = sym n.is-numeral.ensures ∙ not-true n.is-numeral.result c.if2.true in
-    sym (ap placed_if (station_no_digit line (field_found e) wrong))
-
-sub-t6 : tie.Need-overflow-sub-t6
-sub-t6 c =
     let e = c.before.before.before in
-    omega (arith, numeral_from (get_or e.before.before.before.args.line.now 2 0) (digit-found c))
+    let line = c.args.line.now in
+    sym (ap placed_if (station_read line (field_found e) (digit_found c)))
 
-returns-3 : tie.Need-returns-3
-unfolding behind_letter grammar
-returns-3 c =
-    let e = c.before.before.before in
-    let line = e.before.before.before.args.line.now in
-    sym (ap placed_if (station_read line (field_found e) (digit-found c)))
-
-pub read-station-spec : {M : Type 1} → statement M
-read-station-spec =
+pub read_station_spec : {M : Type 1} → statement M
+read_station_spec =
     tie.close
     (tie.spec
     (λ c κs. search rules)
-    returns
-    shared-slice-read-station
+    returns-then-not-singles
+    bounds-line-2
     (λ c κs. search rules)
-    returns-2
-    sub-t6
-    returns-3)
+    returns-then-not-is_numeral
+    overflow_sub-result
+    returns)

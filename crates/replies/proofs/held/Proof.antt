@@ -17,7 +17,7 @@ record Digits (arity roots pairs : ℕ) : Type 0 where
   of-roots : length (decimal roots) ≤ 1
   of-pairs : length (decimal pairs) ≤ 3
 
-digits : (c : tie.After-put) → let a = c.before.before.before.args in Digits a.arity a.roots a.pairs
+digits : (c : tie.After-put-arity_at) → let a = c.before.before.before.args in Digits a.arity a.roots a.pairs
 unfolding max_pairs
 digits c =
     let a = c.before.before.before.args in
@@ -27,24 +27,24 @@ digits c =
       of-pairs = decimal_size 2 a.pairs (omega arith);
     }
 
-arity-requires : tie.Need-put-decimal-requires
-arity-requires c κs = omega (arith, digits c.before.before.before)
+put_decimal-roots_at-requires : tie.Need-put_decimal-roots_at-requires
+put_decimal-roots_at-requires c κs = omega (arith, digits c.before.before.before)
 
-roots-requires : tie.Need-put-decimal-requires-2
-roots-requires c κs = let arity = c.before.before.before in omega (arith, digits arity.before.before.before.before)
+put_decimal-pairs_at-requires : tie.Need-put_decimal-pairs_at-requires
+put_decimal-pairs_at-requires c κs = let arity = c.before.before.before in omega (arith, digits arity.before.before.before.before)
 
-cast-pairs : tie.Need-overflow-cast-put-decimal
+overflow_cast-pairs : tie.Need-overflow_cast-pairs
 unfolding max_pairs
-cast-pairs c = omega arith
+overflow_cast-pairs c = omega arith
 
-pairs-requires : tie.Need-put-decimal-requires-3
-pairs-requires c κs =
+put_decimal-end_at-requires : tie.Need-put_decimal-end_at-requires
+put_decimal-end_at-requires c κs =
     let roots = c.before.before.before in
     let arity = roots.before.before.before.before in
     omega (arith, digits arity.before.before.before.before)
 
-end-requires : tie.Need-put-requires-2
-end-requires c κs =
+put-requires : tie.Need-put-requires
+put-requires c κs =
     let pairs = c.before.before.before in
     let roots = pairs.before.before.before.before in
     let arity = roots.before.before.before.before in
@@ -58,19 +58,19 @@ returns c =
     let arity = roots.before.before.before.before in
     let slot = arity.before.before.before.before in
     let sizes = digits slot in
-    let numbers = wrote_then (omega arith) roots.put-decimal2.ensures pairs.put-decimal3.ensures in
-    let fields = wrote_then (omega arith) arity.put-decimal.ensures numbers in
-    wrote_then (omega arith) slot.put.ensures (wrote_then (omega arith) fields end.put2.ensures)
+    let numbers = wrote_then (omega arith) roots.put_decimal-pairs_at.ensures pairs.put_decimal-end_at.ensures in
+    let fields = wrote_then (omega arith) arity.put_decimal-roots_at.ensures numbers in
+    wrote_then (omega arith) slot.put-arity_at.ensures (wrote_then (omega arith) fields end.put.ensures)
 
 pub held_spec : {M : Type 1} → statement M
 held_spec =
     tie.close
     (tie.spec
     (λ c κs. search rules)
-    arity-requires
-    roots-requires
-    cast-pairs
-    pairs-requires
-    end-requires
+    put_decimal-roots_at-requires
+    put_decimal-pairs_at-requires
+    overflow_cast-pairs
+    put_decimal-end_at-requires
+    put-requires
     (λ c. search rules)
     returns)

@@ -11,22 +11,29 @@ use Rattle.replies.proofs.no.Statement.{statement}
 use Rattle.replies.proofs.no.Tie as tie
 
 -- the number that is written, from the record behind `no` on
-three-digits : (c : tie.After-put-two) → length (decimal c.before.before.before.args.number) ≤ 3
-three-digits c = decimal_size 2 c.before.before.before.args.number (omega arith)
+three_digits : (c : tie.After-put_two-number_at) → length (decimal c.before.before.before.args.number) ≤ 3
+three_digits c = decimal_size 2 c.before.before.before.args.number (omega arith)
 
-put-decimal-requires : tie.Need-put-decimal-requires
-put-decimal-requires c κs = omega (arith, three-digits c.before.before.before)
+put_decimal-end_at-requires : tie.Need-put_decimal-end_at-requires
+put_decimal-end_at-requires c κs = omega (arith, three_digits c.before.before.before)
 
 put-requires : tie.Need-put-requires
-put-requires c κs = omega (arith, three-digits c.before.before.before.before.before.before.before)
+put-requires c κs = omega (arith, three_digits c.before.before.before.before.before.before.before)
 
 returns : tie.Need-returns
 returns c =
     let end = c.before.before in
     let number = end.before.before.before.before in
     let no = number.before.before.before.before in
-    let digits = three-digits no in
-    wrote_then (omega arith) no.put_two.ensures (wrote_then (omega arith) number.put-decimal.ensures end.put.ensures)
+    let digits = three_digits no in
+    wrote_then (omega arith) no.put_two-number_at.ensures (wrote_then (omega arith) number.put_decimal-end_at.ensures end.put.ensures)
 
-pub no-spec : {M : Type 1} → statement M
-no-spec = tie.close (tie.spec (λ c κs. search rules) put-decimal-requires put-requires (λ c. search rules) returns)
+pub no_spec : {M : Type 1} → statement M
+no_spec =
+    tie.close
+    (tie.spec
+    (λ c κs. search rules)
+    put_decimal-end_at-requires
+    put-requires
+    (λ c. search rules)
+    returns)

@@ -11,19 +11,19 @@ use Rattle.replies.proofs.no_column.Statement.{statement}
 use Rattle.replies.proofs.no_column.Tie as tie
 
 -- the number that is written, from the record behind `no` on
-three-digits : (c : tie.After-put-two) → length (decimal c.before.before.before.args.number) ≤ 3
-three-digits c = decimal_size 2 c.before.before.before.args.number (omega arith)
+three_digits : (c : tie.After-put_two-number_at) → length (decimal c.before.before.before.args.number) ≤ 3
+three_digits c = decimal_size 2 c.before.before.before.args.number (omega arith)
 
-put-decimal-requires : tie.Need-put-decimal-requires
-put-decimal-requires c κs = omega (arith, three-digits c.before.before.before)
+put_decimal-letter_at-requires : tie.Need-put_decimal-letter_at-requires
+put_decimal-letter_at-requires c κs = omega (arith, three_digits c.before.before.before)
 
-put-field-requires : tie.Need-put-field-requires
-put-field-requires c κs = omega (arith, three-digits c.before.before.before.before.before.before.before)
+put_field-end_at-requires : tie.Need-put_field-end_at-requires
+put_field-end_at-requires c κs = omega (arith, three_digits c.before.before.before.before.before.before.before)
 
 put-requires : tie.Need-put-requires
 put-requires c κs =
     let number = c.before.before.before.before.before.before.before in
-    omega (arith, three-digits number.before.before.before.before)
+    omega (arith, three_digits number.before.before.before.before)
 
 returns : tie.Need-returns
 returns c =
@@ -31,17 +31,17 @@ returns c =
     let letter = end.before.before.before.before in
     let number = letter.before.before.before.before in
     let no = number.before.before.before.before in
-    let digits = three-digits no in
-    let fields = wrote_then (omega arith) number.put-decimal.ensures letter.put-field.ensures in
-    wrote_then (omega arith) no.put_two.ensures (wrote_then (omega arith) fields end.put.ensures)
+    let digits = three_digits no in
+    let fields = wrote_then (omega arith) number.put_decimal-letter_at.ensures letter.put_field-end_at.ensures in
+    wrote_then (omega arith) no.put_two-number_at.ensures (wrote_then (omega arith) fields end.put.ensures)
 
-pub no-column-spec : {M : Type 1} → statement M
-no-column-spec =
+pub no_column_spec : {M : Type 1} → statement M
+no_column_spec =
     tie.close
     (tie.spec
     (λ c κs. search rules)
-    put-decimal-requires
-    put-field-requires
+    put_decimal-letter_at-requires
+    put_field-end_at-requires
     put-requires
     (λ c. search rules)
     returns)

@@ -16,19 +16,19 @@ use Rattle.replies.proofs.Standing.{wrote_around}
 use Rattle.replies.proofs.ok_image.Statement.{statement}
 use Rattle.replies.proofs.ok_image.Tie as tie
 
-digits : (c : tie.After-put-two) → length (decimal c.before.before.before.args.place) ≤ 3
+digits : (c : tie.After-put_two-tab_at) → length (decimal c.before.before.before.args.place) ≤ 3
 unfolding max_pairs
 digits c = decimal_size 2 c.before.before.before.args.place (omega arith)
 
-cast-put-decimal : tie.Need-overflow-cast-put-decimal
+overflow_cast-place : tie.Need-overflow_cast-place
 unfolding max_pairs
-cast-put-decimal c = omega arith
+overflow_cast-place c = omega arith
 
-put-decimal-requires : tie.Need-put-decimal-requires
-put-decimal-requires c κs = omega (arith, digits c.before.before.before.before.before.before.before)
+put_decimal-end_at-requires : tie.Need-put_decimal-end_at-requires
+put_decimal-end_at-requires c κs = omega (arith, digits c.before.before.before.before.before.before.before)
 
-put-requires-2 : tie.Need-put-requires-2
-put-requires-2 c κs =
+put-requires : tie.Need-put-requires
+put-requires c κs =
     let number = c.before.before.before in
     omega (arith, digits number.before.before.before.before.before.before.before.before)
 
@@ -40,29 +40,29 @@ returns c =
     let ok = mark.before.before.before.before in
     let a = ok.before.before.before.args in
     let size = digits ok in
-    let front = wrote_then (omega arith) ok.put_two.ensures mark.put.ensures in
-    let behind = wrote_then (omega arith) number.put-decimal.ensures end.put2.ensures in
-    let start : mark.put.result ≡ image_at = omega arith in
+    let front = wrote_then (omega arith) ok.put_two-tab_at.ensures mark.put-image_at.ensures in
+    let behind = wrote_then (omega arith) number.put_decimal-end_at.ensures end.put.ensures in
+    let start : mark.put-image_at.result ≡ image_at = omega arith in
     let out = a.out.now in
     let image = take a.n (drop image_at out) in
     let run =
     subst
-    (λ m. Wrote (bytes "ok\t" ++ (take a.n (drop m out) ++ tab ∷ (decimal a.place ++ line_end ∷ []))) out 0 end.put2.new.1.0
-    end.put2.result)
+    (λ m. Wrote (bytes "ok\t" ++ (take a.n (drop m out) ++ tab ∷ (decimal a.place ++ line_end ∷ []))) out 0 end.put.new.out
+    end.put.result)
     start
     (wrote_around a.n (omega arith) (omega arith) front behind) in
-    subst (λ x. Wrote (bytes "ok\t" ++ x) out 0 end.put2.new.1.0 end.put2.result)
+    subst (λ x. Wrote (bytes "ok\t" ++ x) out 0 end.put.new.out end.put.result)
     (sym (append_assoc image (tab ∷ decimal a.place) (line_end ∷ []))) run
 
-pub ok-image-spec : {M : Type 1} → statement M
-ok-image-spec =
+pub ok_image_spec : {M : Type 1} → statement M
+ok_image_spec =
     tie.close
     (tie.spec
     (λ c κs. search rules)
     (λ c κs. search rules)
-    cast-put-decimal
+    overflow_cast-place
     (λ c. search rules)
-    put-decimal-requires
-    put-requires-2
+    put_decimal-end_at-requires
+    put-requires
     (λ c. search rules)
     returns)

@@ -13,11 +13,11 @@ use Rattle.replies.proofs.ok_number.Statement.{statement}
 use Rattle.replies.proofs.ok_number.Tie as tie
 
 -- the line of the number that is written, from the record behind `ok` on
-sized : (c : tie.After-put-two) → let k = c.before.before.before.args.k in length (ok_line (decimal k ∷ [])) ≡ 4 + length (decimal k)
+sized : (c : tie.After-put_two-number_at) → let k = c.before.before.before.args.k in length (ok_line (decimal k ∷ [])) ≡ 4 + length (decimal k)
 sized c = omega (arith, length-append (decimal c.before.before.before.args.k) (line_end ∷ []))
 
-put-decimal-requires : tie.Need-put-decimal-requires
-put-decimal-requires c κs = omega (arith, sized c.before.before.before)
+put_decimal-end_at-requires : tie.Need-put_decimal-end_at-requires
+put_decimal-end_at-requires c κs = omega (arith, sized c.before.before.before)
 
 put-requires : tie.Need-put-requires
 put-requires c κs = omega (arith, sized c.before.before.before.before.before.before.before)
@@ -28,7 +28,14 @@ returns c =
     let number = end.before.before.before.before in
     let ok = number.before.before.before.before in
     let size = sized ok in
-    wrote_then (omega arith) ok.put_two.ensures (wrote_then (omega arith) number.put-decimal.ensures end.put.ensures)
+    wrote_then (omega arith) ok.put_two-number_at.ensures (wrote_then (omega arith) number.put_decimal-end_at.ensures end.put.ensures)
 
-pub ok-number-spec : {M : Type 1} → statement M
-ok-number-spec = tie.close (tie.spec (λ c κs. search rules) put-decimal-requires put-requires (λ c. search rules) returns)
+pub ok_number_spec : {M : Type 1} → statement M
+ok_number_spec =
+    tie.close
+    (tie.spec
+    (λ c κs. search rules)
+    put_decimal-end_at-requires
+    put-requires
+    (λ c. search rules)
+    returns)

@@ -17,108 +17,97 @@ use Rattle.records.proofs.fields.Numbers.{spelling_numerals, spelling_value}
 use Rattle.records.proofs.fields.number.Statement.{statement}
 use Rattle.records.proofs.fields.number.Tie as tie
 
-abbrev invariant-loop : tie.invariant-loop
-invariant-loop field most n₀ i₀ n i = Spelling field n i
+abbrev invariant-loop-i : tie.invariant-loop-i
+invariant-loop-i field most n₀ i₀ n i = Spelling field n i
 
-abbrev decreases-loop : tie.decreases-loop
-decreases-loop field most n₀ i₀ n i = length field - i
+abbrev decreases-loop-i : tie.decreases-loop-i
+decreases-loop-i field most n₀ i₀ n i = length field - i
 
 -- where the byte is a digit
-byte-is-numeral : (c : tie.Else3 invariant-loop decreases-loop) →
-    let l = c.before.before.before.before in
-    is_numeral (get_or l.before.before.before.before.before.args.field.now l.loop.i 0) ≡ true
-byte-is-numeral c = sym c.before.is-numeral.ensures ∙ not-false c.before.is-numeral.result c.if3.false
+byte_is_numeral : (c : tie.Else-not-is_numeral invariant-loop-i decreases-loop-i) →
+    is_numeral (get_or c.args.field.now c.loop-i.i 0) ≡ true
+byte_is_numeral c = sym c.is_numeral.ensures ∙ c.if-not-is_numeral.false
 
-n-small : (c : tie.Else3 invariant-loop decreases-loop) → c.before.before.before.before.loop.n < 1_000_000_000
-n-small c =
-    let l = c.before.before.before.before in
-    let field = l.before.before.before.before.before.args.field.now in
-    spelling_fits field l.loop.invariant (omega (arith, l.before.before.before.if1.false, l.before.before.before.before.before.requires))
+n_small : (c : tie.Else-not-is_numeral invariant-loop-i decreases-loop-i) → c.loop-i.n < 1_000_000_000
+n_small c =
+    let field = c.args.field.now in
+    spelling_fits field c.loop-i.invariant (omega (arith, c.if-most-field.false, c.requires))
 
-returns : tie.Need-returns invariant-loop decreases-loop
-returns c =
-    let a = c.before.before.args in
-    sym (ap natural_of (number_too_long a.most a.field.now c.if1.true))
+returns-then-most-field : tie.Need-returns-then-most-field invariant-loop-i decreases-loop-i
+returns-then-most-field c =
+    let a = c.args in
+    sym (ap natural_of (number_too_long a.most a.field.now c.if-most-field.true))
 
-returns-2 : tie.Need-returns-2 invariant-loop decreases-loop
-returns-2 c =
-    let z = c.before in
-    let a = z.before.before.before.args in
-    let zero = sym z.no_leading_zero_fact.ensures ∙ not-true z.no_leading_zero_fact.result c.if2.true in
+returns-then-not-no_leading_zero : tie.Need-returns-then-not-no_leading_zero invariant-loop-i decreases-loop-i
+returns-then-not-no_leading_zero c =
+    let a = c.args in
+    let zero = sym c.no_leading_zero.ensures ∙ c.if-not-no_leading_zero.true in
     sym (ap natural_of (number_leading_zero a.most a.field.now zero))
 
-loop-holds : tie.Need-loop-init invariant-loop decreases-loop
-loop-holds c = spelling_begins c.before.before.before.before.args.field.now
+loop-i-init : tie.Need-loop-i-init invariant-loop-i decreases-loop-i
+loop-i-init c = spelling_begins c.args.field.now
 
-returns-3 : tie.Need-returns-3 invariant-loop decreases-loop
-returns-3 c =
-    let d = c.before in
-    let l = d.before.before.before in
-    let a = l.before.before.before.before.before.args in
-    let other = sym d.is-numeral.ensures ∙ not-true d.is-numeral.result c.if3.true in
-    sym (ap natural_of (number_other_byte a.most a.field.now (spelling_breaks a.field.now l.loop.invariant (omega arith) other)))
+returns-then-not-is_numeral : tie.Need-returns-then-not-is_numeral invariant-loop-i decreases-loop-i
+returns-then-not-is_numeral c =
+    let a = c.args in
+    let other = sym c.is_numeral.ensures ∙ c.if-not-is_numeral.true in
+    sym (ap natural_of (number_other_byte a.most a.field.now (spelling_breaks a.field.now c.loop-i.invariant (omega arith) other)))
 
-mul-n : tie.Need-overflow-mul-n invariant-loop decreases-loop
-mul-n c = omega (arith, n-small c)
+overflow_mul-n : tie.Need-overflow_mul-n invariant-loop-i decreases-loop-i
+overflow_mul-n c = omega (arith, n_small c)
 
-sub-n : tie.Need-overflow-sub-n invariant-loop decreases-loop
-sub-n c =
+overflow_sub-n : tie.Need-overflow_sub-n invariant-loop-i decreases-loop-i
+overflow_sub-n c =
     let e = c.before in
-    let l = e.before.before.before.before in
-    let field = l.before.before.before.before.before.args.field.now in
-    numeral_from (get_or field l.loop.i 0) (byte-is-numeral e)
+    let field = c.args.field.now in
+    numeral_from (get_or field c.loop-i.i 0) (byte_is_numeral e)
 
-cast-n : tie.Need-overflow-cast-n invariant-loop decreases-loop
-cast-n c =
+overflow_cast-n : tie.Need-overflow_cast-n invariant-loop-i decreases-loop-i
+overflow_cast-n c =
     let e = c.before in
-    let l = e.before.before.before.before in
-    let field = l.before.before.before.before.before.args.field.now in
-    omega (arith, value_below (get_or field l.loop.i 0) (byte-is-numeral e))
+    let field = c.args.field.now in
+    omega (arith, value_below (get_or field c.loop-i.i 0) (byte_is_numeral e))
 
-add-n : tie.Need-overflow-add-n invariant-loop decreases-loop
-add-n c =
+overflow_add-n : tie.Need-overflow_add-n invariant-loop-i decreases-loop-i
+overflow_add-n c =
     let e = c.before in
-    let l = e.before.before.before.before in
-    let field = l.before.before.before.before.before.args.field.now in
-    omega (arith, n-small e, value_below (get_or field l.loop.i 0) (byte-is-numeral e))
+    let field = c.args.field.now in
+    omega (arith, n_small e, value_below (get_or field c.loop-i.i 0) (byte_is_numeral e))
 
-loop-again : tie.Need-loop-preserved invariant-loop decreases-loop
-loop-again c =
+loop-i-preserved : tie.Need-loop-i-preserved invariant-loop-i decreases-loop-i
+loop-i-preserved c =
     let e = c.before in
-    let l = e.before.before.before.before in
-    let field = l.before.before.before.before.before.args.field.now in
-    spelling_goes_on field l.loop.invariant (omega arith) (byte-is-numeral e)
+    let field = c.args.field.now in
+    spelling_goes_on field c.loop-i.invariant (omega arith) (byte_is_numeral e)
 
-returns-4 : tie.Need-returns-4 invariant-loop decreases-loop
-returns-4 c =
-    let l = c.before in
-    let z = l.before.before in
-    let a = z.before.before.before.args in
+returns : tie.Need-returns invariant-loop-i decreases-loop-i
+returns c =
+    let a = c.args in
     let field = a.field.now in
-    let plain = sym z.no_leading_zero_fact.ensures ∙ not-false z.no_leading_zero_fact.result l.before.if2.false in
-    let numerals = spelling_numerals field l.loop.invariant c.loop-test.false in
-    let value = spelling_value field l.loop.invariant c.loop-test.false in
-    sym (ap natural_of (number_spelled a.most field z.before.if1.false plain numerals ∙ ap some value))
+    let plain = sym c.no_leading_zero.ensures ∙ c.if-not-no_leading_zero.false in
+    let numerals = spelling_numerals field c.loop-i.invariant c.loop-i-test.false in
+    let value = spelling_value field c.loop-i.invariant c.loop-i-test.false in
+    sym (ap natural_of (number_spelled a.most field c.if-most-field.false plain numerals ∙ ap some value))
 
-pub number-spec : {M : Type 1} → statement M
-number-spec =
+pub number_spec : {M : Type 1} → statement M
+number_spec =
     tie.close
     (tie.spec
-    invariant-loop
-    decreases-loop
-    returns
+    invariant-loop-i
+    decreases-loop-i
+    returns-then-most-field
     (λ c κs. search rules)
-    returns-2
-    loop-holds
-    (λ c. omega arith)
+    returns-then-not-no_leading_zero
+    loop-i-init
+    (λ c. search rules)
     (λ c κs. search rules)
-    returns-3
-    mul-n
-    (λ c. omega arith)
-    sub-n
-    cast-n
-    add-n
-    (λ c. omega arith)
-    (λ c. omega arith)
-    loop-again
-    returns-4)
+    returns-then-not-is_numeral
+    overflow_mul-n
+    (λ c. search rules)
+    overflow_sub-n
+    overflow_cast-n
+    overflow_add-n
+    (λ c. search rules)
+    (λ c. search rules)
+    loop-i-preserved
+    returns)

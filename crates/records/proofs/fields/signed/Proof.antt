@@ -19,124 +19,121 @@ use Rattle.records.proofs.fields.signed.Statement.{statement}
 use Rattle.records.proofs.fields.signed.Tie as tie
 
 -- behind a minus: the rest of the field is what was read
-behind-minus : (c : tie.After-number) →
-    let field = c.before.before.before.before.before.before.args.field.now in
+behind_minus : (c : tie.After-number) →
+    let field = c.args.field.now in
     (signed_field max_numeral field ≡ negative (number_field max_numeral (drop 1 field)))
     × (c.number.result ≡ natural_of (number_field max_numeral (drop 1 field)))
 unfolding max_numeral
-behind-minus c =
-    let t = c.before.before in
-    let field = t.before.before.before.before.args.field.now in
+behind_minus c =
+    let field = c.args.field.now in
     let rest = take_all (length field - 1) (drop 1 field) (omega (arith, length-drop 1 field)) in (
-      signed_minus max_numeral field (omega (arith, t.before.before.if1.false)) t.if2.true,
+      signed_minus max_numeral field (omega (arith, c.if-field-eq0.false)) c.if-field-eq45.true,
       c.number.ensures ∙ ap (λ l. natural_of (number_field max_numeral l)) rest,
     )
 
 -- and where that is a number
-number-behind-minus : (c : tie.After-n) →
-    let field = c.before.before.before.before.before.before.before.before.args.field.now in
-    number_field max_numeral (drop 1 field) ≡ some c.n.given.0.0
-number-behind-minus c =
-    let m = c.before.before in
-    let field = m.before.before.before.before.before.before.args.field.now in
-    natural_some (number_field max_numeral (drop 1 field)) c.n.given.0.0 (sym (behind-minus m).1 ∙ c.n.given.1)
+number_behind_minus : (c : tie.In-Number) →
+    let field = c.args.field.now in
+    number_field max_numeral (drop 1 field) ≡ some c.in-Number.n
+number_behind_minus c =
+    let m = c.before in
+    let field = c.args.field.now in
+    natural_some (number_field max_numeral (drop 1 field)) c.in-Number.n (sym (behind_minus m).1 ∙ c.in-Number.is)
 
-size-behind-minus : (c : tie.After-n) → c.n.given.0.0 < 10_000
-size-behind-minus c =
-    let field = c.before.before.before.before.before.before.before.before.args.field.now in
-    numeral_below (drop 1 field) c.n.given.0.0 (number-behind-minus c)
+size_behind_minus : (c : tie.In-Number) → c.in-Number.n < 10_000
+size_behind_minus c =
+    let field = c.args.field.now in
+    numeral_below (drop 1 field) c.in-Number.n (number_behind_minus c)
 
 -- no minus in front
-no_minus : (c : tie.After-number2) →
-    let field = c.before.before.before.before.before.args.field.now in
+no_minus : (c : tie.After-number-2) →
+    let field = c.args.field.now in
     signed_field max_numeral field ≡ positive (number_field max_numeral field)
 no_minus c =
-    let e = c.before in
-    let field = e.before.before.before.before.args.field.now in
-    signed_plain max_numeral field (omega (arith, e.before.before.if1.false)) e.if2.false
+    let field = c.args.field.now in
+    signed_plain max_numeral field (omega (arith, c.if-field-eq0.false)) c.if-field-eq45.false
 
-number-plain : (c : tie.After-n2) →
-    let field = c.before.before.before.before.before.before.before.args.field.now in
-    number_field max_numeral field ≡ some c.n2.given.0.0
+number_plain : (c : tie.In-Number-number) →
+    let field = c.args.field.now in
+    number_field max_numeral field ≡ some c.in-Number-number.n
 unfolding max_numeral
-number-plain c =
-    let m = c.before.before in
-    let field = m.before.before.before.before.before.args.field.now in
-    natural_some (number_field max_numeral field) c.n2.given.0.0 (sym m.number2.ensures ∙ c.n2.given.1)
+number_plain c =
+    let field = c.args.field.now in
+    natural_some (number_field max_numeral field) c.in-Number-number.n (sym c.number-2.ensures ∙ c.in-Number-number.is)
 
-size-plain : (c : tie.After-n2) → c.n2.given.0.0 < 10_000
-size-plain c =
-    let field = c.before.before.before.before.before.before.before.args.field.now in
-    numeral_below field c.n2.given.0.0 (number-plain c)
+size_plain : (c : tie.In-Number-number) → c.in-Number-number.n < 10_000
+size_plain c =
+    let field = c.args.field.now in
+    numeral_below field c.in-Number-number.n (number_plain c)
 
-returns : tie.Need-returns
-returns c = sym (ap whole_of (signed_empty max_numeral c.before.before.args.field.now c.if1.true))
+returns-then-field-eq0 : tie.Need-returns-then-field-eq0
+returns-then-field-eq0 c = sym (ap whole_of (signed_empty max_numeral c.args.field.now c.if-field-eq0.true))
 
-enum_told : tie.Need-enum-told
-enum_told c = search rules
+enum_told-1 : tie.Need-enum_told-1
+enum_told-1 c = search rules
 
-returns-2 : tie.Need-returns-2
-returns-2 c =
-    let m = c.before.before in
-    let field = m.before.before.before.before.before.before.args.field.now in
-    let missing = natural_none (number_field max_numeral (drop 1 field)) (sym (behind-minus m).1 ∙ c.enum_told.given.1) in
-    sym (ap whole_of ((behind-minus m).0 ∙ ap negative missing))
+returns-in_default : tie.Need-returns-in_default
+returns-in_default c =
+    let m = c.before in
+    let field = c.args.field.now in
+    let missing = natural_none (number_field max_numeral (drop 1 field)) (sym (behind_minus m).1 ∙ c.in_default.is) in
+    sym (ap whole_of ((behind_minus m).0 ∙ ap negative missing))
 
-returns-3 : tie.Need-returns-3
-returns-3 c =
-    let n = c.before.before in
-    let zero = number-behind-minus n ∙ ap some c.if3.true in
-    sym (ap whole_of ((behind-minus n.before.before).0 ∙ ap negative zero))
+returns-then-n-eq0 : tie.Need-returns-then-n-eq0
+returns-then-n-eq0 c =
+    let n = c.before in
+    let zero = number_behind_minus n ∙ ap some c.if-n-eq0.true in
+    sym (ap whole_of ((behind_minus n.before).0 ∙ ap negative zero))
 
-cast-t14 : tie.Need-overflow-cast-t14
-cast-t14 c = record { sfits = omega (arith, size-behind-minus c.before.before) }
+overflow_cast-result : tie.Need-overflow_cast-result
+overflow_cast-result c = record { sfits = omega (arith, size_behind_minus c.before) }
 
-sub-t15 : tie.Need-overflow-sub-t15
-sub-t15 c = let n = c.before.before in opposite_fits w32 n.n.given.0.0 c.if3.false (omega (arith, size-behind-minus n))
+overflow_sub-result : tie.Need-overflow_sub-result
+overflow_sub-result c = let n = c.before in opposite_fits w32 c.in-Number.n c.if-n-eq0.false (omega (arith, size_behind_minus n))
 
-returns-4 : tie.Need-returns-4
-returns-4 c =
-    let n = c.before.before in
-    opposite_read w32 n.n.given.0.0 c.if3.false (omega (arith, size-behind-minus n))
-    ∙ sym (ap whole_of ((behind-minus n.before.before).0 ∙ ap negative (number-behind-minus n)))
+returns-then-field-eq45 : tie.Need-returns-then-field-eq45
+returns-then-field-eq45 c =
+    let n = c.before in
+    opposite_read w32 c.in-Number.n c.if-n-eq0.false (omega (arith, size_behind_minus n))
+    ∙ sym (ap whole_of ((behind_minus n.before).0 ∙ ap negative (number_behind_minus n)))
 
-returns-5 : tie.Need-returns-5
+returns-in_default-number : tie.Need-returns-in_default-number
 unfolding max_numeral
-returns-5 c =
-    let m = c.before.before in
-    let field = m.before.before.before.before.before.args.field.now in
-    let missing = natural_none (number_field max_numeral field) (sym m.number2.ensures ∙ c.enum-told2.given.1) in
+returns-in_default-number c =
+    let m = c.before in
+    let field = c.args.field.now in
+    let missing = natural_none (number_field max_numeral field) (sym c.number-2.ensures ∙ c.in_default-number.is) in
     sym (ap whole_of (no_minus m ∙ ap positive missing))
 
-cast-t17 : tie.Need-overflow-cast-t17
-cast-t17 c = record { sfits = omega (arith, size-plain c.before) }
+overflow_cast-result-2 : tie.Need-overflow_cast-result-2
+overflow_cast-result-2 c = record { sfits = omega (arith, size_plain c) }
 
-returns-6 : tie.Need-returns-6
-returns-6 c =
-    let n = c.before in
-    ap Whole.Number (to_z_pos w32 n.n2.given.0.0 (omega (arith, size-plain n)))
-    ∙ sym (ap whole_of (no_minus n.before.before ∙ ap positive (number-plain n)))
+returns : tie.Need-returns
+returns c =
+    let n = c in
+    ap Whole.Number (to_z_pos w32 c.in-Number-number.n (omega (arith, size_plain n)))
+    ∙ sym (ap whole_of (no_minus n.before ∙ ap positive (number_plain n)))
 
-pub signed-spec : {M : Type 1} → statement M
-signed-spec =
+pub signed_spec : {M : Type 1} → statement M
+signed_spec =
     tie.close
     (tie.spec
-    returns
+    returns-then-field-eq0
     (λ c. search rules)
     (λ c. search rules)
     (λ c. search rules)
     (λ c. search rules)
     (λ c κs. search rules)
     (λ c. search rules)
-    enum_told
-    returns-2
-    returns-3
-    cast-t14
-    sub-t15
-    returns-4
+    enum_told-1
+    returns-in_default
+    returns-then-n-eq0
+    overflow_cast-result
+    overflow_sub-result
+    returns-then-field-eq45
     (λ c κs. search rules)
     (λ c. search rules)
     (λ c. search rules)
-    returns-5
-    cast-t17
-    returns-6)
+    returns-in_default-number
+    overflow_cast-result-2
+    returns)

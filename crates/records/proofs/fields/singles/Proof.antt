@@ -12,59 +12,53 @@ use Rattle.records.proofs.fields.OneByte.{then_within_lem, singles_stop, singles
 use Rattle.records.proofs.fields.singles.Statement.{statement}
 use Rattle.records.proofs.fields.singles.Tie as tie
 
-abbrev invariant-loop : tie.invariant-loop
-invariant-loop line at count i₀ left₀ i left = (1 ≤ left) × (singles count (drop at line) ≡ singles left (drop i line))
+abbrev invariant-loop-left : tie.invariant-loop-left
+invariant-loop-left line at count i₀ left₀ i left = (1 ≤ left) × (singles count (drop at line) ≡ singles left (drop i line))
 
-abbrev decreases-loop : tie.decreases-loop
-decreases-loop line at count i₀ left₀ i left = left
+abbrev decreases-loop-left : tie.decreases-loop-left
+decreases-loop-left line at count i₀ left₀ i left = left
 
 -- where the next field has been field_found
-field_found : (c : tie.Else1 invariant-loop decreases-loop) →
-    let l = c.before.before.before in
-    single_then (drop l.loop.i l.before.before.args.line.now) ≡ true
-field_found c = sym c.before.single-then.ensures ∙ not-false c.before.single-then.result c.if1.false
+field_found : (c : tie.Else-not-single_then invariant-loop-left decreases-loop-left) →
+    single_then (drop c.loop-left.i c.args.line.now) ≡ true
+field_found c = sym c.single_then.ensures ∙ c.if-not-single_then.false
 
-loop-holds : tie.Need-loop-init invariant-loop decreases-loop
-loop-holds c = (c.before.requires, refl)
+loop-left-init : tie.Need-loop-left-init invariant-loop-left decreases-loop-left
+loop-left-init c = (c.requires, refl)
 
-returns : tie.Need-returns invariant-loop decreases-loop
+returns-then-not-single_then : tie.Need-returns-then-not-single_then invariant-loop-left decreases-loop-left
+returns-then-not-single_then c =
+    let line = c.args.line.now in
+    let missing = sym c.single_then.ensures ∙ c.if-not-single_then.true in
+    sym (c.loop-left.invariant.1 ∙ singles_stop line c.loop-left.i c.loop-left.left (omega arith) missing)
+
+overflow_add-i : tie.Need-overflow_add-i invariant-loop-left decreases-loop-left
+overflow_add-i c =
+    omega (arith, then_within_lem c.args.line.now c.loop-left.i (field_found c))
+
+loop-left-preserved : tie.Need-loop-left-preserved invariant-loop-left decreases-loop-left
+loop-left-preserved c =
+    let line = c.args.line.now in
+    (omega arith, c.loop-left.invariant.1 ∙ singles_go_on line c.loop-left.i c.loop-left.left (omega arith) (field_found c))
+
+returns : tie.Need-returns invariant-loop-left decreases-loop-left
 returns c =
-    let s = c.before in
-    let l = s.before.before in
-    let line = l.before.before.args.line.now in
-    let missing = sym s.single-then.ensures ∙ not-true s.single-then.result c.if1.true in
-    sym (l.loop.invariant.1 ∙ singles_stop line l.loop.i l.loop.left (omega arith) missing)
+    let line = c.args.line.now in
+    let one : c.loop-left.left ≡ 1 = omega arith in
+    c.single_last.ensures ∙ sym (c.loop-left.invariant.1 ∙ ap (λ k. singles k (drop c.loop-left.i line)) one)
 
-add-i : tie.Need-overflow-add-i invariant-loop decreases-loop
-add-i c =
-    let l = c.before.before.before in
-    omega (arith, then_within_lem l.before.before.args.line.now l.loop.i (field_found c))
-
-loop-again : tie.Need-loop-preserved invariant-loop decreases-loop
-loop-again c =
-    let l = c.before.before.before in
-    let line = l.before.before.args.line.now in
-    (omega arith, l.loop.invariant.1 ∙ singles_go_on line l.loop.i l.loop.left (omega arith) (field_found c))
-
-returns-2 : tie.Need-returns-2 invariant-loop decreases-loop
-returns-2 c =
-    let l = c.before.before in
-    let line = l.before.before.args.line.now in
-    let one : l.loop.left ≡ 1 = omega arith in
-    c.single-last.ensures ∙ sym (l.loop.invariant.1 ∙ ap (λ k. singles k (drop l.loop.i line)) one)
-
-pub singles-spec : {M : Type 1} → statement M
-singles-spec =
+pub singles_spec : {M : Type 1} → statement M
+singles_spec =
     tie.close
     (tie.spec
-    invariant-loop
-    decreases-loop
-    loop-holds
+    invariant-loop-left
+    decreases-loop-left
+    loop-left-init
     (λ c κs. search rules)
-    returns
-    add-i
-    (λ c. omega arith)
-    (λ c. omega arith)
-    loop-again
+    returns-then-not-single_then
+    overflow_add-i
+    (λ c. search rules)
+    (λ c. search rules)
+    loop-left-preserved
     (λ c κs. search rules)
-    returns-2)
+    returns)
