@@ -39,7 +39,7 @@ pub fn unmatched<'a>(
     requires { (to : List ℕ) × LentPlan arity roots from.now to }
     ensures result_value { result.now ≡ drop (matched_in (shape arity roots) (words_of from.now) code.now) code.now }
     ensures ref_ptr_value { result.ref_ptr ≡ further (matched_in (shape arity roots) (words_of from.now) code.now)
-        code.entry.ptr }
+        code.entry.ref_ptr }
     ensures place_after { place.new ≡ matched_place_in (shape arity roots) (words_of from.now) code.now }
 {
     if !is_code(code, arity, roots) {

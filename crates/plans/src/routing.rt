@@ -11,7 +11,7 @@ use operations::{Plan, Route, numbers, routing};
 // place, counted from 1, is written to `place`, and 0 where the tail is the whole code.
 pub fn unmatched<'a>(p: Plan, code: &'a [u8], place: &mut usize) -> &'a [u8]
     ensures result_value { result.now ≡ matching p code.now }
-    ensures ref_ptr_value { result.ref_ptr ≡ further (matched p code.now) code.entry.ptr }
+    ensures ref_ptr_value { result.ref_ptr ≡ further (matched p code.now) code.entry.ref_ptr }
     ensures place_after { place.new ≡ matched_place p code.now }
 {
     if !kept::is_plan(p) {

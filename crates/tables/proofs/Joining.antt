@@ -284,7 +284,7 @@ module _ (w v : Word) where
       later k i l (inr x) = x
 
       go : (part 1 ≡ p) ⊎ Memᴰ (part 1) t → (Joinable (suc m) t w v → has_join (suc m) t ≡ true) → has_join (suc m) (p ∷ t) ≡ true
-      go (inl e) rest = or_true_left (joins_first (suc m) (p ∷ t)) (has_join (suc m) t) (test_of_found (suc m) p t (here e))
+      go (inl e) _ = or_true_left (joins_first (suc m) (p ∷ t)) (has_join (suc m) t) (test_of_found (suc m) p t (here e))
       go (inr k) rest =
           or_true_right (joins_first (suc m) (p ∷ t)) (has_join (suc m) t) (rest (λ i l. later k i l (Memᴰ.cases_cons (j i l))))
 

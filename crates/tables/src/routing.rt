@@ -48,7 +48,7 @@ pub fn place_of(from: &[u64], code: &[u8]) -> usize
 fn behind(w: u64, code: &[u8]) -> &[u8]
     requires { length (unpack w) ≤ length code.now }
     ensures result_value { result.now ≡ drop (length (unpack w)) code.now }
-    ensures ref_ptr_value { result.ref_ptr ≡ further (length (unpack w)) code.entry.ptr }
+    ensures ref_ptr_value { result.ref_ptr ≡ further (length (unpack w)) code.entry.ref_ptr }
 {
     let start = words::length(w) as usize;
     &code[start..]
@@ -60,7 +60,7 @@ pub fn unmatched<'a>(from: &[u64], code: &'a [u8], place: &mut usize) -> &'a [u8
     requires searchable { Searchable from.now }
     requires code { IsCode code.now }
     ensures result_value { result.now ≡ unmatched (words_of from.now) code.now }
-    ensures ref_ptr_value { result.ref_ptr ≡ further (matched_digits (words_of from.now) (word_of code.now)) code.entry.ptr }
+    ensures ref_ptr_value { result.ref_ptr ≡ further (matched_digits (words_of from.now) (word_of code.now)) code.entry.ref_ptr }
     ensures place_after { place.new ≡ place_of (words_of from.now) (word_of code.now) }
 {
     let k = place_of(from, code);

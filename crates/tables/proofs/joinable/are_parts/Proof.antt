@@ -21,27 +21,26 @@ record Comparing (f t : List ℕ) (at w v n k i : ℕ) : Type 0 where
   place : k + 1 ≡ at + i
   same : alike (unpack w) (unpack v) f t at 1 n ≡ alike (unpack w) (unpack v) f t k i (n + 1 - i)
 
-abbrev invariant-loop : tie.invariant-loop
-invariant-loop from to at w v arity k₀ i₀ k i = Comparing from to at w v arity k i
+abbrev invariant-loop-i : tie.invariant-loop-i
+invariant-loop-i from to at w v arity k₀ i₀ k i = Comparing from to at w v arity k i
 
-abbrev decreases-loop : tie.decreases-loop
-decreases-loop from to at w v arity k₀ i₀ k i = arity + 1 - i
+abbrev decreases-loop-i : tie.decreases-loop-i
+decreases-loop-i from to at w v arity k₀ i₀ k i = arity + 1 - i
 
 -- what the turn finds is what all pairs come to
-abbrev Step : tie.In-loop invariant-loop decreases-loop → Type 0
+abbrev Step : tie.In-loop-i invariant-loop-i decreases-loop-i → Type 0
 Step c =
-    let l = c.before in
-    let a = l.before.before.before.args in
-    let k : ℕ = l.loop.k in
-    let i : ℕ = l.loop.i in
+    let a = c.args in
+    let k : ℕ = c.loop-i.k in
+    let i : ℕ = c.loop-i.i in
     alike (unpack a.w) (unpack a.v) a.from.now a.to.now a.at 1 a.arity
     ≡ (same_word (unpack (get_or a.from.now k 0)) (child (unpack a.w) i)
     && same_word (unpack (get_or a.to.now k 0)) (child (unpack a.v) i)
     && alike (unpack a.w) (unpack a.v) a.from.now a.to.now (k + 1) (i + 1) (a.arity + 1 - (i + 1)))
 
-loop-holds : tie.Need-loop-init invariant-loop decreases-loop
-loop-holds c =
-    let a = c.before.before.args in
+loop-i-init : tie.Need-loop-i-init invariant-loop-i decreases-loop-i
+loop-i-init c =
+    let a = c.args in
     let all : a.arity ≡ a.arity + 1 - 1 = omega arith in
     record {
       digit = omega arith;
@@ -51,85 +50,83 @@ loop-holds c =
     }
 
 -- the pair that this turn compares, and those behind it
-step : (c : tie.In-loop invariant-loop decreases-loop) → Step c
+step : (c : tie.In-loop-i invariant-loop-i decreases-loop-i) → Step c
 step c =
-    let l = c.before in
-    let a = l.before.before.before.args in
-    let v = l.loop.invariant in
+    let a = c.args in
+    let v = c.loop-i.invariant in
     v.same
-    ∙ alike_step (unpack a.w) (unpack a.v) a.from.now a.to.now l.loop.k l.loop.i (a.arity + 1 - l.loop.i)
-    (l.loop.k + 1) (l.loop.i + 1) (a.arity + 1 - (l.loop.i + 1)) (omega arith) (omega arith) (omega arith) (omega arith) (omega arith)
+    ∙ alike_step (unpack a.w) (unpack a.v) a.from.now a.to.now c.loop-i.k c.loop-i.i (a.arity + 1 - c.loop-i.i)
+    (c.loop-i.k + 1) (c.loop-i.i + 1) (a.arity + 1 - (c.loop-i.i + 1)) (omega arith) (omega arith) (omega arith) (omega arith) (omega arith)
 
-mul-is-part : tie.Need-overflow-mul-is-part invariant-loop decreases-loop
-mul-is-part c = search rules
+offset_bounds-from-k : tie.Need-offset_bounds-from-k invariant-loop-i decreases-loop-i
+offset_bounds-from-k c = search rules
 
-shared-slice-read-is-part : tie.Need-shared-slice-read-is-part invariant-loop decreases-loop
-shared-slice-read-is-part c = search rules
+bounds-from-k : tie.Need-bounds-from-k invariant-loop-i decreases-loop-i
+bounds-from-k c = search rules
 
-is-part-requires : tie.Need-is-part-requires invariant-loop decreases-loop
-is-part-requires c κs = search rules
+is_part-requires : tie.Need-is_part-requires invariant-loop-i decreases-loop-i
+is_part-requires c κs = search rules
 
-returns : tie.Need-returns invariant-loop decreases-loop
-returns c =
-    let no_part = sym c.before.is-part.ensures ∙ not-true c.before.is-part.result c.if1.true in
+returns-then-not-is_part : tie.Need-returns-then-not-is_part invariant-loop-i decreases-loop-i
+returns-then-not-is_part c =
+    let no_part = sym c.is_part.ensures ∙ c.if-not-is_part.true in
     sym (rw no_part at (step c.before.before.before))
 
-mul-is-part-2 : tie.Need-overflow-mul-is-part-2 invariant-loop decreases-loop
-mul-is-part-2 c = search rules
+offset_bounds-to-k : tie.Need-offset_bounds-to-k invariant-loop-i decreases-loop-i
+offset_bounds-to-k c = search rules
 
-shared-slice-read-is-part-2 : tie.Need-shared-slice-read-is-part-2 invariant-loop decreases-loop
-shared-slice-read-is-part-2 c = search rules
+bounds-to-k : tie.Need-bounds-to-k invariant-loop-i decreases-loop-i
+bounds-to-k c = search rules
 
-is-part-requires-2 : tie.Need-is-part-requires-2 invariant-loop decreases-loop
-is-part-requires-2 c κs = search rules
+is_part-requires-in-loop-i : tie.Need-is_part-requires-in-loop-i invariant-loop-i decreases-loop-i
+is_part-requires-in-loop-i c κs = search rules
 
-returns-2 : tie.Need-returns-2 invariant-loop decreases-loop
-returns-2 c =
+returns-then-not-is_part-2 : tie.Need-returns-then-not-is_part-2 invariant-loop-i decreases-loop-i
+returns-then-not-is_part-2 c =
     let first = c.before.before.before in
-    let part = sym first.before.is-part.ensures ∙ not-false first.before.is-part.result first.if1.false in
-    let no_part = sym c.before.is-part2.ensures ∙ not-true c.before.is-part2.result c.if2.true in
+    let part = sym c.is_part.ensures ∙ c.if-not-is_part.false in
+    let no_part = sym c.is_part-in-loop-i.ensures ∙ c.if-not-is_part-2.true in
     sym (rw (part, no_part) at (step first.before.before.before))
 
-add-k : tie.Need-overflow-add-k invariant-loop decreases-loop
-add-k c = search rules
+overflow_add-k : tie.Need-overflow_add-k invariant-loop-i decreases-loop-i
+overflow_add-k c = search rules
 
-add-i : tie.Need-overflow-add-i invariant-loop decreases-loop
-add-i c = search rules
+overflow_add-i : tie.Need-overflow_add-i invariant-loop-i decreases-loop-i
+overflow_add-i c = search rules
 
-loop-less : tie.Need-loop-smaller invariant-loop decreases-loop
-loop-less c = search rules
+loop-i-smaller : tie.Need-loop-i-smaller invariant-loop-i decreases-loop-i
+loop-i-smaller c = search rules
 
-loop-again : tie.Need-loop-preserved invariant-loop decreases-loop
-loop-again c =
+loop-i-preserved : tie.Need-loop-i-preserved invariant-loop-i decreases-loop-i
+loop-i-preserved c =
     let first = c.before.before.before in
-    let part = sym first.before.is-part.ensures ∙ not-false first.before.is-part.result first.if1.false in
-    let part' = sym c.before.is-part2.ensures ∙ not-false c.before.is-part2.result c.if2.false in
+    let part = sym c.is_part.ensures ∙ c.if-not-is_part.false in
+    let part' = sym c.is_part-in-loop-i.ensures ∙ c.if-not-is_part-2.false in
     record { digit = omega arith; upto = omega arith; place = omega arith; same = rw (part, part') at (step first.before.before.before) }
 
-returns-3 : tie.Need-returns-3 invariant-loop decreases-loop
-returns-3 c =
-    let l = c.before in
-    let a = l.before.before.before.args in
-    sym (l.loop.invariant.same
-    ∙ alike_none (unpack a.w) (unpack a.v) a.from.now a.to.now l.loop.k l.loop.i (a.arity + 1 - l.loop.i) (omega arith))
+returns : tie.Need-returns invariant-loop-i decreases-loop-i
+returns c =
+    let a = c.args in
+    sym (c.loop-i.invariant.same
+    ∙ alike_none (unpack a.w) (unpack a.v) a.from.now a.to.now c.loop-i.k c.loop-i.i (a.arity + 1 - c.loop-i.i) (omega arith))
 
-pub are-parts-spec : {M : Type 1} → statement M
-are-parts-spec =
+pub are_parts_spec : {M : Type 1} → statement M
+are_parts_spec =
     tie.close
     (tie.spec
-    invariant-loop
-    decreases-loop
-    loop-holds
-    mul-is-part
-    shared-slice-read-is-part
-    is-part-requires
-    returns
-    mul-is-part-2
-    shared-slice-read-is-part-2
-    is-part-requires-2
-    returns-2
-    add-k
-    add-i
-    loop-less
-    loop-again
-    returns-3)
+    invariant-loop-i
+    decreases-loop-i
+    loop-i-init
+    offset_bounds-from-k
+    bounds-from-k
+    is_part-requires
+    returns-then-not-is_part
+    offset_bounds-to-k
+    bounds-to-k
+    is_part-requires-in-loop-i
+    returns-then-not-is_part-2
+    overflow_add-k
+    overflow_add-i
+    loop-i-smaller
+    loop-i-preserved
+    returns)

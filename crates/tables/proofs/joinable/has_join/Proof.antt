@@ -12,67 +12,61 @@ use Rattle.tables.proofs.Joining.{joins_from, joins_few}
 use Rattle.tables.proofs.joinable.has_join.Statement.{statement}
 use Rattle.tables.proofs.joinable.has_join.Tie as tie
 
-abbrev invariant-loop : tie.invariant-loop
-invariant-loop from to arity n at₀ at = (at ≤ length from) × (has_join arity (table from to) ≡ has_join arity (table (drop at from) (drop at to)))
+abbrev invariant-loop-at : tie.invariant-loop-at
+invariant-loop-at from to arity n at₀ at = (at ≤ length from) × (has_join arity (table from to) ≡ has_join arity (table (drop at from) (drop at to)))
 
-abbrev decreases-loop : tie.decreases-loop
-decreases-loop from to arity n at₀ at = length from - at
+abbrev decreases-loop-at : tie.decreases-loop-at
+decreases-loop-at from to arity n at₀ at = length from - at
 
 -- a turn: the pairs at the place, and those behind it
-turn : (c : tie.After-joins-at invariant-loop decreases-loop) → let l = c.before.before in let a = l.before.before.before.args in has_join a.arity (table a.from.now a.to.now) ≡ (c.Joins-at.result || has_join a.arity (table (drop (l.loop.at + 1) a.from.now) (drop (l.loop.at + 1) a.to.now)))
+turn : (c : tie.After-joins_at invariant-loop-at decreases-loop-at) → let a = c.args in has_join a.arity (table a.from.now a.to.now) ≡ (c.joins_at.result || has_join a.arity (table (drop (c.loop-at.at + 1) a.from.now) (drop (c.loop-at.at + 1) a.to.now)))
 turn c =
-    let l = c.before.before in
-    let z = l.before.before.before in
-    let a = z.args in
-    l.loop.invariant.1
-    ∙ joins_from a.arity z.requires.0 a.from.now a.to.now l.loop.at (omega (arith, z.requires)) (omega (arith, z.requires))
-    ∙ ap (λ t. t || has_join a.arity (table (drop (l.loop.at + 1) a.from.now) (drop (l.loop.at + 1) a.to.now))) (sym c.Joins-at.ensures)
+    let a = c.args in
+    c.loop-at.invariant.1
+    ∙ joins_from a.arity c.requires.0 a.from.now a.to.now c.loop-at.at (omega (arith, c.requires)) (omega (arith, c.requires))
+    ∙ ap (λ t. t || has_join a.arity (table (drop (c.loop-at.at + 1) a.from.now) (drop (c.loop-at.at + 1) a.to.now))) (sym c.joins_at.ensures)
 
-loop-holds : tie.Need-loop-init invariant-loop decreases-loop
-loop-holds c = (omega arith, refl)
+loop-at-init : tie.Need-loop-at-init invariant-loop-at decreases-loop-at
+loop-at-init c = (omega arith, refl)
 
-add-loop : tie.Need-overflow-add-loop invariant-loop decreases-loop
-add-loop c = omega arith
+overflow_add-at : tie.Need-overflow_add-at invariant-loop-at decreases-loop-at
+overflow_add-at c = omega arith
 
-joins-at-requires : tie.Need-joins-at-requires invariant-loop decreases-loop
-joins-at-requires c κs = search rules
+joins_at-requires : tie.Need-joins_at-requires invariant-loop-at decreases-loop-at
+joins_at-requires c κs = search rules
 
-returns : tie.Need-returns invariant-loop decreases-loop
+returns-then-joins_at : tie.Need-returns-then-joins_at invariant-loop-at decreases-loop-at
+returns-then-joins_at c =
+    let a = c.args in
+    sym (turn c.before ∙ ap (λ t. t || has_join a.arity (table (drop (c.loop-at.at + 1) a.from.now) (drop (c.loop-at.at + 1) a.to.now))) c.if-joins_at.true)
+
+overflow_add-at-in-loop-at : tie.Need-overflow_add-at-in-loop-at invariant-loop-at decreases-loop-at
+overflow_add-at-in-loop-at c = omega arith
+
+loop-at-smaller : tie.Need-loop-at-smaller invariant-loop-at decreases-loop-at
+loop-at-smaller c = omega arith
+
+loop-at-preserved : tie.Need-loop-at-preserved invariant-loop-at decreases-loop-at
+loop-at-preserved c =
+    let a = c.args in
+    (omega arith, turn c.before ∙ ap (λ t. t || has_join a.arity (table (drop (c.loop-at.at + 1) a.from.now) (drop (c.loop-at.at + 1) a.to.now))) c.if-joins_at.false)
+
+returns : tie.Need-returns invariant-loop-at decreases-loop-at
 returns c =
-    let l = c.before.before.before in
-    let a = l.before.before.before.args in
-    sym (turn c.before ∙ ap (λ t. t || has_join a.arity (table (drop (l.loop.at + 1) a.from.now) (drop (l.loop.at + 1) a.to.now))) c.if1.true)
+    let a = c.args in
+    sym (c.loop-at.invariant.1 ∙ joins_few a.arity a.from.now a.to.now c.loop-at.at c.requires.2 c.loop-at-test.false c.requires.0)
 
-add_at : tie.Need-overflow-add-at invariant-loop decreases-loop
-add_at c = omega arith
-
-loop-less : tie.Need-loop-smaller invariant-loop decreases-loop
-loop-less c = omega arith
-
-loop-again : tie.Need-loop-preserved invariant-loop decreases-loop
-loop-again c =
-    let l = c.before.before.before in
-    let a = l.before.before.before.args in
-    (omega arith, turn c.before ∙ ap (λ t. t || has_join a.arity (table (drop (l.loop.at + 1) a.from.now) (drop (l.loop.at + 1) a.to.now))) c.if1.false)
-
-returns-2 : tie.Need-returns-2 invariant-loop decreases-loop
-returns-2 c =
-    let l = c.before in
-    let z = l.before.before.before in
-    let a = z.args in
-    sym (l.loop.invariant.1 ∙ joins_few a.arity a.from.now a.to.now l.loop.at z.requires.2 c.loop-test.false z.requires.0)
-
-pub has-join-spec : {M : Type 1} → statement M
-has-join-spec =
+pub has_join_spec : {M : Type 1} → statement M
+has_join_spec =
     tie.close
     (tie.spec
-    invariant-loop
-    decreases-loop
-    loop-holds
-    add-loop
-    joins-at-requires
-    returns
-    add_at
-    loop-less
-    loop-again
-    returns-2)
+    invariant-loop-at
+    decreases-loop-at
+    loop-at-init
+    overflow_add-at
+    joins_at-requires
+    returns-then-joins_at
+    overflow_add-at-in-loop-at
+    loop-at-smaller
+    loop-at-preserved
+    returns)

@@ -13,93 +13,93 @@ use Rattle.tables.proofs.joinable.joins_at.Tie as tie
 from_place : (z : tie.Start) → z.args.at < length z.args.from.now
 from_place z = omega (arith, z.requires)
 
-to-place : (z : tie.Start) → z.args.at < length z.args.to.now
-to-place z = omega (arith, z.requires)
+to_place : (z : tie.Start) → z.args.at < length z.args.to.now
+to_place z = omega (arith, z.requires)
 
-mul-word : tie.Need-overflow-mul-word
-mul-word c = search rules
+offset_bounds-from-at : tie.Need-offset_bounds-from-at
+offset_bounds-from-at c = search rules
 
-shared-slice-read-word : tie.Need-shared-slice-read-word
-shared-slice-read-word c = search rules
+bounds-from-at : tie.Need-bounds-from-at
+bounds-from-at c = search rules
 
-mul-image : tie.Need-overflow-mul-image
-mul-image c = search rules
+offset_bounds-to-at : tie.Need-offset_bounds-to-at
+offset_bounds-to-at c = search rules
 
-shared-slice-read-image : tie.Need-shared-slice-read-image
-shared-slice-read-image c = search rules
+bounds-to-at : tie.Need-bounds-to-at
+bounds-to-at c = search rules
 
 last-requires : tie.Need-last-requires
 last-requires c κs = search rules
 
-returns : tie.Need-returns
-returns c =
+returns-then-last-ne1 : tie.Need-returns-then-last-ne1
+returns-then-last-ne1 c =
     let o = c.before in
     let z = o.before.before.before.before.before in
-    let a = z.args in
-    sym (from_digit a.arity z.requires.0 a.from.now a.to.now a.at (from_place z) (to-place z) (λ e. c.if1.true (o.last.ensures ∙ e)))
+    let a = c.args in
+    sym (from_digit a.arity c.requires.0 a.from.now a.to.now a.at (from_place z) (to_place z) (λ e. c.if-last-ne1.true (c.last.ensures ∙ e)))
 
 last-requires-2 : tie.Need-last-requires-2
 last-requires-2 c κs = search rules
 
-returns-2 : tie.Need-returns-2
-returns-2 c =
+returns-then-last-ne1-2 : tie.Need-returns-then-last-ne1-2
+returns-then-last-ne1-2 c =
     let o = c.before in
     let z = o.before.before.before.before.before.before.before in
-    let a = z.args in
-    sym (to_digit a.arity z.requires.0 a.from.now a.to.now a.at (from_place z) (to-place z) (λ e. c.if2.true (o.last2.ensures ∙ e)))
+    let a = c.args in
+    sym (to_digit a.arity c.requires.0 a.from.now a.to.now a.at (from_place z) (to_place z) (λ e. c.if-last-ne1-2.true (c.last-2.ensures ∙ e)))
 
-parent-requires : tie.Need-parent-requires
-parent-requires c κs = search rules
+parent-w-requires : tie.Need-parent-w-requires
+parent-w-requires c κs = search rules
 
-parent-requires-2 : tie.Need-parent-requires-2
-parent-requires-2 c κs = search rules
+parent-v-requires : tie.Need-parent-v-requires
+parent-v-requires c κs = search rules
 
-returns-3 : tie.Need-returns-3
-returns-3 c =
+returns-then-w-eq0 : tie.Need-returns-then-w-eq0
+returns-then-w-eq0 c =
     let o = c.before in
     let p = o.before in
     let z = p.before.before.before.before.before.before.before.before.before in
-    let a = z.args in
-    sym (from_belt a.arity z.requires.0 a.from.now a.to.now a.at (from_place z) (to-place z)
-    p.parent.result o.parent2.result p.parent.ensures o.parent2.ensures c.if3.true)
+    let a = c.args in
+    sym (from_belt a.arity c.requires.0 a.from.now a.to.now a.at (from_place z) (to_place z)
+    c.parent-w.result c.parent-v.result c.parent-w.ensures c.parent-v.ensures c.if-w-eq0.true)
 
-returns-4 : tie.Need-returns-4
-returns-4 c =
+returns-then-v-eq0 : tie.Need-returns-then-v-eq0
+returns-then-v-eq0 c =
     let o = c.before.before in
     let p = o.before in
     let z = p.before.before.before.before.before.before.before.before.before in
-    let a = z.args in
-    sym (to_belt a.arity z.requires.0 a.from.now a.to.now a.at (from_place z) (to-place z)
-    p.parent.result o.parent2.result p.parent.ensures o.parent2.ensures c.if4.true)
+    let a = c.args in
+    sym (to_belt a.arity c.requires.0 a.from.now a.to.now a.at (from_place z) (to_place z)
+    c.parent-w.result c.parent-v.result c.parent-w.ensures c.parent-v.ensures c.if-v-eq0.true)
 
-are-parts-requires : tie.Need-are-parts-requires
-are-parts-requires c κs = search rules
+are_parts-requires : tie.Need-are_parts-requires
+are_parts-requires c κs = search rules
 
-returns-5 : tie.Need-returns-5
-returns-5 c =
+returns : tie.Need-returns
+returns c =
     let o = c.before.before.before in
     let p = o.before in
     let z = p.before.before.before.before.before.before.before.before.before in
-    let a = z.args in
-    c.are-parts.ensures
-    ∙ by_parts a.arity z.requires.0 a.from.now a.to.now a.at (from_place z) (to-place z)
-    p.parent.result o.parent2.result p.parent.ensures o.parent2.ensures c.before.before.if3.false c.before.if4.false
+    let a = c.args in
+    c.are_parts.ensures
+    ∙ by_parts a.arity c.requires.0 a.from.now a.to.now a.at (from_place z) (to_place z)
+    c.parent-w.result c.parent-v.result c.parent-w.ensures c.parent-v.ensures c.if-w-eq0.false c.if-v-eq0.false
 
-pub joins-at-spec : {M : Type 1} → statement M
-joins-at-spec =
+pub joins_at_spec : {M : Type 1} → statement M
+joins_at_spec =
     tie.close
     (tie.spec
-    mul-word
-    shared-slice-read-word
-    mul-image
-    shared-slice-read-image
+    offset_bounds-from-at
+    bounds-from-at
+    offset_bounds-to-at
+    bounds-to-at
     last-requires
-    returns
+    returns-then-last-ne1
     last-requires-2
-    returns-2
-    parent-requires
-    parent-requires-2
-    returns-3
-    returns-4
-    are-parts-requires
-    returns-5)
+    returns-then-last-ne1-2
+    parent-w-requires
+    parent-v-requires
+    returns-then-w-eq0
+    returns-then-v-eq0
+    are_parts-requires
+    returns)

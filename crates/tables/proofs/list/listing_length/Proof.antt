@@ -18,79 +18,76 @@ record Measuring (from to : List ℕ) (sum row : ℕ) : Type 0 where
   within : row ≤ length from
   small : sum ≤ 10 + 36 * row
 
-abbrev invariant-loop : tie.invariant-loop
-invariant-loop from to sum₀ row₀ sum row = Measuring from to sum row
+abbrev invariant-loop-row : tie.invariant-loop-row
+invariant-loop-row from to sum₀ row₀ sum row = Measuring from to sum row
 
-abbrev decreases-loop : tie.decreases-loop
-decreases-loop from to sum₀ row₀ sum row = length from - row
+abbrev decreases-loop-row : tie.decreases-loop-row
+decreases-loop-row from to sum₀ row₀ sum row = length from - row
 
-loop-holds : tie.Need-loop-init invariant-loop decreases-loop
-loop-holds c = record { sized = refl; within = omega arith; small = omega arith }
+loop-row-init : tie.Need-loop-row-init invariant-loop-row decreases-loop-row
+loop-row-init c = record { sized = refl; within = omega arith; small = omega arith }
 
-mul-pair-length : tie.Need-overflow-mul-pair-length invariant-loop decreases-loop
-mul-pair-length c = omega arith
+offset_bounds-from-row : tie.Need-offset_bounds-from-row invariant-loop-row decreases-loop-row
+offset_bounds-from-row c = omega arith
 
-shared-slice-read-pair-length : tie.Need-shared-slice-read-pair-length invariant-loop decreases-loop
-shared-slice-read-pair-length c = omega arith
+bounds-from-row : tie.Need-bounds-from-row invariant-loop-row decreases-loop-row
+bounds-from-row c = omega arith
 
-mul-pair-length-2 : tie.Need-overflow-mul-pair-length-2 invariant-loop decreases-loop
-mul-pair-length-2 c = omega arith
+offset_bounds-to-row : tie.Need-offset_bounds-to-row invariant-loop-row decreases-loop-row
+offset_bounds-to-row c = omega arith
 
-shared-slice-read-pair-length-2 : tie.Need-shared-slice-read-pair-length-2 invariant-loop decreases-loop
-shared-slice-read-pair-length-2 c = omega arith
+bounds-to-row : tie.Need-bounds-to-row invariant-loop-row decreases-loop-row
+bounds-to-row c = omega arith
 
-pair-length-requires : tie.Need-pair-length-requires invariant-loop decreases-loop
-pair-length-requires c κs = search rules
+pair_length-sum-requires : tie.Need-pair_length-sum-requires invariant-loop-row decreases-loop-row
+pair_length-sum-requires c κs = search rules
 
 -- the record of one pair is small
-small-record : (c : tie.After-pair-length invariant-loop decreases-loop) → c.pair_length.result ≤ 36
-small-record c =
-    let l = c.before.before.before.before in
-    let a = l.before.before.before.args in
-    let row = l.loop.row in
-    let x : get_or a.from.now row 0 < 2 ^ 64 = omega (arith, c.before.before.shared-slice-known3.given row) in
-    let y : get_or a.to.now row 0 < 2 ^ 64 = omega (arith, c.before.shared-slice-known4.given row) in
+small_record : (c : tie.After-pair_length-sum invariant-loop-row decreases-loop-row) → c.pair_length-sum.result ≤ 36
+small_record c =
+    let a = c.args in
+    let row = c.loop-row.row in
+    let x : get_or a.from.now row 0 < 2 ^ 64 = omega (arith, c.shared_slice_known-in-loop-row-1.given row) in
+    let y : get_or a.to.now row 0 < 2 ^ 64 = omega (arith, c.shared_slice_known-in-loop-row-2-1.given row) in
     omega (arith, pair_small (get_or a.from.now row 0) (get_or a.to.now row 0) x y)
 
-add-sum : tie.Need-overflow-add-sum invariant-loop decreases-loop
+overflow_add-sum : tie.Need-overflow_add-sum invariant-loop-row decreases-loop-row
 unfolding max_pairs
-add-sum c = omega (arith, small-record c)
+overflow_add-sum c = omega (arith, small_record c)
 
-add_row : tie.Need-overflow-add-row invariant-loop decreases-loop
-add_row c = omega arith
+overflow_add-row : tie.Need-overflow_add-row invariant-loop-row decreases-loop-row
+overflow_add-row c = omega arith
 
-loop-less : tie.Need-loop-smaller invariant-loop decreases-loop
-loop-less c = omega arith
+loop-row-smaller : tie.Need-loop-row-smaller invariant-loop-row decreases-loop-row
+loop-row-smaller c = omega arith
 
-loop-again : tie.Need-loop-preserved invariant-loop decreases-loop
-loop-again c =
-    let l = c.before.before.before.before in
-    let a = l.before.before.before.args in
-    let rest = lines_size a.from.now a.to.now l.loop.row (omega arith) (omega arith) in
-    let small = small-record c in
+loop-row-preserved : tie.Need-loop-row-preserved invariant-loop-row decreases-loop-row
+loop-row-preserved c =
+    let a = c.args in
+    let rest = lines_size a.from.now a.to.now c.loop-row.row (omega arith) (omega arith) in
+    let small = small_record c in
     record { sized = omega arith; within = omega arith; small = omega arith }
 
-returns : tie.Need-returns invariant-loop decreases-loop
+returns : tie.Need-returns invariant-loop-row decreases-loop-row
 returns c slot s =
-    let l = c.before in
-    let a = l.before.before.before.args in
-    let none = lines_none a.from.now a.to.now l.loop.row c.loop-test.false in
+    let a = c.args in
+    let none = lines_none a.from.now a.to.now c.loop-row.row c.loop-row-test.false in
     omega (arith, ap length none, listing_size slot s (table a.from.now a.to.now))
 
-pub listing-length-spec : {M : Type 1} → statement M
-listing-length-spec =
+pub listing_length_spec : {M : Type 1} → statement M
+listing_length_spec =
     tie.close
     (tie.spec
-    invariant-loop
-    decreases-loop
-    loop-holds
-    mul-pair-length
-    shared-slice-read-pair-length
-    mul-pair-length-2
-    shared-slice-read-pair-length-2
-    pair-length-requires
-    add-sum
-    add_row
-    loop-less
-    loop-again
+    invariant-loop-row
+    decreases-loop-row
+    loop-row-init
+    offset_bounds-from-row
+    bounds-from-row
+    offset_bounds-to-row
+    bounds-to-row
+    pair_length-sum-requires
+    overflow_add-sum
+    overflow_add-row
+    loop-row-smaller
+    loop-row-preserved
     returns)

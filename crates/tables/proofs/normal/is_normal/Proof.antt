@@ -10,30 +10,34 @@ use Rattle.tables.proofs.Joining.{normal_unordered, normal_ordered}
 use Rattle.tables.proofs.normal.is_normal.Statement.{statement}
 use Rattle.tables.proofs.normal.is_normal.Tie as tie
 
-is-sorted-requires : tie.Need-is-sorted-requires
-is-sorted-requires c κs = search rules
+is_sorted-requires : tie.Need-is_sorted-requires
+is_sorted-requires c κs = search rules
 
 -- the test of the from column is the test of its order
-in_order_lem : (c : tie.After-is-sorted) → let a = c.before.before.before.args in ordered (words_of a.from.now) ≡ c.is_sorted.result
-in_order_lem c = let z = c.before.before.before in sym (c.is_sorted.ensures ∙ sorted_is_ordered (words_of z.args.from.now) z.requires.3)
+in_order_lem : (c : tie.After-is_sorted) → let a = c.args in ordered (words_of a.from.now) ≡ c.is_sorted.result
+in_order_lem c = sym (c.is_sorted.ensures ∙ sorted_is_ordered (words_of c.args.from.now) c.requires.3)
+
+returns-then-not-is_sorted : tie.Need-returns-then-not-is_sorted
+returns-then-not-is_sorted c =
+    let o = c.before in
+    let a = c.args in
+    sym (normal_unordered a.arity a.from.now a.to.now c.requires.2 (in_order_lem o ∙ c.if-not-is_sorted.true))
+
+has_join-requires : tie.Need-has_join-requires
+has_join-requires c κs = search rules
 
 returns : tie.Need-returns
 returns c =
-    let o = c.before in
-    let z = o.before.before.before in
-    let a = z.args in
-    sym (normal_unordered a.arity a.from.now a.to.now z.requires.2 (in_order_lem o ∙ not-true o.is_sorted.result c.if1.true))
-
-has-join-requires : tie.Need-has-join-requires
-has-join-requires c κs = search rules
-
-returns-2 : tie.Need-returns-2
-returns-2 c =
     let o = c.before.before in
-    let z = o.before.before.before in
-    let a = z.args in
+    let a = c.args in
     ap not c.has_join.ensures
-    ∙ sym (normal_ordered a.arity a.from.now a.to.now z.requires.2 (in_order_lem o ∙ not-false o.is_sorted.result c.before.if1.false))
+    ∙ sym (normal_ordered a.arity a.from.now a.to.now c.requires.2 (in_order_lem o ∙ c.if-not-is_sorted.false))
 
-pub is-normal-spec : {M : Type 1} → statement M
-is-normal-spec = tie.close (tie.spec is-sorted-requires returns has-join-requires returns-2)
+pub is_normal_spec : {M : Type 1} → statement M
+is_normal_spec =
+    tie.close
+    (tie.spec
+    is_sorted-requires
+    returns-then-not-is_sorted
+    has_join-requires
+    returns)

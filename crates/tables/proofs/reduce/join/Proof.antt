@@ -19,99 +19,99 @@ laid : (z : tie.Start) (t b : Table) → rows z.args.end z.args.from.now z.args.
 laid z t b e l =
     record { some_part = z.requires.0; order = z.requires.2; from_room = z.requires.3; to_room = z.requires.4; stands = e; long = l }
 
-sub-if1 : tie.Need-overflow-sub-if1
-sub-if1 c = search rules
+overflow_sub-end : tie.Need-overflow_sub-end
+overflow_sub-end c = search rules
 
-returns : tie.Need-returns
-returns c = (omega arith, λ t b e l. other_number (laid c.before.before.before t b e l) c.if1.true)
+returns-then-end-start : tie.Need-returns-then-end-start
+returns-then-end-start c = (omega arith, λ t b e l. other_number (laid c.before.before.before t b e l) c.if-end-start.true)
 
-mul-parent : tie.Need-overflow-mul-parent
-mul-parent c = search rules
+offset_bounds-to-start : tie.Need-offset_bounds-to-start
+offset_bounds-to-start c = search rules
 
-slice-read-parent : tie.Need-slice-read-parent
-slice-read-parent c = search rules
+bounds-to-start : tie.Need-bounds-to-start
+bounds-to-start c = search rules
 
-parent-requires : tie.Need-parent-requires
-parent-requires c κs = search rules
+parent-v-requires : tie.Need-parent-v-requires
+parent-v-requires c κs = search rules
 
-returns-2 : tie.Need-returns-2
-returns-2 c =
+returns-then-v-eq0 : tie.Need-returns-then-v-eq0
+returns-then-v-eq0 c =
     let p = c.before in
     let z = p.before.before.before.before.before in
-    (omega arith, λ t b e l. no_belt (laid z t b e l) p.before.before.if1.false p.parent.result p.parent.ensures c.if2.true)
+    (omega arith, λ t b e l. no_belt (laid z t b e l) c.if-end-start.false c.parent-v.result c.parent-v.ensures c.if-v-eq0.true)
 
-are-parts-requires : tie.Need-are-parts-requires
-are-parts-requires c κs = search rules
+are_parts-requires : tie.Need-are_parts-requires
+are_parts-requires c κs = search rules
 
-same_length : tie.Need-same-length
-same_length c = search rules
+shape_of-from-then-not-are_parts : tie.Need-shape_of-from-then-not-are_parts
+shape_of-from-then-not-are_parts c = search rules
 
-same-length-2 : tie.Need-same-length-2
-same-length-2 c = search rules
+shape_of-to-then-not-are_parts : tie.Need-shape_of-to-then-not-are_parts
+shape_of-to-then-not-are_parts c = search rules
 
-returns-3 : tie.Need-returns-3
-returns-3 c =
+returns-then-not-are_parts : tie.Need-returns-then-not-are_parts
+returns-then-not-are_parts c =
     let q = c.before in
     let p = q.before.before.before.before in
-    let z = p.before.before.before.before.before in
-    let r = q.are-parts in (
+    let z = p.before.before.before in
+    let r = c.are_parts in (
       omega arith,
       λ t b e l.
-          other_parts (laid z t b e l) p.before.before.if1.false p.parent.result p.parent.ensures r.result r.ensures c.if3.true,
+          other_parts (laid z t b e l) c.if-end-start.false c.parent-v.result c.parent-v.ensures r.result r.ensures c.if-not-are_parts.true-raw,
     )
 
-mul-from : tie.Need-overflow-mul-from
-mul-from c = search rules
+offset_bounds-from-start : tie.Need-offset_bounds-from-start
+offset_bounds-from-start c = search rules
 
-slice-write-from : tie.Need-slice-write-from
-slice-write-from c = search rules
+bounds-from-start : tie.Need-bounds-from-start
+bounds-from-start c = search rules
 
-mul-to : tie.Need-overflow-mul-to
-mul-to c = search rules
+offset_bounds-to-start-2 : tie.Need-offset_bounds-to-start-2
+offset_bounds-to-start-2 c = search rules
 
-slice-write-to : tie.Need-slice-write-to
-slice-write-to c = search rules
+bounds-to-start-2 : tie.Need-bounds-to-start-2
+bounds-to-start-2 c = search rules
 
-add-result : tie.Need-overflow-add-result
-add-result c = search rules
+overflow_add-result : tie.Need-overflow_add-result
+overflow_add-result c = search rules
 
-same-length-3 : tie.Need-same-length-3
-same-length-3 c = search rules
+shape_of-from : tie.Need-shape_of-from
+shape_of-from c = search rules
 
-same-length-4 : tie.Need-same-length-4
-same-length-4 c = search rules
+shape_of-to : tie.Need-shape_of-to
+shape_of-to c = search rules
 
-returns-4 : tie.Need-returns-4
-returns-4 c =
+returns : tie.Need-returns
+returns c =
     let q = c.before in
     let o = q.before.before.before in
     let p = o.before in
-    let z = p.before.before.before.before.before in
-    let number = p.before.before.if1.false in
-    let r = q.are-parts in (
-      omega (arith, z.requires, number),
-      λ t b e l. all_parts (laid z t b e l) number p.parent.result p.parent.ensures o.if2.false r.result r.ensures c.if3.false,
+    let z = p.before.before.before in
+    let number = c.if-end-start.false in
+    let r = c.are_parts in (
+      omega (arith, c.requires, number),
+      λ t b e l. all_parts (laid z t b e l) number c.parent-v.result c.parent-v.ensures c.if-v-eq0.false r.result r.ensures c.if-not-are_parts.false-raw,
     )
 
-pub join-spec : {M : Type 1} → statement M
-join-spec =
+pub join_spec : {M : Type 1} → statement M
+join_spec =
     tie.close
     (tie.spec
-    sub-if1
-    returns
-    mul-parent
-    slice-read-parent
-    parent-requires
-    returns-2
-    are-parts-requires
-    same_length
-    same-length-2
-    returns-3
-    mul-from
-    slice-write-from
-    mul-to
-    slice-write-to
-    add-result
-    same-length-3
-    same-length-4
-    returns-4)
+    overflow_sub-end
+    returns-then-end-start
+    offset_bounds-to-start
+    bounds-to-start
+    parent-v-requires
+    returns-then-v-eq0
+    are_parts-requires
+    shape_of-from-then-not-are_parts
+    shape_of-to-then-not-are_parts
+    returns-then-not-are_parts
+    offset_bounds-from-start
+    bounds-from-start
+    offset_bounds-to-start-2
+    bounds-to-start-2
+    overflow_add-result
+    shape_of-from
+    shape_of-to
+    returns)

@@ -23,75 +23,72 @@ use Rattle.tables.proofs.reduce.reduce.Statement.{statement}
 use Rattle.tables.proofs.reduce.reduce.Tie as tie
 
 -- the from-words have room for a root and 15 ways
-deep : (c : tie.After-shared-slice-known) → longest (froms (table c.before.args.from.now c.before.args.to.now)) ≤ suc 15
+deep : (c : tie.After-shared_slice_known-1) → longest (froms (table c.args.from.now c.args.to.now)) ≤ suc 15
 unfolding max_digits
-deep c = longest_fits c.before.args.from.now c.before.args.to.now (λ i. omega (arith, c.shared-slice-known.given i))
+deep c = longest_fits c.args.from.now c.args.to.now (λ i. omega (arith, c.shared_slice_known-1.given i))
 
-abbrev Blocks : tie.After-shared-slice-known → Type 0
-Blocks c = let a = c.before.args in Parts a.arity 15 (unpack 0) 1 (a.roots + 1 - 1) (table a.from.now a.to.now)
+abbrev Blocks : tie.After-shared_slice_known-1 → Type 0
+Blocks c = let a = c.args in Parts a.arity 15 (unpack 0) 1 (a.roots + 1 - 1) (table a.from.now a.to.now)
 
 -- the table's blocks, as they lie before reduction
-blocks : (c : tie.After-shared-slice-known) → Blocks c
+blocks : (c : tie.After-shared_slice_known-1) → Blocks c
 blocks c =
-    let z = c.before in
-    let a = z.args in
+    let a = c.args in
     let all : a.roots + 1 - 1 ≡ a.roots = omega arith in
     let s = shape a.arity a.roots in
-    root_parts s (table a.from.now a.to.now) (arity_of_range s z.requires.3) z.requires.4 15 (deep c) (unpack 0) (a.roots + 1 - 1) unpack_zero all
+    root_parts s (table a.from.now a.to.now) (arity_of_range s c.requires.3) c.requires.4 15 (deep c) (unpack 0) (a.roots + 1 - 1) unpack_zero all
 
-abbrev KeptBlocks : tie.After-shared-slice-known → Type 0
+abbrev KeptBlocks : tie.After-shared_slice_known-1 → Type 0
 KeptBlocks c =
-    let a = c.before.args in
+    let a = c.args in
     prefixed (unpack 0) (gather (count 1 (a.roots + 1 - 1)) (λ i. normal a.arity 15 (image ((blocks c).pairs i))))
     ≡ keep (shape a.arity a.roots) (table a.from.now a.to.now)
 
 -- and what their reduction comes to
-kept : (c : tie.After-shared-slice-known) → KeptBlocks c
+kept : (c : tie.After-shared_slice_known-1) → KeptBlocks c
 unfolding blocks
 kept c =
-    let z = c.before in
-    let a = z.args in
+    let a = c.args in
     let all : a.roots + 1 - 1 ≡ a.roots = omega arith in
     let s = shape a.arity a.roots in
-    keep_of_roots s (table a.from.now a.to.now) (arity_of_range s z.requires.3) z.requires.4 15 (deep c) (unpack 0) (a.roots + 1 - 1) unpack_zero all
+    keep_of_roots s (table a.from.now a.to.now) (arity_of_range s c.requires.3) c.requires.4 15 (deep c) (unpack 0) (a.roots + 1 - 1) unpack_zero all
 
 -- where it is known whether pairs join
-abbrev known : tie.After-has-join → tie.After-shared-slice-known
+abbrev known : tie.After-has_join → tie.After-shared_slice_known-1
 known c = c.before.before.before.before
 
-has-join-requires : tie.Need-has-join-requires
-has-join-requires c κs =
-    let z = c.before.before.before.before in
-    let r = in_range (shape z.args.arity z.args.roots) z.requires.3 in
-    (omega (arith, r.arity_low), r.arity_high, z.requires.0)
+has_join-requires : tie.Need-has_join-requires
+has_join-requires c κs =
+    let r = in_range (shape c.args.arity c.args.roots) c.requires.3 in
+    (omega (arith, r.arity_low), r.arity_high, c.requires.0)
 
-copy-pairs-requires : tie.Need-copy-pairs-requires
-copy-pairs-requires c κs = search rules
+copy_pairs-requires : tie.Need-copy_pairs-requires
+copy_pairs-requires c κs = search rules
 
-same_length : tie.Need-same-length
-same_length c = search rules
+shape_of-out_from-then-not-has_join : tie.Need-shape_of-out_from-then-not-has_join
+shape_of-out_from-then-not-has_join c = search rules
 
-same-length-2 : tie.Need-same-length-2
-same-length-2 c = search rules
+shape_of-out_to-then-not-has_join : tie.Need-shape_of-out_to-then-not-has_join
+shape_of-out_to-then-not-has_join c = search rules
 
-returns : tie.Need-returns
-returns c =
+returns-then-not-has_join : tie.Need-returns-then-not-has_join
+returns-then-not-has_join c =
     let copied = c.before.before.before.before in
     let looked = copied.before.before.before.before in
     let z = (known looked).before in
     let a = z.args in
     let s = shape a.arity a.roots in
-    let none = sym looked.has_join.ensures ∙ not-true looked.has_join.result copied.before.before.before.if1.true in
-    let same = kept_without_join s (table a.from.now a.to.now) (arity_of_range s z.pre.3) z.pre.4 none in
-    (omega arith, copied.copy-pairs.ensures ∙ sym same)
+    let none = sym c.has_join.ensures ∙ c.if-not-has_join.true in
+    let same = kept_without_join s (table a.from.now a.to.now) (arity_of_range s z.requires.3) z.requires.4 none in
+    (omega arith, c.copy_pairs.ensures ∙ sym same)
 
-reduce-ways-requires : tie.Need-reduce-ways-requires
+reduce_ways-c-requires : tie.Need-reduce_ways-c-requires
 unfolding max_digits
-reduce-ways-requires c κs =
+reduce_ways-c-requires c κs =
     let k = known c.before.before.before in
     let z = k.before in
-    let r = in_range (shape z.args.arity z.args.roots) z.pre.3 in (
-      record { paired = z.pre.0; from_room = z.pre.1; to_room = z.pre.2; within = omega arith; behind = omega arith },
+    let r = in_range (shape z.args.arity z.args.roots) z.requires.3 in (
+      record { paired = z.requires.0; from_room = z.requires.1; to_room = z.requires.2; within = omega arith; behind = omega arith },
       omega (arith, r.arity_low),
       r.arity_high,
       omega (arith, ap length unpack_zero),
@@ -101,29 +98,29 @@ reduce-ways-requires c κs =
       blocks k,
     )
 
-same-length-3 : tie.Need-same-length-3
-same-length-3 c = search rules
+shape_of-out_from : tie.Need-shape_of-out_from
+shape_of-out_from c = search rules
 
-same-length-4 : tie.Need-same-length-4
-same-length-4 c = search rules
+shape_of-out_to : tie.Need-shape_of-out_to
+shape_of-out_to c = search rules
 
-returns-2 : tie.Need-returns-2
-returns-2 c =
+returns : tie.Need-returns
+returns c =
     let ways = c.before.before.before.before in
     let k = known ways.before.before.before.before in
-    let p = ways.reduce-ways.ensures.0 in
-    (omega (arith, p.within, p.behind), (ways.reduce-ways.ensures.1 (blocks k)).written ∙ kept k)
+    let p = c.reduce_ways-c.ensures.0 in
+    (omega (arith, p.within, p.behind), (c.reduce_ways-c.ensures.1 (blocks k)).written ∙ kept k)
 
-pub reduce-spec : {M : Type 1} → statement M
-reduce-spec =
+pub reduce_spec : {M : Type 1} → statement M
+reduce_spec =
     tie.close
     (tie.spec
-    has-join-requires
-    copy-pairs-requires
-    same_length
-    same-length-2
-    returns
-    reduce-ways-requires
-    same-length-3
-    same-length-4
-    returns-2)
+    has_join-requires
+    copy_pairs-requires
+    shape_of-out_from-then-not-has_join
+    shape_of-out_to-then-not-has_join
+    returns-then-not-has_join
+    reduce_ways-c-requires
+    shape_of-out_from
+    shape_of-out_to
+    returns)

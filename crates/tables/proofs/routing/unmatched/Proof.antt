@@ -12,50 +12,50 @@ use Rattle.tables.proofs.routing.unmatched.Statement.{statement}
 use Rattle.tables.proofs.routing.unmatched.Tie as tie
 
 -- the place found is that of the first from-word that begins the code
-first : (c : tie.After-place-of) →
-    let a = c.before.before.before.args in
-    FirstIn a.from.now (word_of a.code.now) c.place_of_lem.result
+first : (c : tie.After-place_of-k) →
+    let a = c.args in
+    FirstIn a.from.now (word_of a.code.now) c.place_of-k.result
 first c =
-    let a = c.before.before.before.args in
-    first_of_place a.from.now (word_of a.code.now) c.place_of_lem.result c.place_of_lem.ensures
+    let a = c.args in
+    first_of_place a.from.now (word_of a.code.now) c.place_of-k.result c.place_of-k.ensures
 
 behind-requires : tie.Need-behind-requires
 behind-requires c κs =
     let t = c.before in
     let p = t.before in
-    let a = p.before.before.before.args in
-    begins_within (word_at a.from.now p.place_of_lem.result) a.code.now ((first p).found t.if1.true)
+    let a = c.args in
+    begins_within (word_at a.from.now c.place_of-k.result) a.code.now ((first p).found c.if-k-from.true)
 
-returns : tie.Need-returns
-returns c =
+returns-then-k-from : tie.Need-returns-then-k-from
+returns-then-k-from c =
     let t = c.before.before in
     let p = t.before in
-    let a = p.before.before.before.args in
+    let a = c.args in
     let w = word_of a.code.now in
-    let found = sym (matched_digits_lem a.from.now w p.place_of_lem.result (first p) t.if1.true) in (
+    let found = sym (matched_digits_lem a.from.now w c.place_of-k.result (first p) c.if-k-from.true) in (
       c.behind.ensures.0 ∙ ap (λ n. drop n a.code.now) found,
       (
-        c.behind.ensures.1 ∙ ap (λ n. further n a.code.ptr) found,
-        sym (matched_place_lem a.from.now w p.place_of_lem.result (first p) t.if1.true),
+        c.behind.ensures.1 ∙ ap (λ n. further n a.code.ref_ptr) found,
+        sym (matched_place_lem a.from.now w c.place_of-k.result (first p) c.if-k-from.true),
       ),
     )
 
-returns-2 : tie.Need-returns-2
-returns-2 c =
+returns-else-k-from : tie.Need-returns-else-k-from
+returns-else-k-from c =
     let p = c.before in
-    let a = p.before.before.before.args in
-    let end : p.place_of_lem.result ≡ length a.from.now = omega (arith, (first p).within) in
+    let a = c.args in
+    let end : c.place_of-k.result ≡ length a.from.now = omega (arith, (first p).within) in
     let w = word_of a.code.now in
-    let none = sym (matched_none a.from.now w p.place_of_lem.result (first p) end) in (
+    let none = sym (matched_none a.from.now w c.place_of-k.result (first p) end) in (
       ap (λ n. drop n a.code.now) none,
       (
-        here a.code.ptr ∙ ap (λ n. further n a.code.ptr) none,
-        sym (matched_nowhere a.from.now w p.place_of_lem.result (first p) end),
+        here a.code.ref_ptr ∙ ap (λ n. further n a.code.ref_ptr) none,
+        sym (matched_nowhere a.from.now w c.place_of-k.result (first p) end),
       ),
     )
 
-pub unmatched-spec : {M : Type 1} → statement M
-unmatched-spec =
+pub unmatched_spec : {M : Type 1} → statement M
+unmatched_spec =
     tie.close
     (tie.spec
     (λ c κs. search rules)
@@ -63,5 +63,5 @@ unmatched-spec =
     (λ c. search rules)
     (λ c. search rules)
     behind-requires
-    returns
-    returns-2)
+    returns-then-k-from
+    returns-else-k-from)

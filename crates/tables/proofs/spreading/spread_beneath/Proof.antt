@@ -31,214 +31,198 @@ record Scanning (u v : ℕ) (from to froms₀ tos₀ : List ℕ) (n i₀ : ℕ) 
   within : i ≤ length from
   filling : Filling (beneath (unpack u) (unpack v) (table from to)) (left u v from to i) n froms₀ tos₀ froms tos rows
 
-abbrev invariant-loop : tie.invariant-loop
-invariant-loop u v from to froms₀ tos₀ n rows₀ i₀ froms tos rows i = Scanning u v from to froms₀ tos₀ n i₀ froms tos rows i
+abbrev invariant-loop-i : tie.invariant-loop-i
+invariant-loop-i u v from to froms₀ tos₀ n rows₀ i₀ froms tos rows i = Scanning u v from to froms₀ tos₀ n i₀ froms tos rows i
 
-abbrev decreases-loop : tie.decreases-loop
-decreases-loop u v from to froms₀ tos₀ n rows₀ i₀ froms tos rows i = length from - i
+abbrev decreases-loop-i : tie.decreases-loop-i
+decreases-loop-i u v from to froms₀ tos₀ n rows₀ i₀ froms tos rows i = length from - i
 
 -- the pair that a turn writes
-abbrev own : tie.After-tail invariant-loop decreases-loop → Table
+abbrev own : tie.After-tail-tail invariant-loop-i decreases-loop-i → Table
 own c =
-    let l = c.before.before.before.before.before.before in
-    let a = l.before.before.before.before.before.before.args in
-    pair (unpack a.u ++ unpack c.tail.result) (word_at a.to.now l.loop.i ++ unpack 0) ∷ []
+    let a = c.args in
+    pair (unpack a.u ++ unpack c.tail-tail.result) (word_at a.to.now c.loop-i.i ++ unpack 0) ∷ []
 
-turn : (c : tie.After-tail invariant-loop decreases-loop) →
-    let l = c.before.before.before.before.before.before in
-    let a = l.before.before.before.before.before.before.args in
-    left a.u a.v a.from.now a.to.now l.loop.i ≡ own c ++ left a.u a.v a.from.now a.to.now (l.loop.i + 1)
+turn : (c : tie.After-tail-tail invariant-loop-i decreases-loop-i) →
+    let a = c.args in
+    left a.u a.v a.from.now a.to.now c.loop-i.i ≡ own c ++ left a.u a.v a.from.now a.to.now (c.loop-i.i + 1)
 turn c =
-    let l = c.before.before.before.before.before.before in
-    let a = l.before.before.before.before.before.before.args in
-    let i = l.loop.i in
+    let a = c.args in
+    let i = c.loop-i.i in
     let to = word_at a.to.now i in
     let whole : to ≡ to ++ unpack 0 = sym (ap (λ w. to ++ w) unpack_zero ∙ append-nil to) in
-    beneath_take (unpack a.u) (unpack a.v) a.from.now a.to.now i (unpack c.tail.result) (omega arith) (omega arith) c.tail.ensures
-    ∙ ap (λ w. pair (unpack a.u ++ unpack c.tail.result) w ∷ left a.u a.v a.from.now a.to.now (i + 1)) whole
+    beneath_take (unpack a.u) (unpack a.v) a.from.now a.to.now i (unpack c.tail-tail.result) (omega arith) (omega arith) c.tail-tail.ensures
+    ∙ ap (λ w. pair (unpack a.u ++ unpack c.tail-tail.result) w ∷ left a.u a.v a.from.now a.to.now (i + 1)) whole
 
-first-after-requires : tie.Need-first-after-requires invariant-loop decreases-loop
-first-after-requires c κs = search rules
+first_after-i-requires : tie.Need-first_after-i-requires invariant-loop-i decreases-loop-i
+first_after-i-requires c κs = search rules
 
-loop-holds : tie.Need-loop-init invariant-loop decreases-loop
-loop-holds c =
-    let s = c.before.before.before.before.before in
-    let a = s.args in
-    let p = c.first-after.ensures in
+loop-i-init : tie.Need-loop-i-init invariant-loop-i decreases-loop-i
+loop-i-init c =
+    let a = c.args in
+    let p = c.first_after-i.ensures in
     record {
       onward = omega arith;
       within = p.within;
       filling =
           filling_start
           (beneath (unpack a.u) (unpack a.v) (table a.from.now a.to.now))
-          (left a.u a.v a.from.now a.to.now c.first-after.result)
+          (left a.u a.v a.from.now a.to.now c.first_after-i.result)
           a.n
           a.froms.now
           a.tos.now
-          (beneath_skip (unpack a.u) (unpack a.v) c.first-after.result a.from.now a.to.now s.requires.1.0.plain.long (none_before a.from.now a.v c.first-after.result p s.requires.1.1.0) p.within);
+          (beneath_skip (unpack a.u) (unpack a.v) c.first_after-i.result a.from.now a.to.now c.requires.1.0.plain.long (none_before a.from.now a.v c.first_after-i.result p c.requires.1.1.0) p.within);
     }
 
-mul-begins : tie.Need-overflow-mul-begins invariant-loop decreases-loop
-mul-begins c = omega arith
+offset_bounds-from-i : tie.Need-offset_bounds-from-i invariant-loop-i decreases-loop-i
+offset_bounds-from-i c = omega arith
 
-shared-slice-read-begins : tie.Need-shared-slice-read-begins invariant-loop decreases-loop
-shared-slice-read-begins c = omega arith
+bounds-from-i : tie.Need-bounds-from-i invariant-loop-i decreases-loop-i
+bounds-from-i c = omega arith
 
-begins-requires : tie.Need-begins-requires invariant-loop decreases-loop
+begins-requires : tie.Need-begins-requires invariant-loop-i decreases-loop-i
 begins-requires c κs = search rules
 
-same_length : tie.Need-same-length invariant-loop decreases-loop
-same_length c = c.before.before.before.before.loop.invariant.filling.from_long
+shape_of-froms-then-not-begins : tie.Need-shape_of-froms-then-not-begins invariant-loop-i decreases-loop-i
+shape_of-froms-then-not-begins c = c.loop-i.invariant.filling.from_long
 
-same-length-2 : tie.Need-same-length-2 invariant-loop decreases-loop
-same-length-2 c = c.before.before.before.before.loop.invariant.filling.to_long
+shape_of-tos-then-not-begins : tie.Need-shape_of-tos-then-not-begins invariant-loop-i decreases-loop-i
+shape_of-tos-then-not-begins c = c.loop-i.invariant.filling.to_long
 
-returns : tie.Need-returns invariant-loop decreases-loop
-returns c =
-    let l = c.before.before.before.before in
-    let f = l.before in
-    let s = f.before.before.before.before.before in
-    let a = s.args in
-    let i = l.loop.i in
-    let other : begins (unpack a.v) (word_at a.from.now i) ≡ false = sym c.before.begins.ensures ∙ not-true c.before.begins.result c.if1.true in
+returns-then-not-begins : tie.Need-returns-then-not-begins invariant-loop-i decreases-loop-i
+returns-then-not-begins c =
+    let a = c.args in
+    let i = c.loop-i.i in
+    let other : begins (unpack a.v) (word_at a.from.now i) ≡ false = sym c.begins.ensures ∙ c.if-not-begins.true in
     filling_end
-    l.loop.invariant.filling
-    (beneath_stop (unpack a.u) (unpack a.v) a.from.now a.to.now i (none_behind a.from.now a.v f.first-after.result f.first-after.ensures s.requires.1.0.in_order i l.loop.invariant.onward (omega arith) other))
+    c.loop-i.invariant.filling
+    (beneath_stop (unpack a.u) (unpack a.v) a.from.now a.to.now i (none_behind a.from.now a.v c.first_after-i.result c.first_after-i.ensures c.requires.1.0.in_order i c.loop-i.invariant.onward (omega arith) other))
 
-mul-tail : tie.Need-overflow-mul-tail invariant-loop decreases-loop
-mul-tail c = omega arith
+offset_bounds-from-i-in-loop-i : tie.Need-offset_bounds-from-i-in-loop-i invariant-loop-i decreases-loop-i
+offset_bounds-from-i-in-loop-i c = omega arith
 
-shared-slice-read-tail : tie.Need-shared-slice-read-tail invariant-loop decreases-loop
-shared-slice-read-tail c = omega arith
+bounds-from-i-in-loop-i : tie.Need-bounds-from-i-in-loop-i invariant-loop-i decreases-loop-i
+bounds-from-i-in-loop-i c = omega arith
 
-tail-requires : tie.Need-tail-requires invariant-loop decreases-loop
-tail-requires c κs =
-    let l = c.before.before.before.before.before in
-    let s = l.before.before.before.before.before.before in
-    let b = c.before.before in (
-      packed_at s.args.from.now s.requires.1.0.plain.from_packed l.loop.i (omega arith),
-      sym b.begins.ensures ∙ not-false b.begins.result c.before.if1.false,
+tail-tail-requires : tie.Need-tail-tail-requires invariant-loop-i decreases-loop-i
+tail-tail-requires c κs =
+    (
+      packed_at c.args.from.now c.requires.1.0.plain.from_packed c.loop-i.i (omega arith),
+      sym c.begins.ensures ∙ c.if-not-begins.false,
     )
 
-mul-put : tie.Need-overflow-mul-put invariant-loop decreases-loop
-mul-put c = omega arith
+offset_bounds-to-i : tie.Need-offset_bounds-to-i invariant-loop-i decreases-loop-i
+offset_bounds-to-i c = omega arith
 
-shared-slice-read-put : tie.Need-shared-slice-read-put invariant-loop decreases-loop
-shared-slice-read-put c = omega arith
+bounds-to-i : tie.Need-bounds-to-i invariant-loop-i decreases-loop-i
+bounds-to-i c = omega arith
 
-put-requires : tie.Need-put-requires invariant-loop decreases-loop
+put-requires : tie.Need-put-requires invariant-loop-i decreases-loop-i
 put-requires c κs =
     let t = c.before.before.before in
-    let l = t.before.before.before.before.before.before in
-    let s = l.before.before.before.before.before.before in
-    let a = s.args in
-    let i = l.loop.i in
-    let room = filling_room l.loop.invariant.filling (own t) (left a.u a.v a.from.now a.to.now (i + 1)) (turn t) s.requires.1.1.1 in (
+    let a = c.args in
+    let i = c.loop-i.i in
+    let room = filling_room c.loop-i.invariant.filling (own t) (left a.u a.v a.from.now a.to.now (i + 1)) (turn t) c.requires.1.1.1 in (
       (
-        s.requires.0.0,
+        c.requires.0.0,
         (
-          packed_tail (unpack a.v) (get_or a.from.now i 0) t.tail.result (packed_at a.from.now s.requires.1.0.plain.from_packed i (omega arith)) t.tail.ensures,
-          (packed_at a.to.now s.requires.1.0.plain.to_packed i (omega arith), packed_zero),
+          packed_tail (unpack a.v) (get_or a.from.now i 0) c.tail-tail.result (packed_at a.from.now c.requires.1.0.plain.from_packed i (omega arith)) c.tail-tail.ensures,
+          (packed_at a.to.now c.requires.1.0.plain.to_packed i (omega arith), packed_zero),
         ),
       ),
       (omega arith, omega arith),
     )
 
-enum-known-r : tie.Need-enum-known-r invariant-loop decreases-loop
-enum-known-r c = search rules
+enum_known-r : tie.Need-enum_known-r invariant-loop-i decreases-loop-i
+enum_known-r c = search rules
 
-enum_told : tie.Need-enum-told invariant-loop decreases-loop
-enum_told c = search rules
+enum_told-1 : tie.Need-enum_told-1 invariant-loop-i decreases-loop-i
+enum_told-1 c = search rules
 
-same-length-3 : tie.Need-same-length-3 invariant-loop decreases-loop
-same-length-3 c =
+shape_of-froms-in_default : tie.Need-shape_of-froms-in_default invariant-loop-i decreases-loop-i
+shape_of-froms-in_default c =
+    c.put.auto.froms ∙ c.loop-i.invariant.filling.from_long
+
+shape_of-tos-in_default : tie.Need-shape_of-tos-in_default invariant-loop-i decreases-loop-i
+shape_of-tos-in_default c =
+    c.put.auto.tos ∙ c.loop-i.invariant.filling.to_long
+
+returns-in_default : tie.Need-returns-in_default invariant-loop-i decreases-loop-i
+returns-in_default c =
     let p = c.before.before.before.before.before.before in
-    p.put.auto.1.1.1.1.0 ∙ c.before.before.before.before.before.before.before.before.before.before.before.before.before.before.before.before.loop.invariant.filling.from_long
-
-same-length-4 : tie.Need-same-length-4 invariant-loop decreases-loop
-same-length-4 c =
-    let p = c.before.before.before.before.before.before in
-    p.put.auto.1.1.1.1.1.0 ∙ c.before.before.before.before.before.before.before.before.before.before.before.before.before.before.before.before.loop.invariant.filling.to_long
-
-returns-2 : tie.Need-returns-2 invariant-loop decreases-loop
-returns-2 c =
-    let p = c.before.before.before.before.before.before in
-    let t = p.before.before.before.before in
-    let l = t.before.before.before.before.before.before in
-    let a = l.before.before.before.before.before.before.args in
+    let t = p.before.before.before in
+    let a = c.args in
     filling_broken
-    l.loop.invariant.filling
+    c.loop-i.invariant.filling
     (own t)
-    (left a.u a.v a.from.now a.to.now (l.loop.i + 1))
+    (left a.u a.v a.from.now a.to.now (c.loop-i.i + 1))
     (turn t)
-    (subst (Spreads (own t) l.loop.rows l.loop.froms l.loop.tos p.put.new.1.1.1.1.0 p.put.new.1.1.1.1.1.0) c.enum_told.given.1 p.put.ensures)
+    (subst (Spreads (own t) c.loop-i.rows c.loop-i.froms c.loop-i.tos c.put.new.froms c.put.new.tos) c.in_default.is c.put.ensures)
 
-add-i : tie.Need-overflow-add-i invariant-loop decreases-loop
-add-i c = omega arith
+overflow_add-i : tie.Need-overflow_add-i invariant-loop-i decreases-loop-i
+overflow_add-i c = omega arith
 
-loop-less : tie.Need-loop-smaller invariant-loop decreases-loop
-loop-less c = omega arith
+loop-i-smaller : tie.Need-loop-i-smaller invariant-loop-i decreases-loop-i
+loop-i-smaller c = omega arith
 
-loop-again : tie.Need-loop-preserved invariant-loop decreases-loop
-loop-again c =
+loop-i-preserved : tie.Need-loop-i-preserved invariant-loop-i decreases-loop-i
+loop-i-preserved c =
     let p = c.before.before.before.before.before.before.before in
-    let t = p.before.before.before.before in
-    let l = t.before.before.before.before.before.before in
-    let a = l.before.before.before.before.before.before.args in
+    let t = p.before.before in
+    let a = c.args in
     record {
       onward = omega arith;
       within = omega arith;
       filling =
           filling_step
-          l.loop.invariant.filling
+          c.loop-i.invariant.filling
           (own t)
-          (left a.u a.v a.from.now a.to.now (l.loop.i + 1))
+          (left a.u a.v a.from.now a.to.now (c.loop-i.i + 1))
           (turn t)
-          (subst (Spreads (own t) l.loop.rows l.loop.froms l.loop.tos p.put.new.1.1.1.1.0 p.put.new.1.1.1.1.1.0) c.before.r.given.1 p.put.ensures)
-          p.put.auto.1.1.1.1.0
-          p.put.auto.1.1.1.1.1.0;
+          (subst (Spreads (own t) c.loop-i.rows c.loop-i.froms c.loop-i.tos c.put.new.froms c.put.new.tos) c.in-Rows.is c.put.ensures)
+          c.put.auto.froms
+          c.put.auto.tos;
     }
 
-same-length-5 : tie.Need-same-length-5 invariant-loop decreases-loop
-same-length-5 c = c.before.loop.invariant.filling.from_long
+shape_of-froms : tie.Need-shape_of-froms invariant-loop-i decreases-loop-i
+shape_of-froms c = c.loop-i.invariant.filling.from_long
 
-same-length-6 : tie.Need-same-length-6 invariant-loop decreases-loop
-same-length-6 c = c.before.loop.invariant.filling.to_long
+shape_of-tos : tie.Need-shape_of-tos invariant-loop-i decreases-loop-i
+shape_of-tos c = c.loop-i.invariant.filling.to_long
 
-returns-3 : tie.Need-returns-3 invariant-loop decreases-loop
-returns-3 c =
-    let l = c.before in
-    let a = l.before.before.before.before.before.before.args in
-    filling_end l.loop.invariant.filling (beneath_end (unpack a.u) (unpack a.v) a.from.now a.to.now l.loop.i (omega arith))
+returns : tie.Need-returns invariant-loop-i decreases-loop-i
+returns c =
+    let a = c.args in
+    filling_end c.loop-i.invariant.filling (beneath_end (unpack a.u) (unpack a.v) a.from.now a.to.now c.loop-i.i (omega arith))
 
-pub spread-beneath-spec : {M : Type 1} → statement M
-spread-beneath-spec =
+pub spread_beneath_spec : {M : Type 1} → statement M
+spread_beneath_spec =
     tie.close
     (tie.spec
-    invariant-loop
-    decreases-loop
-    first-after-requires
-    loop-holds
-    mul-begins
-    shared-slice-read-begins
+    invariant-loop-i
+    decreases-loop-i
+    first_after-i-requires
+    loop-i-init
+    offset_bounds-from-i
+    bounds-from-i
     begins-requires
-    same_length
-    same-length-2
-    returns
-    mul-tail
-    shared-slice-read-tail
-    tail-requires
-    mul-put
-    shared-slice-read-put
+    shape_of-froms-then-not-begins
+    shape_of-tos-then-not-begins
+    returns-then-not-begins
+    offset_bounds-from-i-in-loop-i
+    bounds-from-i-in-loop-i
+    tail-tail-requires
+    offset_bounds-to-i
+    bounds-to-i
     put-requires
-    enum-known-r
-    enum_told
-    same-length-3
-    same-length-4
-    returns-2
-    add-i
-    loop-less
-    loop-again
-    same-length-5
-    same-length-6
-    returns-3)
+    enum_known-r
+    enum_told-1
+    shape_of-froms-in_default
+    shape_of-tos-in_default
+    returns-in_default
+    overflow_add-i
+    loop-i-smaller
+    loop-i-preserved
+    shape_of-froms
+    shape_of-tos
+    returns)

@@ -20,151 +20,146 @@ record Following (af at : List ℕ) (b : Table) (froms₀ tos₀ froms tos : Lis
   within : i ≤ length af
   filling : Filling (spread (table af at) b) (spread (table (drop i af) (drop i at)) b) 0 froms₀ tos₀ froms tos rows
 
-abbrev invariant-loop : tie.invariant-loop
-invariant-loop af at bf bt froms₀ tos₀ rows₀ i₀ froms tos rows i = Following af at (table bf bt) froms₀ tos₀ froms tos rows i
+abbrev invariant-loop-i : tie.invariant-loop-i
+invariant-loop-i af at bf bt froms₀ tos₀ rows₀ i₀ froms tos rows i = Following af at (table bf bt) froms₀ tos₀ froms tos rows i
 
-abbrev decreases-loop : tie.decreases-loop
-decreases-loop af at bf bt froms₀ tos₀ rows₀ i₀ froms tos rows i = length af - i
+abbrev decreases-loop-i : tie.decreases-loop-i
+decreases-loop-i af at bf bt froms₀ tos₀ rows₀ i₀ froms tos rows i = length af - i
 
 -- the pairs that a turn writes, and those that are then left
-abbrev own : tie.In-loop invariant-loop decreases-loop → Table
+abbrev own : tie.In-loop-i invariant-loop-i decreases-loop-i → Table
 own c =
-    let l = c.before in
-    let a = l.before.before.before.before.before.before.before.args in
-    spread_pair (table a.b-from.now a.b-to.now) (pair (word_at a.a-from.now l.loop.i) (word_at a.a-to.now l.loop.i))
+    let a = c.args in
+    spread_pair (table a.b_from.now a.b_to.now) (pair (word_at a.a_from.now c.loop-i.i) (word_at a.a_to.now c.loop-i.i))
 
-abbrev left : tie.In-loop invariant-loop decreases-loop → ℕ → Table
+abbrev left : tie.In-loop-i invariant-loop-i decreases-loop-i → ℕ → Table
 left c i =
-    let a = c.before.before.before.before.before.before.before.before.args in
-    spread (table (drop i a.a-from.now) (drop i a.a-to.now)) (table a.b-from.now a.b-to.now)
+    let a = c.args in
+    spread (table (drop i a.a_from.now) (drop i a.a_to.now)) (table a.b_from.now a.b_to.now)
 
-turn : (c : tie.In-loop invariant-loop decreases-loop) → left c c.before.loop.i ≡ own c ++ left c (c.before.loop.i + 1)
+turn : (c : tie.In-loop-i invariant-loop-i decreases-loop-i) → left c c.loop-i.i ≡ own c ++ left c (c.loop-i.i + 1)
 turn c =
-    let l = c.before in
-    let a = l.before.before.before.before.before.before.before.args in
-    ap (λ t. spread t (table a.b-from.now a.b-to.now)) (table_left a.a-from.now a.a-to.now l.loop.i (omega arith) (omega arith))
+    let a = c.args in
+    ap (λ t. spread t (table a.b_from.now a.b_to.now)) (table_left a.a_from.now a.a_to.now c.loop-i.i (omega arith) (omega arith))
 
-loop-holds : tie.Need-loop-init invariant-loop decreases-loop
-loop-holds c =
-    let a = c.before.before.before.before.before.before.args in
-    let whole = spread (table a.a-from.now a.a-to.now) (table a.b-from.now a.b-to.now) in
+loop-i-init : tie.Need-loop-i-init invariant-loop-i decreases-loop-i
+loop-i-init c =
+    let a = c.args in
+    let whole = spread (table a.a_from.now a.a_to.now) (table a.b_from.now a.b_to.now) in
     record { within = omega arith; filling = filling_start whole whole 0 a.froms.now a.tos.now refl }
 
-mul-spread-pair : tie.Need-overflow-mul-spread-pair invariant-loop decreases-loop
-mul-spread-pair c = omega arith
+offset_bounds-a_from-i : tie.Need-offset_bounds-a_from-i invariant-loop-i decreases-loop-i
+offset_bounds-a_from-i c = omega arith
 
-shared-slice-read-spread-pair : tie.Need-shared-slice-read-spread-pair invariant-loop decreases-loop
-shared-slice-read-spread-pair c = omega arith
+bounds-a_from-i : tie.Need-bounds-a_from-i invariant-loop-i decreases-loop-i
+bounds-a_from-i c = omega arith
 
-mul-spread-pair-2 : tie.Need-overflow-mul-spread-pair-2 invariant-loop decreases-loop
-mul-spread-pair-2 c = omega arith
+offset_bounds-a_to-i : tie.Need-offset_bounds-a_to-i invariant-loop-i decreases-loop-i
+offset_bounds-a_to-i c = omega arith
 
-shared-slice-read-spread-pair-2 : tie.Need-shared-slice-read-spread-pair-2 invariant-loop decreases-loop
-shared-slice-read-spread-pair-2 c = omega arith
+bounds-a_to-i : tie.Need-bounds-a_to-i invariant-loop-i decreases-loop-i
+bounds-a_to-i c = omega arith
 
-spread-pair-requires : tie.Need-spread-pair-requires invariant-loop decreases-loop
-spread-pair-requires c κs =
+spread_pair-requires : tie.Need-spread_pair-requires invariant-loop-i decreases-loop-i
+spread_pair-requires c κs =
     let d = c.before.before.before.before in
-    let l = d.before in
-    let s = l.before.before.before.before.before.before.before in
-    let a = s.args in
-    let i = l.loop.i in (
+    let a = c.args in
+    let i = c.loop-i.i in (
       (
-        packed_at a.a-from.now s.requires.0.from_packed i (omega arith),
-        packed_at a.a-to.now s.requires.0.to_packed i (omega arith),
+        packed_at a.a_from.now c.requires.0.from_packed i (omega arith),
+        packed_at a.a_to.now c.requires.0.to_packed i (omega arith),
       ),
-      (s.requires.1.0, filling_room l.loop.invariant.filling (own d) (left d (i + 1)) (turn d) s.requires.1.1),
+      (c.requires.1.0, filling_room c.loop-i.invariant.filling (own d) (left d (i + 1)) (turn d) c.requires.1.1),
     )
 
-enum-known-r : tie.Need-enum-known-r invariant-loop decreases-loop
-enum-known-r c = search rules
+enum_known-r : tie.Need-enum_known-r invariant-loop-i decreases-loop-i
+enum_known-r c = search rules
 
-enum_told : tie.Need-enum-told invariant-loop decreases-loop
-enum_told c = search rules
+enum_told-1 : tie.Need-enum_told-1 invariant-loop-i decreases-loop-i
+enum_told-1 c = search rules
 
 -- what the call of a turn said, of the answer it gave
-abbrev called : tie.After-spread-pair invariant-loop decreases-loop → tie.In-loop invariant-loop decreases-loop
+abbrev called : tie.After-spread_pair invariant-loop-i decreases-loop-i → tie.In-loop-i invariant-loop-i decreases-loop-i
 called c = c.before.before.before.before.before
 
-same_length : tie.Need-same-length invariant-loop decreases-loop
-same_length c =
-    let p = c.before.before.before.before.before.before in
-    p.spread-pair.auto.1.1.1.1.0 ∙ (called p).before.loop.invariant.filling.from_long
+shape_of-froms-in_default : tie.Need-shape_of-froms-in_default invariant-loop-i decreases-loop-i
+shape_of-froms-in_default c =
+    let p = c.before.before.before.before.before in
+    c.spread_pair.auto.froms ∙ (called p).loop-i.invariant.filling.from_long
 
-same-length-2 : tie.Need-same-length-2 invariant-loop decreases-loop
-same-length-2 c =
-    let p = c.before.before.before.before.before.before in
-    p.spread-pair.auto.1.1.1.1.1.0 ∙ (called p).before.loop.invariant.filling.to_long
+shape_of-tos-in_default : tie.Need-shape_of-tos-in_default invariant-loop-i decreases-loop-i
+shape_of-tos-in_default c =
+    let p = c.before.before.before.before.before in
+    c.spread_pair.auto.tos ∙ (called p).loop-i.invariant.filling.to_long
 
-returns : tie.Need-returns invariant-loop decreases-loop
-returns c =
-    let p = c.before.before.before.before.before.before in
+returns-in_default : tie.Need-returns-in_default invariant-loop-i decreases-loop-i
+returns-in_default c =
+    let p = c.before.before.before.before.before in
     let d = called p in
     let l = d.before in
     filling_broken
-    l.loop.inv.filling
+    l.loop-i.invariant.filling
     (own d)
-    (left d (l.loop.i + 1))
+    (left d (l.loop-i.i + 1))
     (turn d)
-    (subst (Spreads (own d) l.loop.rows l.loop.froms l.loop.tos p.spread-pair.new.1.1.1.1.0 p.spread-pair.new.1.1.1.1.1.0) c.enum_told.given.1 p.spread-pair.ensures)
+    (subst (Spreads (own d) l.loop-i.rows l.loop-i.froms l.loop-i.tos c.spread_pair.new.froms c.spread_pair.new.tos) c.in_default.is c.spread_pair.ensures)
 
-add-i : tie.Need-overflow-add-i invariant-loop decreases-loop
-add-i c = omega arith
+overflow_add-i : tie.Need-overflow_add-i invariant-loop-i decreases-loop-i
+overflow_add-i c = omega arith
 
-loop-less : tie.Need-loop-smaller invariant-loop decreases-loop
-loop-less c = omega arith
+loop-i-smaller : tie.Need-loop-i-smaller invariant-loop-i decreases-loop-i
+loop-i-smaller c = omega arith
 
-loop-again : tie.Need-loop-preserved invariant-loop decreases-loop
-loop-again c =
-    let p = c.before.before.before.before.before.before.before in
+loop-i-preserved : tie.Need-loop-i-preserved invariant-loop-i decreases-loop-i
+loop-i-preserved c =
+    let p = c.before.before.before.before.before in
     let d = called p in
     let l = d.before in
     record {
       within = omega arith;
       filling =
           filling_step
-          l.loop.inv.filling
+          l.loop-i.invariant.filling
           (own d)
-          (left d (l.loop.i + 1))
+          (left d (l.loop-i.i + 1))
           (turn d)
-          (subst (Spreads (own d) l.loop.rows l.loop.froms l.loop.tos p.spread-pair.new.1.1.1.1.0 p.spread-pair.new.1.1.1.1.1.0) c.before.r.given.1 p.spread-pair.ensures)
-          p.spread-pair.auto.1.1.1.1.0
-          p.spread-pair.auto.1.1.1.1.1.0;
+          (subst (Spreads (own d) l.loop-i.rows l.loop-i.froms l.loop-i.tos c.spread_pair.new.froms c.spread_pair.new.tos) c.in-Rows.is c.spread_pair.ensures)
+          c.spread_pair.auto.froms
+          c.spread_pair.auto.tos;
     }
 
-same-length-3 : tie.Need-same-length-3 invariant-loop decreases-loop
-same-length-3 c = c.before.loop.invariant.filling.from_long
+shape_of-froms : tie.Need-shape_of-froms invariant-loop-i decreases-loop-i
+shape_of-froms c = c.loop-i.invariant.filling.from_long
 
-same-length-4 : tie.Need-same-length-4 invariant-loop decreases-loop
-same-length-4 c = c.before.loop.invariant.filling.to_long
+shape_of-tos : tie.Need-shape_of-tos invariant-loop-i decreases-loop-i
+shape_of-tos c = c.loop-i.invariant.filling.to_long
 
-returns-2 : tie.Need-returns-2 invariant-loop decreases-loop
-returns-2 c =
-    let l = c.before in
-    let a = l.before.before.before.before.before.before.before.args in
-    let none = drop_of_length-le a.a-from.now c.loop-test.false in
-    filling_end l.loop.invariant.filling (ap (λ f. spread (table f (drop l.loop.i a.a-to.now)) (table a.b-from.now a.b-to.now)) none)
+returns : tie.Need-returns invariant-loop-i decreases-loop-i
+returns c =
+    let a = c.args in
+    let none = drop_of_length-le a.a_from.now c.loop-i-test.false in
+    filling_end c.loop-i.invariant.filling (ap (λ f. spread (table f (drop c.loop-i.i a.a_to.now)) (table a.b_from.now a.b_to.now)) none)
 
-pub spread-plans-spec : {M : Type 1} → statement M
-spread-plans-spec =
+pub spread_plans_spec : {M : Type 1} → statement M
+spread_plans_spec =
     tie.close
     (tie.spec
-    invariant-loop
-    decreases-loop
-    loop-holds
-    mul-spread-pair
-    shared-slice-read-spread-pair
-    mul-spread-pair-2
-    shared-slice-read-spread-pair-2
-    spread-pair-requires
-    enum-known-r
-    enum_told
-    same_length
-    same-length-2
-    returns
-    add-i
-    loop-less
-    loop-again
-    same-length-3
-    same-length-4
-    returns-2)
+    invariant-loop-i
+    decreases-loop-i
+    loop-i-init
+    offset_bounds-a_from-i
+    bounds-a_from-i
+    offset_bounds-a_to-i
+    bounds-a_to-i
+    spread_pair-requires
+    enum_known-r
+    enum_told-1
+    shape_of-froms-in_default
+    shape_of-tos-in_default
+    returns-in_default
+    overflow_add-i
+    loop-i-smaller
+    loop-i-preserved
+    shape_of-froms
+    shape_of-tos
+    returns)

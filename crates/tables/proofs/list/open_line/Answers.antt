@@ -3,19 +3,17 @@
 use Prim.Native.Nat.{ℕ}
 use mathlib.Core.Path.{◌≡◌, subst}
 use mathlib.Core.List.{List, [], ◌∷◌}
-use borrow.Author.Rules.{rules}
 use native.Mathlib.Omega.{arith}
 use Rattle.higman.specs.Text.{tab}
 use Rattle.words.specs.Writing.{Wrote}
 use Rattle.words.proofs.Runs.{wrote_then}
-use Rattle.tables.proofs.list.open_line.Statement.{statement}
-use Rattle.tables.proofs.list.open_line.Tie as tie
+use Rattle.tables.proofs.list.open_line.Goals as goal
 
 -- a field of a byte that is known
 field_of : {b d : ℕ} {l l' : List ℕ} {at e : ℕ} → b ≡ d → Wrote (tab ∷ b ∷ []) l at l' e → Wrote (tab ∷ d ∷ []) l at l' e
 field_of {l = l} {l' = l'} {at = at} {e = e} q w = subst (λ x. Wrote (tab ∷ x ∷ []) l at l' e) q w
 
-returns : tie.Need-returns
+pub returns : goal.returns
 returns c =
     let end = c.before.before in
     let roots = end.before.before.before.before in
@@ -25,25 +23,11 @@ returns c =
     let bytes = letter.before.before in
     wrote_then
     (omega arith)
-    letter.put.ensures
+    c.put-slot_at.ensures
     (wrote_then
     (omega arith)
-    slot.put-field.ensures
+    c.put_field-arity_at.ensures
     (wrote_then
     (omega arith)
-    (field_of bytes.before.byte.ensures arity.put-field2.ensures)
-    (wrote_then (omega arith) (field_of bytes.byte2.ensures roots.put-field3.ensures) end.put2.ensures)))
-
-pub open-line-spec : {M : Type 1} → statement M
-open-line-spec =
-    tie.close
-    (tie.spec
-    (λ c κs. search rules)
-    (λ c κs. search rules)
-    (λ c κs. search rules)
-    (λ c κs. search rules)
-    (λ c κs. search rules)
-    (λ c κs. search rules)
-    (λ c κs. search rules)
-    (λ c. search rules)
-    returns)
+    (field_of c.byte-n.ensures c.put_field-roots_at.ensures)
+    (wrote_then (omega arith) (field_of c.byte-r.ensures c.put_field-end_at.ensures) c.put.ensures)))

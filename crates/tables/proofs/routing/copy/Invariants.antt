@@ -1,0 +1,13 @@
+-- `tables::routing::copy` meets its contract. The invariant: the first i bytes of the tail stand at the start of the output, and the
+-- rest of it is as it was. The measure is what is left of the tail.
+use Prim.Native.Nat.{◌-◌, ◌≤◌}
+use mathlib.Core.Path.{◌≡◌}
+use lib.ListN.{length}
+use lib.Seq.{paste}
+use Rattle.tables.proofs.routing.copy.Given as goal
+
+abbrev pub invariant-loop-i : goal.invariant-loop-i
+invariant-loop-i l = (l.i ≤ length l.tail) × (l.out ≡ paste l.initial.out 0 l.tail l.i) × (length l.out ≡ length l.initial.out)
+
+abbrev pub decreases-loop-i : goal.decreases-loop-i
+decreases-loop-i l = length l.tail - l.i
