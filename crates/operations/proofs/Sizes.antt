@@ -11,10 +11,10 @@ use Rattle.operations.specs.contracts.Plan.{the_row}
 
 module _ (p : Plan) (values : List Val) (good : Is the_row p values) where
   pub from_long : length p.from ≡ 128
-  from_long = sym (length-map p.from (λ (x : ℕ). x)) ∙ good.1.1.1.1.1.0.1.0.1
+  from_long = good.1.1.1.1.1.0.1.0.1
 
   pub to_long : length p.to ≡ 128
-  to_long = sym (length-map p.to (λ (x : ℕ). x)) ∙ good.1.1.1.1.1.1.0.1.0.1
+  to_long = good.1.1.1.1.1.1.0.1.0.1
 
   pub columns_even : length p.from ≡ length p.to
   columns_even = from_long ∙ sym to_long

@@ -79,7 +79,7 @@ gap_unordered s {c} {e} p =
 
 pub fault_unordered : (s : Shape) {c e : List Word} → Permᴰ c e → fault s c ≡ fault s e
 fault_unordered s p =
-    ap₂
+    ap₂ {B = Bool}
     (λ o g. elim o as (λ _. Option Reason) [ true ↦ some Overlap | false ↦ elim g as (λ _. Option Reason) [ true ↦ some Gap | false ↦ none ] ])
     (overlap_unordered p)
     (gap_unordered s p)

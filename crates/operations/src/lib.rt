@@ -19,7 +19,7 @@ pub const MAX_PAIRS: usize = columns::MAX_PAIRS;
 // A shape and the pairs of a plan, or of a draft of one, at the first places of two columns; the other places are zero. Programs in C
 // and Rust hold it too (the crate `plans_c`).
 #[repr(C)]
-#[derive(Drop)]
+#[derive(Clone, Copy)]
 pub struct Plan {
     pub arity: u8,
     pub roots: u8,
@@ -29,7 +29,7 @@ pub struct Plan {
 }
 
 // Whether a plan was made, or the number of the refusal.
-#[derive(Drop)]
+#[derive(Clone, Copy)]
 pub enum Answer {
     Granted,
     Refused(u8),

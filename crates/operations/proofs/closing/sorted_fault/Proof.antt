@@ -13,37 +13,43 @@ use Rattle.operations.proofs.closing.sorted_fault.Statement.{statement}
 use Rattle.operations.proofs.closing.sorted_fault.Tie as tie
 
 -- the column where the first check has passed
-abbrev entry : tie.Else1 → tie.Start
+abbrev entry : tie.Else-overlaps → tie.Start
 entry c = c.before.before.before
 
-no-overlap : (c : tie.Else1) → overlap (words_of (entry c).args.column.now) ≡ false
-no-overlap c = sym c.before.overlaps.ensures ∙ c.if1.false
+no_overlap : (c : tie.Else-overlaps) → overlap (words_of (entry c).args.column.now) ≡ false
+no_overlap c = sym c.overlaps.ensures ∙ c.if-overlaps.false
+
+returns-then-overlaps : tie.Need-returns-then-overlaps
+returns-then-overlaps c =
+    let a = c.args in
+    sym (ap fault_of (fault_overlap (shape a.arity a.roots) (words_of a.column.now) (sym c.overlaps.ensures ∙ c.if-overlaps.true)))
+
+has_gap-requires : tie.Need-has_gap-requires
+has_gap-requires c κs =
+    let z = entry c in
+    let r = in_range (shape z.args.arity z.args.roots) z.requires.1 in
+    ((z.requires.0, no_overlap c), (omega (arith, r.arity_low), r.arity_high, r.roots_high, z.requires.2))
+
+returns-then-has_gap : tie.Need-returns-then-has_gap
+returns-then-has_gap c =
+    let e = c.before.before in
+    let a = (entry e).args in
+    let gap = sym c.has_gap.ensures ∙ c.if-has_gap.true in
+    sym (ap fault_of (fault_gap (shape a.arity a.roots) (words_of a.column.now) (no_overlap e) gap))
 
 returns : tie.Need-returns
 returns c =
-    let o = c.before in
-    let a = o.before.before.args in
-    sym (ap fault_of (fault_overlap (shape a.arity a.roots) (words_of a.column.now) (sym o.overlaps.ensures ∙ c.if1.true)))
-
-has-gap-requires : tie.Need-has-gap-requires
-has-gap-requires c κs =
-    let z = entry c in
-    let r = in_range (shape z.args.arity z.args.roots) z.pre.1 in
-    ((z.pre.0, no-overlap c), (omega (arith, r.arity_low), r.arity_high, r.roots_high, z.pre.2))
-
-returns-2 : tie.Need-returns-2
-returns-2 c =
     let e = c.before.before in
     let a = (entry e).args in
-    let gap = sym c.before.has-gap.ensures ∙ c.if2.true in
-    sym (ap fault_of (fault_gap (shape a.arity a.roots) (words_of a.column.now) (no-overlap e) gap))
+    let no_gap = sym c.has_gap.ensures ∙ c.if-has_gap.false in
+    sym (ap fault_of (fault_none (shape a.arity a.roots) (words_of a.column.now) (no_overlap e) no_gap))
 
-returns-3 : tie.Need-returns-3
-returns-3 c =
-    let e = c.before.before in
-    let a = (entry e).args in
-    let no_gap = sym c.before.has-gap.ensures ∙ c.if2.false in
-    sym (ap fault_of (fault_none (shape a.arity a.roots) (words_of a.column.now) (no-overlap e) no_gap))
-
-pub sorted-fault-spec : {M : Type 1} → statement M
-sorted-fault-spec = tie.close (tie.spec (λ c κs. search rules) returns has-gap-requires returns-2 returns-3)
+pub sorted_fault_spec : {M : Type 1} → statement M
+sorted_fault_spec =
+    tie.close
+    (tie.spec
+    (λ c κs. search rules)
+    returns-then-overlaps
+    has_gap-requires
+    returns-then-has_gap
+    returns)

@@ -1,4 +1,5 @@
 -- `operations::comparing::same` meets its contract: 10, and then whether the pairs are the same.
+use borrow.Author.Rules.{rules}
 use Prim.Native.Nat.{ℕ}
 use mathlib.Core.Path.{◌≡◌, sym, ◌∙◌, ap}
 use mathlib.Core.List.{List}
@@ -16,14 +17,14 @@ use Rattle.operations.proofs.comparing.same.Statement.{statement}
 use Rattle.operations.proofs.comparing.same.Tie as tie
 
 -- where the lent columns are known
-abbrev start : tie.After-shared-slice-known4 → tie.Start
+abbrev start : tie.After-shared_slice_known-4-1 → tie.Start
 start c = c.before.before.before.before
 
 abbrev first : tie.Start → Plan
-first s = let a = s.args in plan_of_columns a.a-arity a.a-roots a.a-from.now a.a-to.now
+first s = let a = s.args in plan_of_columns a.a_arity a.a_roots a.a_from.now a.a_to.now
 
 abbrev second : tie.Start → Plan
-second s = let a = s.args in plan_of_columns a.b-arity a.b-roots a.b-from.now a.b-to.now
+second s = let a = s.args in plan_of_columns a.b_arity a.b_roots a.b_from.now a.b_to.now
 
 -- a table has as many pairs as its columns have places
 table_length : (from to : List ℕ) → length from ≡ length to → length (table from to) ≡ length from
@@ -31,43 +32,50 @@ table_length from to e =
     sym (length-map (table from to) (λ q. q.from)) ∙ ap length (froms_table from to e) ∙ length-map from unpack
 
 -- where the shapes are one
-one_shape : (c : tie.Else2) → (first (start c.before.before)).shape ≡ (second (start c.before.before)).shape
+one_shape : (c : tie.Else-a_roots-b_roots) → (first (start c.before.before)).shape ≡ (second (start c.before.before)).shape
 one_shape c =
-    let arity = c.before.if1.false in
-    let roots = c.if2.false in
+    let arity = c.if-a_arity-b_arity.false in
+    let roots = c.if-a_roots-b_roots.false in
     λ i. record { arity = arity i; roots = roots i }
 
-returns : tie.Need-returns
-returns c =
+returns-then-a_arity-b_arity : tie.Need-returns-then-a_arity-b_arity
+returns-then-a_arity-b_arity c =
     let s = start c.before in
-    not_compared (first s) (second s) (arity_differs (first s).shape (second s).shape c.if1.true)
+    not_compared (first s) (second s) (arity_differs (first s).shape (second s).shape c.if-a_arity-b_arity.true)
 
-returns-2 : tie.Need-returns-2
-returns-2 c =
+returns-then-a_roots-b_roots : tie.Need-returns-then-a_roots-b_roots
+returns-then-a_roots-b_roots c =
     let s = start c.before.before in
-    not_compared (first s) (second s) (roots_differ (first s).shape (second s).shape c.if2.true)
+    not_compared (first s) (second s) (roots_differ (first s).shape (second s).shape c.if-a_roots-b_roots.true)
 
-returns-3 : tie.Need-returns-3
-returns-3 c =
+returns-then-a_from-b_from : tie.Need-returns-then-a_from-b_from
+returns-then-a_from-b_from c =
     let e = c.before in
     let s = start e.before.before in
     let a = s.args in
-    let long = table_length a.a-from.now a.a-to.now s.pre.0.paired in
-    let long' = table_length a.b-from.now a.b-to.now s.pre.1.paired in
-    ap Alike (lengths_differ (first s).rows (second s).rows (λ l. c.if3.true (sym long ∙ l ∙ long')))
+    let long = table_length a.a_from.now a.a_to.now s.requires.0.paired in
+    let long' = table_length a.b_from.now a.b_to.now s.requires.1.paired in
+    ap Alike (lengths_differ (first s).rows (second s).rows (λ l. c.if-a_from-b_from.true (sym long ∙ l ∙ long')))
     ∙ rows_compared (first s) (second s) (one_shape e)
 
-same-pairs-requires : tie.Need-same-pairs-requires
-same-pairs-requires c κs =
+same_pairs-requires : tie.Need-same_pairs-requires
+same_pairs-requires c κs =
     let s = start c.before.before.before in
-    let long = c.if3.false in
-    (s.pre.0.paired, long, long ∙ s.pre.1.paired)
+    let long = c.if-a_from-b_from.false in
+    (s.requires.0.paired, long, long ∙ s.requires.1.paired)
 
-returns-4 : tie.Need-returns-4
-returns-4 c =
+returns : tie.Need-returns
+returns c =
     let e = c.before.before in
     let s = start e.before.before in
     ap Alike c.same_pairs.ensures ∙ rows_compared (first s) (second s) (one_shape e)
 
 pub same_spec : {M : Type 1} → statement M
-same_spec = tie.close (tie.spec returns returns-2 returns-3 same-pairs-requires returns-4)
+same_spec =
+    tie.close
+    (tie.spec
+    returns-then-a_arity-b_arity
+    returns-then-a_roots-b_roots
+    returns-then-a_from-b_from
+    same_pairs-requires
+    returns)

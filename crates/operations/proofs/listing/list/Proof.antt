@@ -15,64 +15,64 @@ use Rattle.operations.proofs.Lists.{list_no_slot, list_no_room, list_written}
 use Rattle.operations.proofs.listing.list.Statement.{statement}
 use Rattle.operations.proofs.listing.list.Tie as tie
 
-abbrev start : tie.After-is-slot → tie.Start
+abbrev start : tie.After-is_slot → tie.Start
 start c = c.before.before.before.before
 
 abbrev plan : tie.Start → Plan
 plan s = let a = s.args in plan_of_columns a.arity a.roots a.from.now a.to.now
 
 -- where the byte is a slot's
-slot : (c : tie.Else1) → is_slot (start c.before).args.slot ≡ true
-slot c = sym c.before.is-slot.ensures ∙ not-false c.before.is-slot.result c.if1.false
+slot : (c : tie.Else-not-is_slot) → is_slot (start c.before).args.slot ≡ true
+slot c = sym c.is_slot.ensures ∙ c.if-not-is_slot.false
 
 -- where the length of the listing was found
-abbrev asked : tie.After-listing-length → tie.Start
+abbrev asked : tie.After-listing_length-bytes → tie.Start
 asked c = start c.before.before
 
-counted : (c : tie.After-listing-length) → c.listing-length.result ≡ length (listing (asked c).args.slot (plan (asked c)))
-counted c = let a = (asked c).args in c.listing-length.ensures a.slot (shape a.arity a.roots)
+counted : (c : tie.After-listing_length-bytes) → c.listing_length-bytes.result ≡ length (listing (asked c).args.slot (plan (asked c)))
+counted c = let a = (asked c).args in c.listing_length-bytes.ensures a.slot (shape a.arity a.roots)
 
-returns : tie.Need-returns
-returns c =
+returns-then-not-is_slot : tie.Need-returns-then-not-is_slot
+returns-then-not-is_slot c =
     let i = c.before in
     let s = start i in
-    list_no_slot (plan s) s.args.slot s.args.out.now (sym i.is-slot.ensures ∙ not-true i.is-slot.result c.if1.true)
+    list_no_slot (plan s) s.args.slot s.args.out.now (sym c.is_slot.ensures ∙ c.if-not-is_slot.true)
 
-listing-length-requires : tie.Need-listing-length-requires
-listing-length-requires c κs =
+listing_length-bytes-requires : tie.Need-listing_length-bytes-requires
+listing_length-bytes-requires c κs =
     let s = start c.before in
     let a = s.args in
-    (s.pre.paired, lent_few a.arity a.roots a.from.now a.to.now s.pre)
+    (s.requires.paired, lent_few a.arity a.roots a.from.now a.to.now s.requires)
 
-returns-2 : tie.Need-returns-2
-returns-2 c =
+returns-then-out-bytes : tie.Need-returns-then-out-bytes
+returns-then-out-bytes c =
     let n = c.before in
     let s = asked n in
     list_no_room (plan s) s.args.slot s.args.out.now (slot n.before) (omega (arith, counted n))
 
-list-into-requires : tie.Need-list-into-requires
-list-into-requires c κs =
+list_into-end-requires : tie.Need-list_into-end-requires
+list_into-end-requires c κs =
     let n = c.before.before in
     let s = asked n in
-    let range = in_range (shape s.args.arity s.args.roots) s.pre.kept.in_range in
-    (range.arity_high, range.roots_high, s.pre.paired, omega (arith, counted n))
+    let range = in_range (shape s.args.arity s.args.roots) s.requires.kept.in_range in
+    (range.arity_high, range.roots_high, s.requires.paired, omega (arith, counted n))
 
-returns-3 : tie.Need-returns-3
-returns-3 c =
+returns : tie.Need-returns
+returns c =
     let l = c.before.before in
     let n = l.before.before.before in
     let s = asked n in
-    list_written (plan s) s.args.slot s.args.out.now (slot n.before) (omega (arith, counted n)) l.list-into.result
-    l.list-into.new.1.1.1.1.1.0 l.list-into.ensures
+    list_written (plan s) s.args.slot s.args.out.now (slot n.before) (omega (arith, counted n)) c.list_into-end.result
+    c.list_into-end.new.out c.list_into-end.ensures
 
-pub list-spec : {M : Type 1} → statement M
-list-spec =
+pub list_spec : {M : Type 1} → statement M
+list_spec =
     tie.close
     (tie.spec
     (λ c κs. search rules)
-    returns
-    listing-length-requires
-    returns-2
-    list-into-requires
+    returns-then-not-is_slot
+    listing_length-bytes-requires
+    returns-then-out-bytes
+    list_into-end-requires
     (λ c. search rules)
-    returns-3)
+    returns)

@@ -16,74 +16,74 @@ use Rattle.operations.proofs.Codes.{route_no_code, code_digits, replied, route_f
 use Rattle.operations.proofs.routing.route.Statement.{statement}
 use Rattle.operations.proofs.routing.route.Tie as tie
 
-abbrev start : tie.After-is-code → tie.Start
+abbrev start : tie.After-is_code → tie.Start
 start c = c.before.before.before.before.before
 
 abbrev plan : tie.Start → Plan
 plan s = let a = s.args in plan_of_columns a.arity a.roots a.from.now a.to.now
 
 -- where the code is one that the plan routes
-code : (c : tie.Else1) →
+code : (c : tie.Else-not-is_code) →
     let a = (start c.before).args in
     is_code (shape a.arity a.roots) (word_of a.code.now) ≡ true
-code c = sym c.before.is_code.ensures ∙ not-false c.before.is_code.result c.if1.false
+code c = sym c.is_code.ensures ∙ c.if-not-is_code.false
 
 -- the reply to what was found, and the buffer
-found : (c : tie.After-route-into) →
+found : (c : tie.After-route_into) →
     let s = start c.before.before.before in
-    (replied c.route-into.result ≡ routing_by (plan s) (word_of s.args.code.now) (length s.args.out.now))
-    × (c.route-into.new.1.1.1.0 ≡ image_into (routed (plan s) (word_of s.args.code.now)) s.args.out.now)
+    (replied c.route_into.result ≡ routing_by (plan s) (word_of s.args.code.now) (length s.args.out.now))
+    × (c.route_into.new.out ≡ image_into (routed (plan s) (word_of s.args.code.now)) s.args.out.now)
 found c =
     let e = c.before.before in
     let s = start e.before in
     let a = s.args in
-    route_found a.arity a.roots a.from.now a.to.now s.pre a.code.now (code e) a.out.now c.route-into.result
-    c.route-into.new.1.1.1.0 c.route-into.ensures.0 c.route-into.ensures.1
+    route_found a.arity a.roots a.from.now a.to.now s.requires a.code.now (code e) a.out.now c.route_into.result
+    c.route_into.new.out c.route_into.ensures.0 c.route_into.ensures.1
 
-returns : tie.Need-returns
-returns c =
+returns-then-not-is_code : tie.Need-returns-then-not-is_code
+returns-then-not-is_code c =
     let i = c.before in
     let s = start i in
     let a = s.args in
-    route_no_code a.arity a.roots a.from.now a.to.now s.pre a.code.now a.out.now
-    (sym i.is_code.ensures ∙ not-true i.is_code.result c.if1.true)
+    route_no_code a.arity a.roots a.from.now a.to.now s.requires a.code.now a.out.now
+    (sym c.is_code.ensures ∙ c.if-not-is_code.true)
 
-route-into-requires : tie.Need-route-into-requires
-route-into-requires c κs =
+route_into-requires : tie.Need-route_into-requires
+route_into-requires c κs =
     let s = start c.before.before in
     let a = s.args in (
-      lent_operand a.arity a.roots a.from.now a.to.now s.pre,
-      code_digits a.arity a.roots a.from.now a.to.now s.pre a.code.now (code c.before),
+      lent_operand a.arity a.roots a.from.now a.to.now s.requires,
+      code_digits a.arity a.roots a.from.now a.to.now s.requires a.code.now (code c.before),
     )
 
-returns-2 : tie.Need-returns-2
-returns-2 c =
-    let r = c.before.before.before.before.before in
-    (ap replied (sym c.before.digits.given.1) ∙ (found r).0, (found r).1)
+returns-in-Image : tie.Need-returns-in-Image
+returns-in-Image c =
+    let r = c.before.before.before in
+    (ap replied (sym c.in-Image.is) ∙ (found r).0, (found r).1)
 
-returns-3 : tie.Need-returns-3
-returns-3 c =
-    let r = c.before.before.before.before in
-    (ap replied (sym c.enum_told.given.1) ∙ (found r).0, (found r).1)
+returns-in-TooShort : tie.Need-returns-in-TooShort
+returns-in-TooShort c =
+    let r = c.before.before.before in
+    (ap replied (sym c.in-TooShort.is) ∙ (found r).0, (found r).1)
 
-returns-4 : tie.Need-returns-4
-returns-4 c =
-    let r = c.before.before.before.before in
-    (ap replied (sym c.enum-told2.given.1) ∙ (found r).0, (found r).1)
+returns-in-NoRoom : tie.Need-returns-in-NoRoom
+returns-in-NoRoom c =
+    let r = c.before.before.before in
+    (ap replied (sym c.in-NoRoom.is) ∙ (found r).0, (found r).1)
 
-pub route-spec : {M : Type 1} → statement M
-route-spec =
+pub route_spec : {M : Type 1} → statement M
+route_spec =
     tie.close
     (tie.spec
     (λ c κs. search rules)
-    returns
-    route-into-requires
+    returns-then-not-is_code
+    route_into-requires
     (λ c. search rules)
     (λ c. search rules)
     (λ c. search rules)
     (λ c. search rules)
-    returns-2
+    returns-in-Image
     (λ c. search rules)
-    returns-3
+    returns-in-TooShort
     (λ c. search rules)
-    returns-4)
+    returns-in-NoRoom)
