@@ -38,7 +38,7 @@ pub const MAX_CHANGES: u32 = 4_000_000_000;
 
 // The shape and the number of pairs of what a block holds; a slot that holds no plan has no pairs.
 #[repr(C)]
-#[derive(Drop)]
+#[derive(Clone, Copy)]
 pub struct Size {
     pub arity: u8,
     pub roots: u8,
@@ -48,7 +48,7 @@ pub struct Size {
 // What a desk keeps beside its plans: the station that is named, "a count of changes" for each station (change request E5), for each
 // station but 0 its rights on the slots (change request E6), and the sum of the pairs in all slots (change request E8).
 #[repr(C)]
-#[derive(Drop)]
+#[derive(Clone, Copy)]
 pub struct Control {
     pub station: u32,
     pub changes: [u32; STATIONS],

@@ -18,36 +18,36 @@ use Rattle.operations.specs.Plans.{zeros, is_column}
 use Rattle.plans.proofs.drafts.is_column.Statement.{statement}
 use Rattle.plans.proofs.drafts.is_column.Tie as tie
 
-column-fails : (s : Shape) (n : ℕ) (l : List ℕ) → zeros (drop n l) ≡ false → is_column s n l ≡ false
-column-fails s n l e = ap (λ t. t && all (is_plan_word s) (words_of (take n l))) e
+column_fails : (s : Shape) (n : ℕ) (l : List ℕ) → zeros (drop n l) ≡ false → is_column s n l ≡ false
+column_fails s n l e = ap (λ t. t && all (is_plan_word s) (words_of (take n l))) e
 
-column-passes : (s : Shape) (n : ℕ) (l : List ℕ) → zeros (drop n l) ≡ true → is_column s n l ≡ all (is_plan_word s) (words_of (take n l))
-column-passes s n l e = ap (λ t. t && all (is_plan_word s) (words_of (take n l))) e
+column_passes : (s : Shape) (n : ℕ) (l : List ℕ) → zeros (drop n l) ≡ true → is_column s n l ≡ all (is_plan_word s) (words_of (take n l))
+column_passes s n l e = ap (λ t. t && all (is_plan_word s) (words_of (take n l))) e
 
 -- the part behind the first n numbers is all that is left
-behind : (c : tie.After-are-zeros) → let a = c.before.before.before.args in zeros (drop a.n a.column.now) ≡ c.are-zeros.result
+behind : (c : tie.After-are_zeros) → let a = c.args in zeros (drop a.n a.column.now) ≡ c.are_zeros.result
 behind c =
-    let a = c.before.before.before.args in
+    let a = c.args in
     let rest : length (drop a.n a.column.now) ≤ length a.column.now - a.n = omega (arith, length-drop a.n a.column.now) in
-    sym (c.are-zeros.ensures ∙ ap zeros (take_all (length a.column.now - a.n) (drop a.n a.column.now) rest))
+    sym (c.are_zeros.ensures ∙ ap zeros (take_all (length a.column.now - a.n) (drop a.n a.column.now) rest))
+
+returns-then-not-are_zeros : tie.Need-returns-then-not-are_zeros
+returns-then-not-are_zeros c =
+    let call = c.before in
+    let a = c.args in
+    sym (column_fails (shape a.arity a.roots) a.n a.column.now (behind call ∙ c.if-not-are_zeros.true))
+
+slice_bounds-are_words-end : tie.Need-slice_bounds-are_words-end
+slice_bounds-are_words-end c = simp length-take (omega arith)
 
 returns : tie.Need-returns
 returns c =
-    let call = c.before in
-    let a = call.before.before.before.args in
-    sym (column-fails (shape a.arity a.roots) a.n a.column.now (behind call ∙ not-true call.are-zeros.result c.if1.true))
+    let call = c.before.before in
+    let a = c.args in
+    c.are_words.ensures ∙ sym (column_passes (shape a.arity a.roots) a.n a.column.now (behind call ∙ c.if-not-are_zeros.false))
 
-slice-aggregate-are-words : tie.Need-slice-aggregate-are-words
-slice-aggregate-are-words c = simp length-take (omega arith)
-
-returns-2 : tie.Need-returns-2
-returns-2 c =
-    let call = c.before.before.before in
-    let a = call.before.before.before.args in
-    c.are_words.ensures ∙ sym (column-passes (shape a.arity a.roots) a.n a.column.now (behind call ∙ not-false call.are-zeros.result c.before.before.if1.false))
-
-pub is-column-spec : {M : Type 1} → statement M
-is-column-spec =
+pub is_column_spec : {M : Type 1} → statement M
+is_column_spec =
     tie.close
     (tie.spec
     (λ c. search rules)
@@ -55,7 +55,7 @@ is-column-spec =
     (λ c. search rules)
     (λ c. search rules)
     (λ c κs. search rules)
-    returns
-    slice-aggregate-are-words
+    returns-then-not-are_zeros
+    slice_bounds-are_words-end
     (λ c κs. search rules)
-    returns-2)
+    returns)

@@ -14,38 +14,37 @@ use Rattle.plans.proofs.listing.list.Statement.{statement}
 use Rattle.plans.proofs.listing.list.Tie as tie
 
 -- where the value is a plan
-abbrev called : tie.Else1 → tie.Start
+abbrev called : tie.Else-not-is_plan → tie.Start
 called c = c.before.before.before
 
-plan : (c : tie.Else1) → is_plan (called c).args.p ≡ true
-plan c = sym c.before.is_plan_fact.ensures ∙ not-false c.before.is_plan_fact.result c.if1.false
+plan : (c : tie.Else-not-is_plan) → is_plan (called c).args.p ≡ true
+plan c = sym c.is_plan.ensures ∙ c.if-not-is_plan.false
 
-from_room : (c : tie.Else1) → (called c).args.p.pairs ≤ length (called c).args.p.from
-from_room c = K.from_room (called c).args.p (plan c) _ (called c).well_formed_lem.0
+from_room : (c : tie.Else-not-is_plan) → (called c).args.p.pairs ≤ length (called c).args.p.from
+from_room c = K.from_room (called c).args.p (plan c) _ (called c).well_formed.0
 
-to_room : (c : tie.Else1) → (called c).args.p.pairs ≤ length (called c).args.p.to
-to_room c = K.to_room (called c).args.p (plan c) _ (called c).well_formed_lem.0
+to_room : (c : tie.Else-not-is_plan) → (called c).args.p.pairs ≤ length (called c).args.p.to
+to_room c = K.to_room (called c).args.p (plan c) _ (called c).well_formed.0
 
-returns : tie.Need-returns
-returns c =
-    let i = c.before in
-    let a = i.before.before.args in
-    listing_no_plan a.p a.slot a.out.now (sym i.is_plan_fact.ensures ∙ not-true i.is_plan_fact.result c.if1.true)
+returns-then-not-is_plan : tie.Need-returns-then-not-is_plan
+returns-then-not-is_plan c =
+    let a = c.args in
+    listing_no_plan a.p a.slot a.out.now (sym c.is_plan.ensures ∙ c.if-not-is_plan.true)
 
-array-share-prefix-from : tie.Need-array-share-prefix-from
-array-share-prefix-from c = from_room c.before.before
+slice_bounds-from-end : tie.Need-slice_bounds-from-end
+slice_bounds-from-end c = from_room c.before.before
 
-slice-aggregate-list : tie.Need-slice-aggregate-list
-slice-aggregate-list c =
+slice_bounds-list-end : tie.Need-slice_bounds-list-end
+slice_bounds-list-end c =
     let e = c.before.before.before in
     let p = (called e).args.p in
     sym (length-take-le p.pairs p.from (from_room e))
 
-array-share-prefix-to : tie.Need-array-share-prefix-to
-array-share-prefix-to c = to_room c.before.before.before
+slice_bounds-to-end : tie.Need-slice_bounds-to-end
+slice_bounds-to-end c = to_room c.before.before.before
 
-slice-aggregate-list-2 : tie.Need-slice-aggregate-list-2
-slice-aggregate-list-2 c =
+slice_bounds-list-end-2 : tie.Need-slice_bounds-list-end-2
+slice_bounds-list-end-2 c =
     let e = c.before.before.before.before in
     let p = (called e).args.p in
     sym (length-take-le p.pairs p.to (to_room e))
@@ -55,23 +54,23 @@ list-requires c κs =
     let e = c.before.before.before.before.before in
     lent (called e).args.p (plan e) (from_room e) (to_room e)
 
-returns-2 : tie.Need-returns-2
-returns-2 c =
+returns : tie.Need-returns
+returns c =
     let l = c.before.before in
     let e = l.before.before.before.before.before.before in
     let a = (called e).args in
-    listing_plan a.p a.slot a.out.now (plan e) l.list.result l.list.new.1.1.1.1.1.0 l.list.ensures
+    listing_plan a.p a.slot a.out.now (plan e) c.list.result c.list.new.out c.list.ensures
 
-pub list-spec : {M : Type 1} → statement M
-list-spec =
+pub list_spec : {M : Type 1} → statement M
+list_spec =
     tie.close
     (tie.spec
     (λ c κs. search rules)
-    returns
-    array-share-prefix-from
-    slice-aggregate-list
-    array-share-prefix-to
-    slice-aggregate-list-2
+    returns-then-not-is_plan
+    slice_bounds-from-end
+    slice_bounds-list-end
+    slice_bounds-to-end
+    slice_bounds-list-end-2
     list-requires
     (λ c. search rules)
-    returns-2)
+    returns)

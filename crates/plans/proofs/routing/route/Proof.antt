@@ -15,38 +15,37 @@ use Rattle.plans.proofs.routing.route.Statement.{statement}
 use Rattle.plans.proofs.routing.route.Tie as tie
 
 -- where the value is a plan
-abbrev called : tie.Else1 → tie.Start
+abbrev called : tie.Else-not-is_plan → tie.Start
 called c = c.before.before.before.before
 
-plan : (c : tie.Else1) → is_plan (called c).args.p ≡ true
-plan c = sym c.before.is_plan_fact.ensures ∙ not-false c.before.is_plan_fact.result c.if1.false
+plan : (c : tie.Else-not-is_plan) → is_plan (called c).args.p ≡ true
+plan c = sym c.is_plan.ensures ∙ c.if-not-is_plan.false
 
-from_room : (c : tie.Else1) → (called c).args.p.pairs ≤ length (called c).args.p.from
-from_room c = K.from_room (called c).args.p (plan c) _ (called c).well_formed_lem.0
+from_room : (c : tie.Else-not-is_plan) → (called c).args.p.pairs ≤ length (called c).args.p.from
+from_room c = K.from_room (called c).args.p (plan c) _ (called c).well_formed.0
 
-to_room : (c : tie.Else1) → (called c).args.p.pairs ≤ length (called c).args.p.to
-to_room c = K.to_room (called c).args.p (plan c) _ (called c).well_formed_lem.0
+to_room : (c : tie.Else-not-is_plan) → (called c).args.p.pairs ≤ length (called c).args.p.to
+to_room c = K.to_room (called c).args.p (plan c) _ (called c).well_formed.0
 
-returns : tie.Need-returns
-returns c =
-    let i = c.before in
-    let a = i.before.before.before.args in
-    routing_no_plan a.p a.code.now a.out.now (sym i.is_plan_fact.ensures ∙ not-true i.is_plan_fact.result c.if1.true)
+returns-then-not-is_plan : tie.Need-returns-then-not-is_plan
+returns-then-not-is_plan c =
+    let a = c.args in
+    routing_no_plan a.p a.code.now a.out.now (sym c.is_plan.ensures ∙ c.if-not-is_plan.true)
 
-array-share-prefix-from : tie.Need-array-share-prefix-from
-array-share-prefix-from c = from_room c.before.before
+slice_bounds-from-end : tie.Need-slice_bounds-from-end
+slice_bounds-from-end c = from_room c.before.before
 
-slice-aggregate-route : tie.Need-slice-aggregate-route
-slice-aggregate-route c =
+slice_bounds-route-end : tie.Need-slice_bounds-route-end
+slice_bounds-route-end c =
     let e = c.before.before.before in
     let p = (called e).args.p in
     sym (length-take-le p.pairs p.from (from_room e))
 
-array-share-prefix-to : tie.Need-array-share-prefix-to
-array-share-prefix-to c = to_room c.before.before.before
+slice_bounds-to-end : tie.Need-slice_bounds-to-end
+slice_bounds-to-end c = to_room c.before.before.before
 
-slice-aggregate-route-2 : tie.Need-slice-aggregate-route-2
-slice-aggregate-route-2 c =
+slice_bounds-route-end-2 : tie.Need-slice_bounds-route-end-2
+slice_bounds-route-end-2 c =
     let e = c.before.before.before.before in
     let p = (called e).args.p in
     sym (length-take-le p.pairs p.to (to_room e))
@@ -56,25 +55,25 @@ route-requires c κs =
     let e = c.before.before.before.before.before in
     lent (called e).args.p (plan e) (from_room e) (to_room e)
 
-returns-2 : tie.Need-returns-2
-returns-2 c =
+returns : tie.Need-returns
+returns c =
     let r = c.before.before in
     let e = r.before.before.before.before.before.before in
     let a = (called e).args in (
-      r.route.ensures.0 ∙ routing_plan a.p a.code.now (plan e) (length a.out.now),
-      r.route.ensures.1 ∙ buffer_plan a.p a.code.now (plan e) a.out.now,
+      c.route.ensures.0 ∙ routing_plan a.p a.code.now (plan e) (length a.out.now),
+      c.route.ensures.1 ∙ buffer_plan a.p a.code.now (plan e) a.out.now,
     )
 
-pub route-spec : {M : Type 1} → statement M
-route-spec =
+pub route_spec : {M : Type 1} → statement M
+route_spec =
     tie.close
     (tie.spec
     (λ c κs. search rules)
-    returns
-    array-share-prefix-from
-    slice-aggregate-route
-    array-share-prefix-to
-    slice-aggregate-route-2
+    returns-then-not-is_plan
+    slice_bounds-from-end
+    slice_bounds-route-end
+    slice_bounds-to-end
+    slice_bounds-route-end-2
     route-requires
     (λ c. search rules)
-    returns-2)
+    returns)

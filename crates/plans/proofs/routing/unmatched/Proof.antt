@@ -18,31 +18,30 @@ use Rattle.plans.proofs.routing.unmatched.Statement.{statement}
 use Rattle.plans.proofs.routing.unmatched.Tie as tie
 
 -- where the value is a plan
-abbrev called : tie.Else1 → tie.Start
+abbrev called : tie.Else-not-is_plan → tie.Start
 called c = c.before.before.before
 
-plan : (c : tie.Else1) → is_plan (called c).args.p ≡ true
-plan c = sym c.before.is_plan_fact.ensures ∙ not-false c.before.is_plan_fact.result c.if1.false
+plan : (c : tie.Else-not-is_plan) → is_plan (called c).args.p ≡ true
+plan c = sym c.is_plan.ensures ∙ c.if-not-is_plan.false
 
-from_room : (c : tie.Else1) → (called c).args.p.pairs ≤ length (called c).args.p.from
-from_room c = K.from_room (called c).args.p (plan c) _ (called c).well_formed_lem.0
+from_room : (c : tie.Else-not-is_plan) → (called c).args.p.pairs ≤ length (called c).args.p.from
+from_room c = K.from_room (called c).args.p (plan c) _ (called c).well_formed.0
 
-to_room : (c : tie.Else1) → (called c).args.p.pairs ≤ length (called c).args.p.to
-to_room c = K.to_room (called c).args.p (plan c) _ (called c).well_formed_lem.0
+to_room : (c : tie.Else-not-is_plan) → (called c).args.p.pairs ≤ length (called c).args.p.to
+to_room c = K.to_room (called c).args.p (plan c) _ (called c).well_formed.0
 
-returns : tie.Need-returns
-returns c =
-    let i = c.before in
-    let a = i.before.before.args in
-    let refused = sym i.is_plan_fact.ensures ∙ not-true i.is_plan_fact.result c.if1.true in
+returns-then-not-is_plan : tie.Need-returns-then-not-is_plan
+returns-then-not-is_plan c =
+    let a = c.args in
+    let refused = sym c.is_plan.ensures ∙ c.if-not-is_plan.true in
     let whole = whole_code (matched a.p a.code.now) a.code.now a.code.ref_ptr (matched_no_plan a.p a.code.now refused) in
     (whole.0, (whole.1, sym (place_no_plan a.p a.code.now refused)))
 
-array-share-prefix-from : tie.Need-array-share-prefix-from
-array-share-prefix-from c = from_room c.before
+slice_bounds-from-end : tie.Need-slice_bounds-from-end
+slice_bounds-from-end c = from_room c.before
 
-slice-aggregate-unmatched : tie.Need-slice-aggregate-unmatched
-slice-aggregate-unmatched c =
+slice_bounds-unmatched-end : tie.Need-slice_bounds-unmatched-end
+slice_bounds-unmatched-end c =
     let e = c.before.before in
     let p = (called e).args.p in
     sym (length-take-le p.pairs p.from (from_room e))
@@ -53,25 +52,25 @@ unmatched-requires c κs =
     let p = (called e).args.p in
     (take p.pairs p.to, lent p (plan e) (from_room e) (to_room e))
 
-returns-2 : tie.Need-returns-2
-returns-2 c =
+returns : tie.Need-returns
+returns c =
     let e = c.before.before.before.before in
     let a = (called e).args in
     let found = matched_plan a.p a.code.now (plan e) (from_room e) (to_room e) in (
       c.unmatched.ensures.0 ∙ ap (λ n. drop n a.code.now) found,
       (
-        c.unmatched.ensures.1.0 ∙ ap (λ n. further n a.code.ptr) found,
+        c.unmatched.ensures.1.0 ∙ ap (λ n. further n a.code.ref_ptr) found,
         c.unmatched.ensures.1.1 ∙ place_plan a.p a.code.now (plan e) (from_room e) (to_room e),
       ),
     )
 
-pub unmatched-spec : {M : Type 1} → statement M
-unmatched-spec =
+pub unmatched_spec : {M : Type 1} → statement M
+unmatched_spec =
     tie.close
     (tie.spec
     (λ c κs. search rules)
-    returns
-    array-share-prefix-from
-    slice-aggregate-unmatched
+    returns-then-not-is_plan
+    slice_bounds-from-end
+    slice_bounds-unmatched-end
     unmatched-requires
-    returns-2)
+    returns)

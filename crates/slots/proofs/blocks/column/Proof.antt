@@ -14,7 +14,7 @@ use Rattle.slots.proofs.blocks.column.Tie as tie
 -- the part that is copied is a whole column
 whole : (c : tie.After-part) → length c.part.result.now ≡ max_pairs
 whole c =
-    let a = c.before.before.args in
+    let a = c.args in
     ap length c.part.ensures ∙ length-take-le 128 (drop a.at a.columns.now) (omega (arith, length-drop a.at a.columns.now)) ∙ sym pair_limit
 
 padded-requires : tie.Need-padded-requires
@@ -24,10 +24,15 @@ returns : tie.Need-returns
 returns c =
     let p = c.before in
     c.padded.ensures
-    ∙ ap (λ n. filling n p.part.result.now) (sym pair_limit)
-    ∙ filling_full p.part.result.now (whole p)
-    ∙ p.part.ensures
-    ∙ ap (λ n. take n (drop p.before.before.args.at p.before.before.args.columns.now)) (sym pair_limit)
+    ∙ ap (λ n. filling n c.part.result.now) (sym pair_limit)
+    ∙ filling_full c.part.result.now (whole p)
+    ∙ c.part.ensures
+    ∙ ap (λ n. take n (drop c.args.at c.args.columns.now)) (sym pair_limit)
 
-pub column-spec : {M : Type 1} → statement M
-column-spec = tie.close (tie.spec (λ c κs. search rules) padded-requires returns)
+pub column_spec : {M : Type 1} → statement M
+column_spec =
+    tie.close
+    (tie.spec
+    (λ c κs. search rules)
+    padded-requires
+    returns)
