@@ -58,7 +58,7 @@ pub struct Control {
 
 // What is known of a desk beside its words: the sizes of the blocks, whether a plan is open and for which slot, and what it keeps beside
 // its plans.
-#[derive(Drop)]
+#[derive(Clone, Copy)]
 pub struct Head {
     pub sizes: [Size; BLOCKS],
     pub is_open: bool,

@@ -10,60 +10,60 @@ use Rattle.asking.proofs.write_block.Statement.{statement}
 use Rattle.asking.proofs.write_block.Tie as tie
 
 -- the run of pairs is found
-abbrev start : tie.After-extending → tie.Start
+abbrev start : tie.After-extending-run → tie.Start
 start c = c.before.before.before.before.before.before
 
 -- and lent to be written
-abbrev found : tie.After-block-lines-arg3 → tie.After-extending
+abbrev found : tie.After-block_lines-arg-3-1 → tie.After-extending-run
 found c = c.before.before.before
 
-extending : (c : tie.After-extending) →
+extending : (c : tie.After-extending-run) →
     let a = (start c).args in
-    Extending a.from.now (word_of a.code.now) c.extending.result.start c.extending.result.end
+    Extending a.from.now (word_of a.code.now) c.extending-run.result.start c.extending-run.result.end
 extending c =
-    front_whole (start c).requires c.before.front.result c.extending.result.start c.extending.result.end c.before.front.ensures
-    c.extending.ensures
+    front_whole (start c).requires c.front.result c.extending-run.result.start c.extending-run.result.end c.front.ensures
+    c.extending-run.ensures
 
 front-requires : tie.Need-front-requires
-front-requires c κs = front_digits c.before.before.before.before.requires
+front-requires c κs = front_digits c.requires
 
-extending-requires : tie.Need-extending-requires
-extending-requires c κs = front_sorted c.before.before.before.before.before.requires
+extending-run-requires : tie.Need-extending-run-requires
+extending-run-requires c κs = front_sorted c.requires
 
-add-block-lines : tie.Need-overflow-add-block-lines
+overflow_add-start : tie.Need-overflow_add-start
 unfolding max_pairs
-add-block-lines c = let x = c.before.before in omega (arith, start_few (start x).requires (extending x))
+overflow_add-start c = let x = c.before.before in omega (arith, start_few (start x).requires (extending x))
 
-block-lines-requires : tie.Need-block-lines-requires
-block-lines-requires c κs =
+block_lines-used-requires : tie.Need-block_lines-used-requires
+block_lines-used-requires c κs =
     let x = found c in
-    lines_fit (start x).pre (extending x)
+    lines_fit (start x).requires (extending x)
 
-cast-ok-number : tie.Need-overflow-cast-ok-number
+overflow_cast-end : tie.Need-overflow_cast-end
 unfolding max_pairs
-cast-ok-number c =
+overflow_cast-end c =
     let x = found c.before.before.before in
-    omega (arith, run_few (start x).pre (extending x))
+    omega (arith, run_few (start x).requires (extending x))
 
-ok-number-requires : tie.Need-ok-number-requires
-ok-number-requires c κs =
+ok_number-requires : tie.Need-ok_number-requires
+ok_number-requires c κs =
     let l = c.before.before.before in
     let x = found l.before in
-    count_room (start x).pre (extending x) l.block_lines_lem.ensures
+    count_room (start x).requires (extending x) c.block_lines-used.ensures
 
 returns : tie.Need-returns
 returns c =
     let o = c.before.before in
     let l = o.before.before.before.before in
     let x = found l.before in
-    block_wrote (start x).pre (extending x) l.block_lines_lem.ensures o.ok_number_fact.ensures
+    block_wrote (start x).requires (extending x) c.block_lines-used.ensures c.ok_number.ensures
 
-pub write-block-spec : {M : Type 1} → statement M
-write-block-spec =
+pub write_block_spec : {M : Type 1} → statement M
+write_block_spec =
     tie.close
     (tie.spec
     front-requires
-    extending-requires
+    extending-run-requires
     (λ c. search rules)
     (λ c. search rules)
     (λ c. search rules)
@@ -72,10 +72,10 @@ write-block-spec =
     (λ c. search rules)
     (λ c. search rules)
     (λ c. search rules)
-    add-block-lines
-    block-lines-requires
+    overflow_add-start
+    block_lines-used-requires
     (λ c. search rules)
-    cast-ok-number
-    ok-number-requires
+    overflow_cast-end
+    ok_number-requires
     (λ c. search rules)
     returns)

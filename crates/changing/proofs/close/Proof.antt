@@ -26,7 +26,7 @@ use Rattle.changing.proofs.Drafts.{open_draft, draft_columns, granted_injective,
 use Rattle.changing.proofs.close.Statement.{statement}
 use Rattle.changing.proofs.close.Tie as tie
 
-abbrev start : tie.Else1 → tie.Start
+abbrev start : tie.Else-not-head → tie.Start
 start c = c.before.before.before
 
 abbrev desk : tie.Start → Desk
@@ -39,92 +39,91 @@ value s = value_at s.args.head s.args.columns.now draft_block
 abbrev draft : tie.Start → Draft
 draft s = draft_in s.args.head.slot (value s)
 
-opened : (c : tie.Else1) → (start c).args.head.is_open ≡ true
-opened c = not-false (start c).args.head.is_open c.if1.false
+opened : (c : tie.Else-not-head) → (start c).args.head.is_open ≡ true
+opened c = not-false (start c).args.head.is_open c.if-not-head.false
 
-is-draft : (c : tie.Else1) → (desk (start c)).draft ≡ some (draft (start c))
-is-draft c = draft_open (start c).args.head (start c).args.columns.now (opened c)
+is_draft : (c : tie.Else-not-head) → (desk (start c)).draft ≡ some (draft (start c))
+is_draft c = draft_open (start c).args.head (start c).args.columns.now (opened c)
 
-admitted : (c : tie.Else1) → admission (desk (start c)) E ≡ pass tt
+admitted : (c : tie.Else-not-head) → admission (desk (start c)) E ≡ pass tt
 unfolding kind
 admitted c = plan_open (start c).args.head (start c).args.columns.now E true refl (opened c)
 
-returns : tie.Need-returns
+returns-then-not-head : tie.Need-returns-then-not-head
 unfolding kind
-returns c = λ out.
-    let s = c.before.before.before.before in
-    let h = s.args.head in
-    refused_admission h s.args.columns.now s.requires E out wrong_state
-    (no_plan_open h s.args.columns.now E true refl (not-true h.is_open c.before.if1.true))
+returns-then-not-head c = λ out.
+    let h = c.args.head in
+    refused_admission h c.args.columns.now c.requires E out wrong_state
+    (no_plan_open h c.args.columns.now E true refl (not-true h.is_open c.if-not-head.true))
     c.refused.result c.refused.ensures
 
 -- where the block was read, and where it was judged
-abbrev read : tie.After-value → tie.Else1
-read c = c.before.before
+abbrev read : tie.After-value-draft → tie.Else-not-head
+read c = c.before
 
-abbrev judged : tie.After-close → tie.After-value
+abbrev judged : tie.After-close-closed → tie.After-value-draft
 judged c = c.before.before.before
 
-close-requires : tie.Need-close-requires
-close-requires c κs =
+close-closed-requires : tie.Need-close-closed-requires
+close-closed-requires c κs =
     let v = c.before.before in
     let s = start (read v) in
-    subst (λ (x : Plan). DraftColumns (shape_of x) x.pairs x.from x.to) (sym v.value.ensures)
-    (draft_columns s.args.head s.args.columns.now s.pre (opened (read v)))
+    subst (λ (x : Plan). DraftColumns (shape_of x) x.pairs x.from x.to) (sym c.value-draft.ensures)
+    (draft_columns s.args.head s.args.columns.now s.requires (opened (read v)))
 
 -- what closing answers for the open plan
-answered : (c : tie.After-close) → let s = start (read (judged c)) in c.close.result ≡ closing (draft s).shape (draft s).rows
-answered c = c.close.ensures ∙ ap (λ (x : Plan). closing (shape_of x) (rows_of x)) (judged c).value.ensures
+answered : (c : tie.After-close-closed) → let s = start (read (judged c)) in c.close-closed.result ≡ closing (draft s).shape (draft s).rows
+answered c = c.close-closed.ensures ∙ ap (λ (x : Plan). closing (shape_of x) (rows_of x)) (judged c).value-draft.ensures
 
-verdict-is : (c : tie.After-close) → let s = start (read (judged c)) in c.close.result.verdict ≡ verdict_of (Of.verdict (draft s).shape (draft s).rows)
+verdict_is : (c : tie.After-close-closed) → let s = start (read (judged c)) in c.close-closed.result.verdict ≡ verdict_of (Of.verdict (draft s).shape (draft s).rows)
 unfolding closing
-verdict-is c = ap (λ (z : Closed). z.verdict) (answered c)
+verdict_is c = ap (λ (z : Closed). z.verdict) (answered c)
 
-returns-2 : tie.Need-returns-2
-returns-2 c = λ out.
+returns-in-InFrom : tie.Need-returns-in-InFrom
+returns-in-InFrom c = λ out.
     let x = c.before.before in
-    let j = x.before.before in
+    let j = x in
     let e = read (judged j) in
     let s = start e in
-    let reason = x.verdict.given.0.0 in
-    refused_column s.args.head s.args.columns.now s.pre E out (admitted e) (reason_number reason) Letter.F
-    (close_from (desk s) (draft s) (is-draft e) reason (sym (verdict-is j) ∙ x.verdict.given.1)) c.faulty.result c.faulty.ensures
+    let reason = c.in-InFrom.reason in
+    refused_column s.args.head s.args.columns.now s.requires E out (admitted e) (reason_number reason) Letter.F
+    (close_from (desk s) (draft s) (is_draft e) reason (sym (verdict_is j) ∙ c.in-InFrom.is)) c.faulty.result c.faulty.ensures
 
-returns-3 : tie.Need-returns-3
-returns-3 c = λ out.
+returns-in-InTo : tie.Need-returns-in-InTo
+returns-in-InTo c = λ out.
     let x = c.before.before in
-    let j = x.before.before in
+    let j = x in
     let e = read (judged j) in
     let s = start e in
-    let reason = x.verdict2.given.0.0 in
-    refused_column s.args.head s.args.columns.now s.pre E out (admitted e) (reason_number reason) Letter.T
-    (close_to (desk s) (draft s) (is-draft e) reason (sym (verdict-is j) ∙ x.verdict2.given.1)) c.faulty2.result c.faulty2.ensures
+    let reason = c.in-InTo.reason in
+    refused_column s.args.head s.args.columns.now s.requires E out (admitted e) (reason_number reason) Letter.T
+    (close_to (desk s) (draft s) (is_draft e) reason (sym (verdict_is j) ∙ c.in-InTo.is)) c.faulty-in-InTo.result c.faulty-in-InTo.ensures
 
 -- where the open plan was accepted
-abbrev passed : tie.After-granted → tie.After-close
-passed c = c.before.before.before.before
+abbrev passed : tie.After-granted-made → tie.After-close-closed
+passed c = c.before.before.before
 
-abbrev closer : tie.After-granted → tie.Start
+abbrev closer : tie.After-granted-made → tie.Start
 closer c = start (read (judged (passed c)))
 
-accepts : (c : tie.After-granted) → let s = closer c in verdict_of (Of.verdict (draft s).shape (draft s).rows) ≡ Told.Accepted
-accepts c = sym (verdict-is (passed c)) ∙ c.before.before.enum_told.given.1
+accepts : (c : tie.After-granted-made) → let s = closer c in verdict_of (Of.verdict (draft s).shape (draft s).rows) ≡ Told.Accepted
+accepts c = sym (verdict_is (passed c)) ∙ c.in-Accepted.is
 
 -- the answer that is to be kept
-abbrev answer : tie.After-granted → Of.Answer
+abbrev answer : tie.After-granted-made → Of.Answer
 answer c = Of.Granted (kept_of (draft (closer c)))
 
-makes : (c : tie.After-granted) → Makes c.granted.result (answer c)
+makes : (c : tie.After-granted-made) → Makes c.granted-made.result (answer c)
 unfolding closing
 makes c =
     let s = closer c in
     let o = draft s in
     let v = accepts c in
-    let plan : (passed c).close.result.plan ≡ kept_by o.shape o.rows Told.Accepted =
+    let plan : (passed c).close-closed.result.plan ≡ kept_by o.shape o.rows Told.Accepted =
     ap (λ (z : Closed). z.plan) (answered (passed c)) ∙ ap (kept_by o.shape o.rows) v in
     record {
-      tells = c.granted.ensures ∙ ap granting plan;
-      kept = λ p g. subst Kept (granted_injective (kept_of o) p g) (closed_kept o (open_draft s.args.head s.args.columns.now s.pre (opened (read (judged (passed c))))) (accepted (Of.verdict o.shape o.rows) v));
+      tells = c.granted-made.ensures ∙ ap granting plan;
+      kept = λ p g. subst Kept (granted_injective (kept_of o) p g) (closed_kept o (open_draft s.args.head s.args.columns.now s.requires (opened (read (judged (passed c))))) (accepted (Of.verdict o.shape o.rows) v));
     }
 
 keep-requires : tie.Need-keep-requires
@@ -132,30 +131,30 @@ keep-requires c κs =
     let g = c.before.before in
     let s = closer g in
     record {
-      holds = s.pre;
-      slot = (open_draft s.args.head s.args.columns.now s.pre (opened (read (judged (passed g))))).slot_named;
+      holds = s.requires;
+      slot = (open_draft s.args.head s.args.columns.now s.requires (opened (read (judged (passed g))))).slot_named;
       answer = answer g;
       makes = makes g;
     }
 
-returns-4 : tie.Need-returns-4
+returns-in-Accepted : tie.Need-returns-in-Accepted
 unfolding kind
-returns-4 c = λ out.
+returns-in-Accepted c = λ out.
     let k = c.before.before in
     let g = k.before.before.before in
     let e = read (judged (passed g)) in
     let s = closer g in
-    k.keep.ensures E (answer g) (makes g)
-    (record { admitted = admitted e; changes = refl; keeps = close_keeps (desk s) (draft s) (is-draft e) (accepts g) }) out
+    c.keep.ensures E (answer g) (makes g)
+    (record { admitted = admitted e; changes = refl; keeps = close_keeps (desk s) (draft s) (is_draft e) (accepts g) }) out
 
 pub close_spec : {M : Type 1} → statement M
 close_spec =
     tie.close
     (tie.spec
     (λ c κs. search rules)
-    returns
+    returns-then-not-head
     (λ c κs. search rules)
-    close-requires
+    close-closed-requires
     (λ c. search rules)
     (λ c κs. search rules)
     (λ c. search rules)
@@ -165,8 +164,8 @@ close_spec =
     (λ c. search rules)
     keep-requires
     (λ c. search rules)
-    returns-2
+    returns-in-InFrom
     (λ c. search rules)
-    returns-3
+    returns-in-InTo
     (λ c. search rules)
-    returns-4)
+    returns-in-Accepted)

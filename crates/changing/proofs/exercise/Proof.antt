@@ -27,8 +27,8 @@ use Rattle.changing.proofs.Operands.{exercise_outside, exercise_keeps}
 use Rattle.changing.proofs.exercise.Statement.{statement}
 use Rattle.changing.proofs.exercise.Tie as tie
 
-abbrev start : tie.Else1 → tie.Start
-start c = c.before.before.before.before.before
+abbrev start : tie.Else-refusal-ne0 → tie.Start
+start c = c.before.before.before.before.before.before
 
 abbrev shape_at : tie.Start → Shape
 shape_at s = shape s.args.arity s.args.roots
@@ -40,57 +40,57 @@ abbrev desk : tie.Start → Desk
 desk s = desk_of s.args.head s.args.columns.now
 
 -- the record is admitted, and so the byte names a slot
-admitted : (c : tie.Else1) → admission (desk (start c)) (typed (start c)) ≡ pass tt
+admitted : (c : tie.Else-refusal-ne0) → admission (desk (start c)) (typed (start c)) ≡ pass tt
 unfolding kind
-admitted c = c.before.admission.ensures (typed (start c)) true (start c).args.columns.now refl ∙ ap admitted_by c.if1.false
+admitted c = c.admission-refusal.ensures (typed (start c)) true (start c).args.columns.now refl ∙ ap admitted_by c.if-refusal-ne0.false
 
-named : (c : tie.Else1) → is_slot (start c).args.slot ≡ true
+named : (c : tie.Else-refusal-ne0) → is_slot (start c).args.slot ≡ true
 unfolding kind
 named c = admitted_named (desk (start c)) (typed (start c)) (admitted c) (writing (start c).args.slot) (Memᴰ.head refl)
 
-admission-requires : tie.Need-admission-requires
-admission-requires c κs = let s = c.before.before.before in (s.args.columns.now, s.requires)
+admission-refusal-requires : tie.Need-admission-refusal-requires
+admission-refusal-requires c κs = (c.args.columns.now, c.requires)
 
-returns : tie.Need-returns
+returns-then-refusal-ne0 : tie.Need-returns-then-refusal-ne0
 unfolding kind
-returns c = λ out.
+returns-then-refusal-ne0 c = λ out.
     let t = c.before.before in
-    let s = t.before.before.before.before in
-    refused_by_lem s.args.head s.args.columns.now s.requires (typed s) out [] (s.args.slot ∷ []) true refl _ t.admission.ensures
-    c.before.if1.true c.refused.result c.refused.ensures
+    let s = t.before.before.before.before.before in
+    refused_by_lem c.args.head c.args.columns.now c.requires (typed s) out [] (c.args.slot ∷ []) true refl _ c.admission-refusal.ensures
+    c.if-refusal-ne0.true c.refused.result c.refused.ensures
 
 -- the shape is in range
-abbrev named_at : tie.Else2 → tie.Else1
+abbrev named_at : tie.Else-not-in_range → tie.Else-refusal-ne0
 named_at c = c.before.before
 
-abbrev begun : tie.Else2 → tie.Start
+abbrev begun : tie.Else-not-in_range → tie.Start
 begun c = start (named_at c)
 
-ranged : (c : tie.Else2) → shape_in_range (shape_at (begun c)) ≡ true
-ranged c = sym c.before.in_range.ensures ∙ not-false c.before.in_range.result c.if2.false
+ranged : (c : tie.Else-not-in_range) → shape_in_range (shape_at (begun c)) ≡ true
+ranged c = sym c.in_range.ensures ∙ c.if-not-in_range.false
 
-returns-2 : tie.Need-returns-2
-returns-2 c = λ out.
+returns-then-not-in_range : tie.Need-returns-then-not-in_range
+returns-then-not-in_range c = λ out.
     let i = c.before.before in
     let s = start i.before in
-    let no = sym i.in_range.ensures ∙ not-true i.in_range.result c.before.if2.true in
-    refused_job s.args.head s.args.columns.now s.pre (typed s) out (admitted i.before) shape_outside
-    (exercise_outside (desk s) s.args.slot (shape_at s) s.args.splits s.args.seed no) c.refused2.result
-    c.refused2.ensures
+    let no = sym c.in_range.ensures ∙ c.if-not-in_range.true in
+    refused_job s.args.head s.args.columns.now s.requires (typed s) out (admitted i.before) shape_outside
+    (exercise_outside (desk s) s.args.slot (shape_at s) s.args.splits s.args.seed no) c.refused-then-not-in_range.result
+    c.refused-then-not-in_range.ensures
 
-slot-number-requires : tie.Need-slot-number-requires
-slot-number-requires c κs = named (named_at c.before)
+slot_number-requires : tie.Need-slot_number-requires
+slot_number-requires c κs = named (named_at c.before)
 
 -- the answer that is to be kept
-abbrev answer : tie.Else2 → Answer
+abbrev answer : tie.Else-not-in_range → Answer
 answer c = let s = begun c in Of.exercise (shape_at s) s.args.splits s.args.seed
 
-makes : (c : tie.Else2) (made : Making) → made ≡ making (answer c) → Makes made (answer c)
+makes : (c : tie.Else-not-in_range) (made : Making) → made ≡ making (answer c) → Makes made (answer c)
 makes c made q =
     let s = begun c in
     record { tells = q; kept = λ p g. exercises_exact.kept (shape_at s) (T_of (ranged c)) s.args.splits s.args.seed p g }
 
-asks : (c : tie.Else2) (i : ℕ) → i ≡ slot_number (begun c).args.slot → ToKeep (typed (begun c)) (desk (begun c)) i (answer c)
+asks : (c : tie.Else-not-in_range) (i : ℕ) → i ≡ slot_number (begun c).args.slot → ToKeep (typed (begun c)) (desk (begun c)) i (answer c)
 unfolding kind
 asks c i q =
     let s = begun c in
@@ -111,34 +111,33 @@ keep-requires c κs =
     let e = n.before.before in
     record {
       holds = (begun e).requires;
-      slot = subst (λ i. i < slot_count) (sym n.slot-number.ensures) (slot_below (begun e).args.slot (named (named_at e)));
+      slot = subst (λ i. i < slot_count) (sym c.slot_number.ensures) (slot_below (begun e).args.slot (named (named_at e)));
       answer = answer e;
       makes = makes e c.make.result c.make.ensures;
     }
 
-returns-3 : tie.Need-returns-3
-returns-3 c = λ out.
+returns : tie.Need-returns
+returns c = λ out.
     let k = c.before.before in
     let m = k.before in
     let n = m.before in
     let e = n.before.before in
-    k.keep.ensures (typed (begun e)) (answer e) (makes e m.make.result m.make.ensures)
-    (asks e n.slot-number.result n.slot-number.ensures) out
+    c.keep.ensures (typed (begun e)) (answer e) (makes e c.make.result c.make.ensures)
+    (asks e c.slot_number.result c.slot_number.ensures) out
 
-pub exercise-spec : {M : Type 1} → statement M
-exercise-spec =
+pub exercise_spec : {M : Type 1} → statement M
+exercise_spec =
     tie.close
     (tie.spec
     (λ c. search rules)
-    (λ c. search rules)
-    admission-requires
+    admission-refusal-requires
     (λ c κs. search rules)
-    returns
+    returns-then-refusal-ne0
     (λ c κs. search rules)
     (λ c κs. search rules)
-    returns-2
-    slot-number-requires
+    returns-then-not-in_range
+    slot_number-requires
     make-requires
     keep-requires
     (λ c. search rules)
-    returns-3)
+    returns)

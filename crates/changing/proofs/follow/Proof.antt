@@ -24,7 +24,7 @@ use Rattle.changing.proofs.Operands.{follow_first, follow_second, follow_keeps}
 use Rattle.changing.proofs.follow.Statement.{statement}
 use Rattle.changing.proofs.follow.Tie as tie
 
-abbrev start : tie.Else1 → tie.Start
+abbrev start : tie.Else-refusal-ne0 → tie.Start
 start c = c.before.before.before.before.before
 
 abbrev typed : tie.Start → Record
@@ -34,107 +34,107 @@ abbrev desk : tie.Start → Desk
 desk s = desk_of s.args.head s.args.columns.now
 
 -- the record is admitted, and so the three bytes name slots
-admitted : (c : tie.Else1) → admission (desk (start c)) (typed (start c)) ≡ pass tt
+admitted : (c : tie.Else-refusal-ne0) → admission (desk (start c)) (typed (start c)) ≡ pass tt
 unfolding kind
-admitted c = c.before.admission.ensures (typed (start c)) true (start c).args.columns.now refl ∙ ap admitted_by c.if1.false
+admitted c = c.admission-refusal.ensures (typed (start c)) true (start c).args.columns.now refl ∙ ap admitted_by c.if-refusal-ne0.false
 
-a-named : (c : tie.Else1) → is_slot (start c).args.a ≡ true
+a_named : (c : tie.Else-refusal-ne0) → is_slot (start c).args.a ≡ true
 unfolding kind
-a-named c = admitted_named (desk (start c)) (typed (start c)) (admitted c) (reading (start c).args.a) (Memᴰ.head refl)
+a_named c = admitted_named (desk (start c)) (typed (start c)) (admitted c) (reading (start c).args.a) (Memᴰ.head refl)
 
-b-named : (c : tie.Else1) → is_slot (start c).args.b ≡ true
+b_named : (c : tie.Else-refusal-ne0) → is_slot (start c).args.b ≡ true
 unfolding kind
-b-named c =
+b_named c =
     admitted_named (desk (start c)) (typed (start c)) (admitted c) (reading (start c).args.b) (Memᴰ.tail (Memᴰ.head refl))
 
-c-named : (c : tie.Else1) → is_slot (start c).args.c ≡ true
+c_named : (c : tie.Else-refusal-ne0) → is_slot (start c).args.c ≡ true
 unfolding kind
-c-named c =
+c_named c =
     admitted_named (desk (start c)) (typed (start c)) (admitted c) (writing (start c).args.c)
     (Memᴰ.tail (Memᴰ.tail (Memᴰ.head refl)))
 
-admission-requires : tie.Need-admission-requires
-admission-requires c κs = let s = c.before.before.before in (s.args.columns.now, s.requires)
+admission-refusal-requires : tie.Need-admission-refusal-requires
+admission-refusal-requires c κs = (c.args.columns.now, c.requires)
 
-returns : tie.Need-returns
+returns-then-refusal-ne0 : tie.Need-returns-then-refusal-ne0
 unfolding kind
-returns c = λ out.
+returns-then-refusal-ne0 c = λ out.
     let t = c.before.before in
     let s = t.before.before.before.before in
-    let a = s.args in
-    refused_by_lem a.head a.columns.now s.requires (typed s) out (a.a ∷ a.b ∷ []) (a.c ∷ []) true refl _ t.admission.ensures
-    c.before.if1.true c.refused.result c.refused.ensures
+    let a = c.args in
+    refused_by_lem a.head a.columns.now c.requires (typed s) out (a.a ∷ a.b ∷ []) (a.c ∷ []) true refl _ c.admission-refusal.ensures
+    c.if-refusal-ne0.true c.refused.result c.refused.ensures
 
-operand-requires : tie.Need-operand-requires
-operand-requires c κs = let e = c.before in ((start e).requires, a-named e)
+operand-first-requires : tie.Need-operand-first-requires
+operand-first-requires c κs = let e = c in ((start e).requires, a_named e)
 
 -- where the first slot was read, and then the second
-abbrev one : tie.After-operand → tie.Else1
-one c = c.before.before
+abbrev one : tie.After-operand-first → tie.Else-refusal-ne0
+one c = c.before
 
-abbrev two : tie.After-operand2 → tie.Else2
-two c = c.before.before
+abbrev two : tie.After-operand-second → tie.Else-first-eq0
+two c = c.before
 
-abbrev before-two : tie.After-operand2 → tie.After-operand
-before-two c = (two c).before.before
+abbrev before_two : tie.After-operand-second → tie.After-operand-first
+before_two c = (two c).before.before
 
-returns-2 : tie.Need-returns-2
-returns-2 c = λ out.
+returns-then-first-eq0 : tie.Need-returns-then-first-eq0
+returns-then-first-eq0 c = λ out.
     let v = c.before.before.before in
     let e = one v in
     let s = start e in
     let a = s.args in
-    refused_job a.head a.columns.now s.pre (typed s) out (admitted e) slot_empty
-    (follow_first (desk s) a.a a.b a.c (v.operand.ensures.empty c.before.if2.true)) c.refused2.result
-    c.refused2.ensures
+    refused_job a.head a.columns.now s.requires (typed s) out (admitted e) slot_empty
+    (follow_first (desk s) a.a a.b a.c (c.operand-first.ensures.empty c.if-first-eq0.true)) c.refused-then-first-eq0.result
+    c.refused-then-first-eq0.ensures
 
-operand-requires-2 : tie.Need-operand-requires-2
-operand-requires-2 c κs = let e = one c.before.before.before in ((start e).pre, b-named e)
+operand-second-requires : tie.Need-operand-second-requires
+operand-second-requires c κs = let e = one c.before.before in ((start e).requires, b_named e)
 
 -- the plan in the first slot
-first-held : (c : tie.Else2)
-    → let v = c.before.before in let s = start (one v) in HeldPlan (desk s) s.args.a v.operand.result
-first-held c = c.before.before.operand.ensures.full c.if2.false
+first_held : (c : tie.Else-first-eq0)
+    → let v = c.before.before in let s = start (one v) in HeldPlan (desk s) s.args.a c.operand-first.result
+first_held c = c.operand-first.ensures.full c.if-first-eq0.false
 
-returns-3 : tie.Need-returns-3
-returns-3 c = λ out.
+returns-then-second-eq0 : tie.Need-returns-then-second-eq0
+returns-then-second-eq0 c = λ out.
     let v = c.before.before.before in
-    let e = one (before-two v) in
+    let e = one (before_two v) in
     let s = start e in
     let a = s.args in
-    refused_job a.head a.columns.now s.pre (typed s) out (admitted e) slot_empty
-    (follow_second (desk s) a.a a.b a.c _ (first-held (two v)).there (v.operand2.ensures.empty c.before.if3.true))
-    c.refused3.result c.refused3.ensures
+    refused_job a.head a.columns.now s.requires (typed s) out (admitted e) slot_empty
+    (follow_second (desk s) a.a a.b a.c _ (first_held (two v)).there (c.operand-second.ensures.empty c.if-second-eq0.true))
+    c.refused-then-second-eq0.result c.refused-then-second-eq0.ensures
 
 -- where both slots hold plans
-abbrev second-read : tie.Else3 → tie.After-operand2
-second-read c = c.before.before
+abbrev second_read : tie.Else-second-eq0 → tie.After-operand-second
+second_read c = c.before.before
 
-abbrev first_read : tie.Else3 → tie.After-operand
-first_read c = before-two (second-read c)
+abbrev first_read : tie.Else-second-eq0 → tie.After-operand-first
+first_read c = before_two (second_read c)
 
-abbrev all_named : tie.Else3 → tie.Else1
+abbrev all_named : tie.Else-second-eq0 → tie.Else-refusal-ne0
 all_named c = one (first_read c)
 
-abbrev both : tie.Else3 → tie.Start
+abbrev both : tie.Else-second-eq0 → tie.Start
 both c = start (all_named c)
 
-slot-number-requires : tie.Need-slot-number-requires
-slot-number-requires c κs = c-named (all_named c.before)
+slot_number-requires : tie.Need-slot_number-requires
+slot_number-requires c κs = c_named (all_named c.before)
 
 -- the answer that is to be kept
-abbrev answer : tie.Else3 → Answer
-answer c = followed (plan_of (first_read c).operand.result) (plan_of (second-read c).operand2.result)
+abbrev answer : tie.Else-second-eq0 → Answer
+answer c = followed (plan_of (first_read c).operand-first.result) (plan_of (second_read c).operand-second.result)
 
-module _ (c : tie.Else3) where
+module _ (c : tie.Else-second-eq0) where
   abbrev s : tie.Start
   s = both c
 
-  a-held : HeldPlan (desk s) s.args.a (first_read c).operand.result
-  a-held = first-held (two (second-read c))
+  a-held : HeldPlan (desk s) s.args.a (first_read c).operand-first.result
+  a-held = first_held (two (second_read c))
 
-  b-held : HeldPlan (desk s) s.args.b (second-read c).operand2.result
-  b-held = (second-read c).operand2.ensures.full c.if3.false
+  b-held : HeldPlan (desk s) s.args.b (second_read c).operand-second.result
+  b-held = (second_read c).operand-second.ensures.full c.if-second-eq0.false
 
   makes : (made : Making) → made ≡ making (answer c) → Makes made (answer c)
   makes made q = record { tells = q; kept = λ r g. demand3.followed_kept _ _ r a-held.kept b-held.kept g }
@@ -159,40 +159,40 @@ keep-requires c κs =
     let e = n.before.before in
     let s = both e in
     record {
-      holds = s.pre;
-      slot = subst (λ i. i < slot_count) (sym n.slot-number.ensures) (slot_below s.args.c (c-named (all_named e)));
+      holds = s.requires;
+      slot = subst (λ i. i < slot_count) (sym c.slot_number.ensures) (slot_below s.args.c (c_named (all_named e)));
       answer = answer e;
       makes = makes e c.compose.result c.compose.ensures;
     }
 
-returns-4 : tie.Need-returns-4
-returns-4 c = λ out.
+returns : tie.Need-returns
+returns c = λ out.
     let k = c.before.before in
     let m = k.before in
     let n = m.before in
     let e = n.before.before in
-    k.keep.ensures (typed (both e)) (answer e) (makes e m.compose.result m.compose.ensures)
-    (asks e n.slot-number.result n.slot-number.ensures) out
+    c.keep.ensures (typed (both e)) (answer e) (makes e c.compose.result c.compose.ensures)
+    (asks e c.slot_number.result c.slot_number.ensures) out
 
-pub follow-spec : {M : Type 1} → statement M
-follow-spec =
+pub follow_spec : {M : Type 1} → statement M
+follow_spec =
     tie.close
     (tie.spec
     (λ c. search rules)
     (λ c. search rules)
-    admission-requires
+    admission-refusal-requires
     (λ c κs. search rules)
-    returns
-    operand-requires
-    (λ c κs. search rules)
-    (λ c. search rules)
-    returns-2
-    operand-requires-2
+    returns-then-refusal-ne0
+    operand-first-requires
     (λ c κs. search rules)
     (λ c. search rules)
-    returns-3
-    slot-number-requires
+    returns-then-first-eq0
+    operand-second-requires
+    (λ c κs. search rules)
+    (λ c. search rules)
+    returns-then-second-eq0
+    slot_number-requires
     compose-requires
     keep-requires
     (λ c. search rules)
-    returns-4)
+    returns)

@@ -24,7 +24,7 @@ use Rattle.changing.proofs.Operands.{invert_none, invert_keeps}
 use Rattle.changing.proofs.invert.Statement.{statement}
 use Rattle.changing.proofs.invert.Tie as tie
 
-abbrev start : tie.Else1 → tie.Start
+abbrev start : tie.Else-refusal-ne0 → tie.Start
 start c = c.before.before.before.before.before
 
 abbrev typed : tie.Start → Record
@@ -34,62 +34,62 @@ abbrev desk : tie.Start → Desk
 desk s = desk_of s.args.head s.args.columns.now
 
 -- the record is admitted, and so the two bytes name slots
-admitted : (c : tie.Else1) → admission (desk (start c)) (typed (start c)) ≡ pass tt
+admitted : (c : tie.Else-refusal-ne0) → admission (desk (start c)) (typed (start c)) ≡ pass tt
 unfolding kind
-admitted c = c.before.admission.ensures (typed (start c)) true (start c).args.columns.now refl ∙ ap admitted_by c.if1.false
+admitted c = c.admission-refusal.ensures (typed (start c)) true (start c).args.columns.now refl ∙ ap admitted_by c.if-refusal-ne0.false
 
-a-named : (c : tie.Else1) → is_slot (start c).args.a ≡ true
+a_named : (c : tie.Else-refusal-ne0) → is_slot (start c).args.a ≡ true
 unfolding kind
-a-named c = admitted_named (desk (start c)) (typed (start c)) (admitted c) (reading (start c).args.a) (Memᴰ.head refl)
+a_named c = admitted_named (desk (start c)) (typed (start c)) (admitted c) (reading (start c).args.a) (Memᴰ.head refl)
 
-c-named : (c : tie.Else1) → is_slot (start c).args.c ≡ true
+c_named : (c : tie.Else-refusal-ne0) → is_slot (start c).args.c ≡ true
 unfolding kind
-c-named c =
+c_named c =
     admitted_named (desk (start c)) (typed (start c)) (admitted c) (writing (start c).args.c) (Memᴰ.tail (Memᴰ.head refl))
 
-admission-requires : tie.Need-admission-requires
-admission-requires c κs = let s = c.before.before.before in (s.args.columns.now, s.requires)
+admission-refusal-requires : tie.Need-admission-refusal-requires
+admission-refusal-requires c κs = (c.args.columns.now, c.requires)
 
-returns : tie.Need-returns
+returns-then-refusal-ne0 : tie.Need-returns-then-refusal-ne0
 unfolding kind
-returns c = λ out.
+returns-then-refusal-ne0 c = λ out.
     let t = c.before.before in
     let s = t.before.before.before.before in
-    refused_by_lem s.args.head s.args.columns.now s.requires (typed s) out (s.args.a ∷ []) (s.args.c ∷ []) true refl _
-    t.admission.ensures c.before.if1.true c.refused.result c.refused.ensures
+    refused_by_lem c.args.head c.args.columns.now c.requires (typed s) out (c.args.a ∷ []) (c.args.c ∷ []) true refl _
+    c.admission-refusal.ensures c.if-refusal-ne0.true c.refused.result c.refused.ensures
 
-operand-requires : tie.Need-operand-requires
-operand-requires c κs = let e = c.before in ((start e).requires, a-named e)
+operand-plan-requires : tie.Need-operand-plan-requires
+operand-plan-requires c κs = let e = c in ((start e).requires, a_named e)
 
 -- where the slot was read
-abbrev read : tie.After-operand → tie.Else1
-read c = c.before.before
+abbrev read : tie.After-operand-plan → tie.Else-refusal-ne0
+read c = c.before
 
-returns-2 : tie.Need-returns-2
-returns-2 c = λ out.
+returns-then-plan-eq0 : tie.Need-returns-then-plan-eq0
+returns-then-plan-eq0 c = λ out.
     let v = c.before.before.before in
     let e = read v in
     let s = start e in
     let a = s.args in
-    refused_job a.head a.columns.now s.pre (typed s) out (admitted e) slot_empty
-    (invert_none (desk s) a.a a.c (v.operand.ensures.empty c.before.if2.true)) c.refused2.result c.refused2.ensures
+    refused_job a.head a.columns.now s.requires (typed s) out (admitted e) slot_empty
+    (invert_none (desk s) a.a a.c (c.operand-plan.ensures.empty c.if-plan-eq0.true)) c.refused-then-plan-eq0.result c.refused-then-plan-eq0.ensures
 
 -- where the slot holds a plan, and the answer that is to be kept
-module _ (c : tie.Else2) where
-  abbrev v : tie.After-operand
+module _ (c : tie.Else-plan-eq0) where
+  abbrev v : tie.After-operand-plan
   v = c.before.before
 
-  abbrev e : tie.Else1
+  abbrev e : tie.Else-refusal-ne0
   e = read v
 
   abbrev s : tie.Start
   s = start e
 
   abbrev answer : Answer
-  answer = inverted (plan_of v.operand.result)
+  answer = inverted (plan_of v.operand-plan.result)
 
-  a-held : HeldPlan (desk s) s.args.a v.operand.result
-  a-held = v.operand.ensures.full c.if2.false
+  a-held : HeldPlan (desk s) s.args.a v.operand-plan.result
+  a-held = v.operand-plan.ensures.full c.if-plan-eq0.false
 
   makes : (made : Making) → made ≡ making answer → Makes made answer
   makes made q = record { tells = q; kept = λ r g. demand3.inverted_kept _ r a-held.kept g }
@@ -105,8 +105,8 @@ module _ (c : tie.Else2) where
             ∙ ap (λ n. of_answer answer >>= λ r. pass (keep_in (desk s) n r)) (sym q);
       }
 
-slot-number-requires : tie.Need-slot-number-requires
-slot-number-requires c κs = c-named (read c.before.before.before)
+slot_number-requires : tie.Need-slot_number-requires
+slot_number-requires c κs = c_named (read c.before.before.before)
 
 inverse-requires : tie.Need-inverse-requires
 inverse-requires c κs = (a-held c.before.before).is_plan_fact
@@ -118,36 +118,36 @@ keep-requires c κs =
     let r = read e.before.before in
     let s = start r in
     record {
-      holds = s.pre;
-      slot = subst (λ i. i < slot_count) (sym n.slot-number.ensures) (slot_below s.args.c (c-named r));
+      holds = s.requires;
+      slot = subst (λ i. i < slot_count) (sym c.slot_number.ensures) (slot_below s.args.c (c_named r));
       answer = answer e;
       makes = makes e c.inverse.result c.inverse.ensures;
     }
 
-returns-3 : tie.Need-returns-3
-returns-3 c = λ out.
+returns : tie.Need-returns
+returns c = λ out.
     let k = c.before.before in
     let m = k.before in
     let n = m.before in
     let e = n.before.before in
-    k.keep.ensures (typed (start (read e.before.before))) (answer e) (makes e m.inverse.result m.inverse.ensures)
-    (asks e n.slot-number.result n.slot-number.ensures) out
+    c.keep.ensures (typed (start (read e.before.before))) (answer e) (makes e c.inverse.result c.inverse.ensures)
+    (asks e c.slot_number.result c.slot_number.ensures) out
 
-pub invert-spec : {M : Type 1} → statement M
-invert-spec =
+pub invert_spec : {M : Type 1} → statement M
+invert_spec =
     tie.close
     (tie.spec
     (λ c. search rules)
     (λ c. search rules)
-    admission-requires
+    admission-refusal-requires
     (λ c κs. search rules)
-    returns
-    operand-requires
+    returns-then-refusal-ne0
+    operand-plan-requires
     (λ c κs. search rules)
     (λ c. search rules)
-    returns-2
-    slot-number-requires
+    returns-then-plan-eq0
+    slot_number-requires
     inverse-requires
     keep-requires
     (λ c. search rules)
-    returns-3)
+    returns)

@@ -14,64 +14,62 @@ use Rattle.changing.proofs.keep.Statement.{statement}
 use Rattle.changing.proofs.keep.Tie as tie
 
 -- where a plan was granted
-abbrev start : tie.After-enum-told → tie.Start
-start c = c.before.before.before
+abbrev start : tie.In-Granted → tie.Start
+start c = c.before.before
 
-granted : (c : tie.After-enum-told) → (start c).args.made.answer ≡ Told.Granted
-granted c = c.enum_told.given.1
+granted : (c : tie.In-Granted) → (start c).args.made.answer ≡ Told.Granted
+granted c = c.in-Granted.is
 
 -- and there was room for one more change
-room : (c : tie.Else1) → full_in (start c.before.before).args.head.control ≡ false
-room c = sym c.before.is-full.ensures ∙ c.if1.false
+room : (c : tie.Else-is_full) → full_in (start c.before.before).args.head.control ≡ false
+room c = sym c.is_full.ensures ∙ c.if-is_full.false
 
-is-full-requires : tie.Need-is-full-requires
-is-full-requires c κs = let s = start c in control_held s.args.head s.args.columns.now s.pre.holds
+is_full-requires : tie.Need-is_full-requires
+is_full-requires c κs = let s = start c in control_held s.args.head s.args.columns.now s.requires.holds
 
-returns : tie.Need-returns
-returns c = λ r answer m t out.
+returns-then-is_full : tie.Need-returns-then-is_full
+returns-then-is_full c = λ r answer m t out.
     let f = c.before.before in
     let g = f.before in
     let s = start g in
     let a = s.args in
-    let full = sym f.is-full.ensures ∙ c.before.if1.true in
-    keep_limit a.made answer m a.head a.columns.now s.pre.holds a.i s.pre.slot r t out (granted g) full
-    c.refused2.result c.refused2.ensures
+    let full = sym c.is_full.ensures ∙ c.if-is_full.true in
+    keep_limit a.made answer m a.head a.columns.now s.requires.holds a.i s.requires.slot r t out (granted g) full
+    c.refused-then-is_full.result c.refused-then-is_full.ensures
 
-fill-requires : tie.Need-fill-requires
-fill-requires c κs =
+fill-h-requires : tie.Need-fill-h-requires
+fill-h-requires c κs =
     let e = c.before.before in
     let g = e.before.before in
     let s = start g in
-    let inside = slot_inside s.args.head s.args.columns.now s.pre.holds s.args.i s.pre.slot in (
+    let inside = slot_inside s.args.head s.args.columns.now s.requires.holds s.args.i s.requires.slot in (
       record { block = inside.block; sized = inside.sized },
-      countable s.args.head s.args.columns.now s.pre.holds (room e) s.args.i s.pre.slot s.args.made.plan.pairs
-          (few_made s.args.made s.pre.answer s.pre.makes (granted g)),
+      countable s.args.head s.args.columns.now s.requires.holds (room e) s.args.i s.requires.slot s.args.made.plan.pairs
+          (few_made s.args.made s.requires.answer s.requires.makes (granted g)),
     )
 
-cast-t13 : tie.Need-overflow-cast-t13
-cast-t13 c =
+overflow_cast-result : tie.Need-overflow_cast-result
+overflow_cast-result c =
     let e = c.before.before.before.before.before.before in
     let g = e.before.before in
     let s = start g in
-    record { fits = omega (arith, pair_limit, few_made s.args.made s.pre.answer s.pre.makes (granted g)) }
+    record { fits = omega (arith, pair_limit, few_made s.args.made s.requires.answer s.requires.makes (granted g)) }
 
-returns-2 : tie.Need-returns-2
-returns-2 c = λ r answer m t out.
-    let k = c.before.before in
-    let s = k.before.before.before in
-    let a = s.args in
-    keep_refused a.made answer m a.head a.columns.now s.requires.holds a.i s.requires.slot r t out k.answer.given.0.0
-    k.answer.given.1 c.refused.result c.refused.ensures
+returns-in-Refused : tie.Need-returns-in-Refused
+returns-in-Refused c = λ r answer m t out.
+    let a = c.args in
+    keep_refused a.made answer m a.head a.columns.now c.requires.holds a.i c.requires.slot r t out c.in-Refused.number
+    c.in-Refused.is c.refused.result c.refused.ensures
 
-returns-3 : tie.Need-returns-3
-returns-3 c = λ r answer m t out.
+returns-else-is_full : tie.Need-returns-else-is_full
+returns-else-is_full c = λ r answer m t out.
     let f = c.before.before.before in
     let e = f.before.before.before in
     let g = e.before.before in
     let s = start g in
     let a = s.args in
-    keep_done a.made answer m a.head a.columns.now s.pre.holds a.i s.pre.slot r t out (granted g) (room e)
-    (record { head = f.fill.result; reply = Number a.made.plan.pairs }) (ap (λ h. record { head = h; reply = Number a.made.plan.pairs }) f.fill.ensures.0) _ f.fill.ensures.1
+    keep_done a.made answer m a.head a.columns.now s.requires.holds a.i s.requires.slot r t out (granted g) (room e)
+    (record { head = c.fill-h.result; reply = Number a.made.plan.pairs }) (ap (λ h. record { head = h; reply = Number a.made.plan.pairs }) c.fill-h.ensures.0) _ c.fill-h.ensures.1
 
 pub keep_spec : {M : Type 1} → statement M
 keep_spec =
@@ -80,11 +78,11 @@ keep_spec =
     (λ c. search rules)
     (λ c κs. search rules)
     (λ c. search rules)
-    is-full-requires
+    is_full-requires
     (λ c κs. search rules)
-    returns
-    fill-requires
-    cast-t13
-    returns-2
+    returns-then-is_full
+    fill-h-requires
+    overflow_cast-result
+    returns-in-Refused
     (λ c. search rules)
-    returns-3)
+    returns-else-is_full)

@@ -28,7 +28,7 @@ use Rattle.changing.proofs.Operands.{power_none, power_empty, power_keeps}
 use Rattle.changing.proofs.power.Statement.{statement}
 use Rattle.changing.proofs.power.Tie as tie
 
-abbrev start : tie.Else1 → tie.Start
+abbrev start : tie.Else-refusal-ne0 → tie.Start
 start c = c.before.before.before.before.before
 
 abbrev typed : tie.Start → Record
@@ -38,91 +38,91 @@ abbrev desk : tie.Start → Desk
 desk s = desk_of s.args.head s.args.columns.now
 
 -- the record is admitted, and so the two bytes name slots
-admitted : (c : tie.Else1) → admission (desk (start c)) (typed (start c)) ≡ pass tt
+admitted : (c : tie.Else-refusal-ne0) → admission (desk (start c)) (typed (start c)) ≡ pass tt
 unfolding kind
-admitted c = c.before.admission.ensures (typed (start c)) true (start c).args.columns.now refl ∙ ap admitted_by c.if1.false
+admitted c = c.admission-refusal.ensures (typed (start c)) true (start c).args.columns.now refl ∙ ap admitted_by c.if-refusal-ne0.false
 
-a-named : (c : tie.Else1) → is_slot (start c).args.a ≡ true
+a_named : (c : tie.Else-refusal-ne0) → is_slot (start c).args.a ≡ true
 unfolding kind
-a-named c = admitted_named (desk (start c)) (typed (start c)) (admitted c) (reading (start c).args.a) (Memᴰ.head refl)
+a_named c = admitted_named (desk (start c)) (typed (start c)) (admitted c) (reading (start c).args.a) (Memᴰ.head refl)
 
-c-named : (c : tie.Else1) → is_slot (start c).args.c ≡ true
+c_named : (c : tie.Else-refusal-ne0) → is_slot (start c).args.c ≡ true
 unfolding kind
-c-named c =
+c_named c =
     admitted_named (desk (start c)) (typed (start c)) (admitted c) (writing (start c).args.c) (Memᴰ.tail (Memᴰ.head refl))
 
-admission-requires : tie.Need-admission-requires
-admission-requires c κs = let s = c.before.before.before in (s.args.columns.now, s.requires)
+admission-refusal-requires : tie.Need-admission-refusal-requires
+admission-refusal-requires c κs = (c.args.columns.now, c.requires)
 
-returns : tie.Need-returns
+returns-then-refusal-ne0 : tie.Need-returns-then-refusal-ne0
 unfolding kind
-returns c = λ out.
+returns-then-refusal-ne0 c = λ out.
     let t = c.before.before in
     let s = t.before.before.before.before in
-    refused_by_lem s.args.head s.args.columns.now s.requires (typed s) out (s.args.a ∷ []) (s.args.c ∷ []) true refl _
-    t.admission.ensures c.before.if1.true c.refused.result c.refused.ensures
+    refused_by_lem c.args.head c.args.columns.now c.requires (typed s) out (c.args.a ∷ []) (c.args.c ∷ []) true refl _
+    c.admission-refusal.ensures c.if-refusal-ne0.true c.refused.result c.refused.ensures
 
 -- what the machine reads back of the number
 number : (s : tie.Start) → read_back w32 s.args.k ≡ s.args.k
 number s = read_is w32 s.args.k s.ranges.k
 
 -- the number is one that plans are raised to
-abbrev within : tie.Else2 → tie.Else1
+abbrev within : tie.Else-not-is_power → tie.Else-refusal-ne0
 within c = c.before.before
 
-in_range : (c : tie.Else2) → power_in_range (start (within c)).args.k ≡ true
+in_range : (c : tie.Else-not-is_power) → power_in_range (start (within c)).args.k ≡ true
 in_range c =
-    let p = c.before.is-power in
-    sym (p.ensures ∙ ap power_in_range (number (start (within c)))) ∙ not-false p.result c.if2.false
+    let p = c.is_power in
+    sym (p.ensures ∙ ap power_in_range (number (start (within c)))) ∙ c.if-not-is_power.false
 
-returns-2 : tie.Need-returns-2
-returns-2 c = λ out.
+returns-then-not-is_power : tie.Need-returns-then-not-is_power
+returns-then-not-is_power c = λ out.
     let i = c.before.before in
     let e = i.before in
     let s = start e in
     let a = s.args in
-    let no = sym (i.is-power.ensures ∙ ap power_in_range (number s)) ∙ not-true i.is-power.result c.before.if2.true in
-    refused_job a.head a.columns.now s.pre (typed s) out (admitted e) power_outside
-    (power_none (desk s) a.a a.k a.c no) c.refused2.result c.refused2.ensures
+    let no = sym (c.is_power.ensures ∙ ap power_in_range (number s)) ∙ c.if-not-is_power.true in
+    refused_job a.head a.columns.now s.requires (typed s) out (admitted e) power_outside
+    (power_none (desk s) a.a a.k a.c no) c.refused-then-not-is_power.result c.refused-then-not-is_power.ensures
 
-operand-requires : tie.Need-operand-requires
-operand-requires c κs = let e = within c.before in ((start e).pre, a-named e)
+operand-plan-requires : tie.Need-operand-plan-requires
+operand-plan-requires c κs = let e = within c in ((start e).requires, a_named e)
 
 -- where the slot was read
-abbrev read : tie.After-operand → tie.Else1
-read c = within c.before.before
+abbrev read : tie.After-operand-plan → tie.Else-refusal-ne0
+read c = within c.before
 
-returns-3 : tie.Need-returns-3
-returns-3 c = λ out.
+returns-then-plan-eq0 : tie.Need-returns-then-plan-eq0
+returns-then-plan-eq0 c = λ out.
     let v = c.before.before.before in
     let e = read v in
     let s = start e in
     let a = s.args in
-    refused_job a.head a.columns.now s.pre (typed s) out (admitted e) slot_empty
-    (power_empty (desk s) a.a a.k a.c (in_range v.before.before) (v.operand.ensures.empty c.before.if3.true))
-    c.refused3.result c.refused3.ensures
+    refused_job a.head a.columns.now s.requires (typed s) out (admitted e) slot_empty
+    (power_empty (desk s) a.a a.k a.c (in_range v.before) (c.operand-plan.ensures.empty c.if-plan-eq0.true))
+    c.refused-then-plan-eq0.result c.refused-then-plan-eq0.ensures
 
 -- where the slot holds a plan, and the answer that is to be kept
-module _ (c : tie.Else3) where
-  abbrev v : tie.After-operand
+module _ (c : tie.Else-plan-eq0) where
+  abbrev v : tie.After-operand-plan
   v = c.before.before
 
-  abbrev e : tie.Else1
+  abbrev e : tie.Else-refusal-ne0
   e = read v
 
   abbrev s : tie.Start
   s = start e
 
   abbrev answer : Answer
-  answer = powered (plan_of v.operand.result) s.args.k
+  answer = powered (plan_of v.operand-plan.result) s.args.k
 
-  a-held : HeldPlan (desk s) s.args.a v.operand.result
-  a-held = v.operand.ensures.full c.if3.false
+  a-held : HeldPlan (desk s) s.args.a v.operand-plan.result
+  a-held = v.operand-plan.ensures.full c.if-plan-eq0.false
 
-  makes : (made : Making) → made ≡ making (powered (plan_of v.operand.result) (read_back w32 s.args.k)) → Makes made answer
+  makes : (made : Making) → made ≡ making (powered (plan_of v.operand-plan.result) (read_back w32 s.args.k)) → Makes made answer
   makes made q =
       record {
-        tells = q ∙ ap (λ k. making (powered (plan_of v.operand.result) k)) (number s);
+        tells = q ∙ ap (λ k. making (powered (plan_of v.operand-plan.result) k)) (number s);
         kept = λ r g. demand3.powered_kept _ r _ a-held.kept g;
       }
 
@@ -133,12 +133,12 @@ module _ (c : tie.Else3) where
         admitted = admitted e;
         changes = refl;
         keeps =
-            power_keeps (desk s) s.args.a s.args.k s.args.c (in_range v.before.before) _ a-held.there
+            power_keeps (desk s) s.args.a s.args.k s.args.c (in_range v.before) _ a-held.there
             ∙ ap (λ n. of_answer answer >>= λ r. pass (keep_in (desk s) n r)) (sym q);
       }
 
-slot-number-requires : tie.Need-slot-number-requires
-slot-number-requires c κs = c-named (read c.before.before.before)
+slot_number-requires : tie.Need-slot_number-requires
+slot_number-requires c κs = c_named (read c.before.before.before)
 
 power-requires : tie.Need-power-requires
 power-requires c κs = (a-held c.before.before).is_plan_fact
@@ -150,39 +150,39 @@ keep-requires c κs =
     let r = read e.before.before in
     let s = start r in
     record {
-      holds = s.pre;
-      slot = subst (λ i. i < slot_count) (sym n.slot-number.ensures) (slot_below s.args.c (c-named r));
+      holds = s.requires;
+      slot = subst (λ i. i < slot_count) (sym c.slot_number.ensures) (slot_below s.args.c (c_named r));
       answer = answer e;
       makes = makes e c.power.result c.power.ensures;
     }
 
-returns-4 : tie.Need-returns-4
-returns-4 c = λ out.
+returns : tie.Need-returns
+returns c = λ out.
     let k = c.before.before in
     let m = k.before in
     let n = m.before in
     let e = n.before.before in
-    k.keep.ensures (typed (start (read e.before.before))) (answer e) (makes e m.power.result m.power.ensures)
-    (asks e n.slot-number.result n.slot-number.ensures) out
+    c.keep.ensures (typed (start (read e.before.before))) (answer e) (makes e c.power.result c.power.ensures)
+    (asks e c.slot_number.result c.slot_number.ensures) out
 
-pub power-spec : {M : Type 1} → statement M
-power-spec =
+pub power_spec : {M : Type 1} → statement M
+power_spec =
     tie.close
     (tie.spec
     (λ c. search rules)
     (λ c. search rules)
-    admission-requires
+    admission-refusal-requires
     (λ c κs. search rules)
-    returns
+    returns-then-refusal-ne0
     (λ c κs. search rules)
     (λ c κs. search rules)
-    returns-2
-    operand-requires
+    returns-then-not-is_power
+    operand-plan-requires
     (λ c κs. search rules)
     (λ c. search rules)
-    returns-3
-    slot-number-requires
+    returns-then-plan-eq0
+    slot_number-requires
     power-requires
     keep-requires
     (λ c. search rules)
-    returns-4)
+    returns)

@@ -4,8 +4,6 @@ use mathlib.Core.Bool.{true, false}
 use mathlib.Core.List.Memᴰ
 use mathlib.Core.List.{List, [], ◌∷◌}
 use Prim.Native.Nat.{ℕ}
-use borrow.Author.Rules.{rules}
-use borrow.Author.Tests.{not-true, not-false}
 use native.Mathlib.Omega.{arith}
 use Rattle.higman.specs.Refusals.{shape_outside}
 use Rattle.higman.specs.Listing.{is_slot}
@@ -19,86 +17,69 @@ use Rattle.slots.specs.Works.{admitted_by}
 use Rattle.slots.proofs.Held.{slots_eight}
 use Rattle.slots.proofs.Steps.{slot_below, admitted_named, refused_by_lem, refused_job, at_end, done_passed}
 use Rattle.opening.proofs.Drafted.{drafted, slots_untouched, drafted_size, drafted_desk, holds_drafted, draft_empty, open_outside, open_done}
-use Rattle.opening.proofs.open.Statement.{statement}
-use Rattle.opening.proofs.open.Tie as tie
+use Rattle.opening.proofs.open.Goals.{Else-refusal-ne0, Start}
+use Rattle.opening.proofs.open.Goals as goal
 
-abbrev record_of : tie.Start → Record
+abbrev record_of : Start → Record
 record_of s = P s.args.slot s.args.arity s.args.roots
 
-abbrev start : tie.Else1 → tie.Start
-start c = c.before.before.before.before
+abbrev start : Else-refusal-ne0 → Start
+start c = c.before.before.before.before.before
 
 -- the record is admitted, whatever the columns are, and so the byte names a slot
-admitted : (c : tie.Else1) (columns : List ℕ) → admission (desk_of (start c).args.head columns) (record_of (start c)) ≡ pass tt
+admitted : (c : Else-refusal-ne0) (columns : List ℕ) → admission (desk_of (start c).args.head columns) (record_of (start c)) ≡ pass tt
 unfolding kind
-admitted c columns = c.before.admission.ensures (record_of (start c)) false columns refl ∙ ap admitted_by c.if1.false
+admitted c columns = c.admission-refusal.ensures (record_of (start c)) false columns refl ∙ ap admitted_by c.if-refusal-ne0.false
 
-named : (c : tie.Else1) → is_slot (start c).args.slot ≡ true
+named : (c : Else-refusal-ne0) → is_slot (start c).args.slot ≡ true
 unfolding kind
 named c =
     let s = start c in
-    let columns = s.pre.0 in
+    let columns = s.requires.0 in
     admitted_named (desk_of s.args.head columns) (record_of s) (admitted c columns) (writing s.args.slot) (Memᴰ.head refl)
 
-returns : tie.Need-returns
+pub returns-then-refusal-ne0 : goal.returns-then-refusal-ne0
 unfolding kind
-returns c = λ columns out H.
+returns-then-refusal-ne0 c = λ columns out H.
     let t = c.before.before in
-    let s = t.before.before.before in
-    refused_by_lem s.args.head columns H (record_of s) out [] (s.args.slot ∷ []) false refl _ t.admission.ensures
-    c.before.if1.true c.refused.result c.refused.ensures
+    let s = t.before.before.before.before in
+    refused_by_lem c.args.head columns H (record_of s) out [] (c.args.slot ∷ []) false refl _ c.admission-refusal.ensures
+    c.if-refusal-ne0.true c.refused.result c.refused.ensures
 
-returns-2 : tie.Need-returns-2
-returns-2 c = λ columns out H.
+pub returns-then-not-in_range : goal.returns-then-not-in_range
+returns-then-not-in_range c = λ columns out H.
     let r = c.before.before in
     let s = start r.before in
-    let no = sym r.in_range.ensures ∙ not-true r.in_range.result c.before.if2.true in
+    let no = sym c.in_range.ensures ∙ c.if-not-in_range.true in
     refused_job s.args.head columns H (record_of s) out (admitted r.before columns) shape_outside
     (open_outside (desk_of s.args.head columns) s.args.slot s.args.arity s.args.roots no)
-    c.refused2.result c.refused2.ensures
+    c.refused-then-not-in_range.result c.refused-then-not-in_range.ensures
 
-slot-number-requires : tie.Need-slot-number-requires
-slot-number-requires c κs = named c.before.before
+pub slot_number-requires : goal.slot_number-requires
+slot_number-requires c = named c.before.before
 
-cast-h : tie.Need-overflow-cast-h
-cast-h c =
+pub overflow_cast-h : goal.overflow_cast-h
+overflow_cast-h c =
     let slot = slot_below (start c.before.before.before).args.slot (named c.before.before.before) in
-    record { fits = omega (arith, c.slot-number.ensures, slot, slots_eight) }
+    record { fits = omega (arith, c.slot_number.ensures, slot, slots_eight) }
 
-returns-3 : tie.Need-returns-3
+pub returns : goal.returns
 unfolding kind
-returns-3 c = λ columns out H.
+returns c = λ columns out H.
     let r = c.before.before in
     let s = start r.before in
     let a = s.args in
     let h = a.head in
     let d = desk_of h columns in
-    let slot = c.slot-number.result in
+    let slot = c.slot_number.result in
     let size : Size = record { arity = a.arity; roots = a.roots; pairs = 0 } in
-    let yes = sym r.in_range.ensures ∙ not-false r.in_range.result c.before.if2.false in
+    let yes = sym c.in_range.ensures ∙ c.if-not-in_range.false in
     let same = slots_untouched columns in
     let next : Effect = (with_draft d (new_draft a.slot (shape a.arity a.roots)), silent) in
     let desk : desk_of (drafted h slot size) columns ≡ next.0 =
     drafted_desk h columns columns H same slot size
     ∙ ap (with_draft d) (draft_empty (drafted h slot size) columns slot a.arity a.roots (drafted_size h columns columns H same slot size)
-    ∙ ap (λ n. record { slot = n; shape = shape a.arity a.roots; rows = [] }) c.slot-number.ensures) in
+    ∙ ap (λ n. record { slot = n; shape = shape a.arity a.roots; rows = [] }) c.slot_number.ensures) in
     let step = at_end d (record_of s) (admitted r.before columns) next (open_done d a.slot a.arity a.roots yes) refl in
     done_passed h columns H (record_of s) out next step _ columns out
     (λ k. holds_drafted h columns columns H same slot size (omega arith) (subst IsDesk (sym desk) k)) desk refl refl
-
-pub open_spec : {M : Type 1} → statement M
-open_spec =
-    tie.close
-    (tie.spec
-    (λ c. search rules)
-    (λ c. search rules)
-    (λ c κs. search rules)
-    (λ c κs. search rules)
-    returns
-    (λ c κs. search rules)
-    (λ c κs. search rules)
-    returns-2
-    (λ c. search rules)
-    slot-number-requires
-    cast-h
-    returns-3)
