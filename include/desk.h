@@ -1,5 +1,5 @@
 /*
- * The sort plan desk for C and C++: link with libdesk_c.a (`rt staticlib desk_c`). It needs memcpy and the like, nothing else. A
+ * The sort plan desk for C and C++: link with libdesk_c.a (`./staticlib desk_c`). It needs memcpy and the like, nothing else. A
  * program may link libplans_c.a beside it and use plans.h too: block i of a desk and its words are a `struct plan`, part by part.
  *
  * A desk has eight slots 'A' to 'H' for plans (plans.h says what a plan is), at most one open plan, the sum of the pairs in its slots,

@@ -1,5 +1,5 @@
 /*
- * The library of plans for C and C++: link with libplans_c.a (`rt staticlib plans_c`). It needs memcpy and the like, nothing else.
+ * The library of plans for C and C++: link with libplans_c.a (`./staticlib plans_c`). It needs memcpy and the like, nothing else.
  *
  * Parcels carry codes, and a plan swaps the fronts of codes. A shape has n ways at every switch (arity) and r belts (roots). A word is
  * a belt, a digit from 1 to r, and then ways, digits from 1 to n. A plan is 1 to 128 pairs (from, to) of words of at most 16 digits,

@@ -14,7 +14,7 @@ fn main() {
     println!("cargo:rerun-if-changed={}", file.display());
     assert!(
         file.is_file(),
-        "no {FILE} in {}: make it by `rt staticlib desk_c`",
+        "no {FILE} in {}: make it by `./staticlib desk_c`",
         folder.display()
     );
     println!("cargo:rustc-link-search=native={}", folder.display());

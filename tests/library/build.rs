@@ -14,7 +14,7 @@ fn main() {
     println!("cargo:rerun-if-changed={}", file.display());
     assert!(
         file.is_file(),
-        "no {FILE} in {}: make it by `rt staticlib plans_c`",
+        "no {FILE} in {}: make it by `./staticlib plans_c`",
         folder.display()
     );
     println!("cargo:rustc-link-search=native={}", folder.display());

@@ -14,7 +14,11 @@ harness!(tried);
 
 extern "C" {
     fn desk_main() -> i32;
+    fn __errno_location() -> *mut i32;
 }
+
+/// The errno of Linux for a call that was interrupted.
+const EINTR: i32 = 4;
 
 /// One run of the program: what is left to read and what was written.
 struct Run {
@@ -71,9 +75,16 @@ impl Run {
     }
 }
 
-/// What a call of the system answers.
+/// What a call of the system answers. Of one that is interrupted errno tells.
 fn answer(count: Option<usize>) -> isize {
-    count.map_or(-1, |count| count as isize)
+    match count {
+        Some(count) => count as isize,
+        None => {
+            // SAFETY: the C library lends each thread a number of its own.
+            unsafe { *__errno_location() = EINTR };
+            -1
+        }
+    }
 }
 
 /// The `read` of the program.
