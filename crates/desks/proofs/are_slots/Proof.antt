@@ -19,58 +19,55 @@ use Rattle.desks.proofs.Exact.{left_fails, left_passes, left_none}
 use Rattle.desks.proofs.are_slots.Statement.{statement}
 use Rattle.desks.proofs.are_slots.Tie as tie
 
-abbrev invariant-loop : tie.invariant-loop
-invariant-loop head columns i₀ i = (i ≤ 8) × (slots_test head columns ≡ all (λ j. slot_test (value_at head columns j)) (count i (8 - i)))
+abbrev invariant-loop-i : tie.invariant-loop-i
+invariant-loop-i head columns i₀ i = (i ≤ 8) × (slots_test head columns ≡ all (λ j. slot_test (value_at head columns j)) (count i (8 - i)))
 
-abbrev decreases-loop : tie.decreases-loop
-decreases-loop head columns i₀ i = 8 - i
+abbrev decreases-loop-i : tie.decreases-loop-i
+decreases-loop-i head columns i₀ i = 8 - i
 
-loop-holds : tie.Need-loop-init invariant-loop decreases-loop
-loop-holds c =
-    let a = c.before.args in
+loop-i-init : tie.Need-loop-i-init invariant-loop-i decreases-loop-i
+loop-i-init c =
+    let a = c.args in
     (omega arith, ap (λ n. all (λ j. slot_test (value_at a.head a.columns.now j)) (count 0 n)) slots_eight)
 
-value-requires : tie.Need-value-requires invariant-loop decreases-loop
-value-requires c κs = record { block = omega (arith, c.loop-test.true); sized = c.before.before.before.requires.sized }
+value-value-requires : tie.Need-value-value-requires invariant-loop-i decreases-loop-i
+value-value-requires c κs = record { block = omega (arith, c.loop-i-test.true); sized = c.requires.sized }
 
 -- the slot that was tested
-is-value : (c : tie.After-is-held invariant-loop decreases-loop) → let l = c.before.before.before in let a = l.before.before.args in
-    c.is_held_lem.result ≡ slot_test (value_at a.head a.columns.now l.loop.i)
-is-value c = c.is_held_lem.ensures ∙ ap slot_test c.before.value.ensures
+is_value : (c : tie.After-is_held invariant-loop-i decreases-loop-i) → let a = c.args in
+    c.is_held.result ≡ slot_test (value_at a.head a.columns.now c.loop-i.i)
+is_value c = c.is_held.ensures ∙ ap slot_test c.value-value.ensures
 
-returns : tie.Need-returns invariant-loop decreases-loop
-returns c =
+returns-then-not-is_held : tie.Need-returns-then-not-is_held invariant-loop-i decreases-loop-i
+returns-then-not-is_held c =
     let v = c.before in
-    let l = v.before.before.before in
-    let a = l.before.before.args in
-    sym (l.loop.invariant.1 ∙ left_fails (λ j. slot_test (value_at a.head a.columns.now j)) l.loop.i v.before.before.loop-test.true (sym (is-value v) ∙ not-true v.is_held_lem.result c.if1.true))
+    let a = c.args in
+    sym (c.loop-i.invariant.1 ∙ left_fails (λ j. slot_test (value_at a.head a.columns.now j)) c.loop-i.i c.loop-i-test.true (sym (is_value v) ∙ c.if-not-is_held.true))
 
-loop-again : tie.Need-loop-preserved invariant-loop decreases-loop
-loop-again c =
+loop-i-preserved : tie.Need-loop-i-preserved invariant-loop-i decreases-loop-i
+loop-i-preserved c =
     let v = c.before in
-    let l = v.before.before.before in
-    let a = l.before.before.args in (
-      omega (arith, v.before.before.loop-test.true),
-      l.loop.invariant.1 ∙ left_passes (λ j. slot_test (value_at a.head a.columns.now j)) l.loop.i v.before.before.loop-test.true (sym (is-value v) ∙ not-false v.is_held_lem.result c.if1.false),
+    let a = c.args in (
+      omega (arith, c.loop-i-test.true),
+      c.loop-i.invariant.1 ∙ left_passes (λ j. slot_test (value_at a.head a.columns.now j)) c.loop-i.i c.loop-i-test.true (sym (is_value v) ∙ c.if-not-is_held.false),
     )
 
-returns-2 : tie.Need-returns-2 invariant-loop decreases-loop
-returns-2 c =
-    let l = c.before in
-    let a = l.before.before.args in
-    sym (l.loop.invariant.1 ∙ left_none (λ j. slot_test (value_at a.head a.columns.now j)) l.loop.i c.loop-test.false)
+returns : tie.Need-returns invariant-loop-i decreases-loop-i
+returns c =
+    let a = c.args in
+    sym (c.loop-i.invariant.1 ∙ left_none (λ j. slot_test (value_at a.head a.columns.now j)) c.loop-i.i c.loop-i-test.false)
 
-pub are-slots-spec : {M : Type 1} → statement M
-are-slots-spec =
+pub are_slots_spec : {M : Type 1} → statement M
+are_slots_spec =
     tie.close
     (tie.spec
-    invariant-loop
-    decreases-loop
-    loop-holds
-    value-requires
+    invariant-loop-i
+    decreases-loop-i
+    loop-i-init
+    value-value-requires
     (λ c κs. search rules)
-    returns
-    (λ c. omega arith)
-    (λ c. omega arith)
-    loop-again
-    returns-2)
+    returns-then-not-is_held
+    (λ c. search rules)
+    (λ c. search rules)
+    loop-i-preserved
+    returns)

@@ -21,15 +21,15 @@ use Rattle.desks.specs.Tested.{words_test}
 use Rattle.desks.proofs.is_open_plan.Statement.{statement}
 use Rattle.desks.proofs.is_open_plan.Tie as tie
 
-abbrev start : tie.Else1 → tie.Start
+abbrev start : tie.Else-not-head → tie.Start
 start c = c.before.before
 
 abbrev value : tie.Start → Plan
-value s = value_at s.args.t1 s.args.columns.now draft_block
+value s = value_at s.args.head s.args.columns.now draft_block
 
 -- the four tests of an open plan
 abbrev a : tie.Start → Bool
-a s = leb (suc s.args.t1.slot) slot_count
+a s = leb (suc s.args.head.slot) slot_count
 
 abbrev b : tie.Start → Bool
 b s = shape_in_range (shape_of (value s))
@@ -43,91 +43,91 @@ t s = words_test (value s) (value s).to
 abbrev tested : tie.Start → Bool → Bool
 tested s o = elim o [ false ↦ true | true ↦ a s && b s && f s && t s ]
 
-opened : (c : tie.Else1) → tested (start c) (start c).args.t1.is_open ≡ (a (start c) && b (start c) && f (start c) && t (start c))
-opened c = ap (tested (start c)) (not-false (start c).args.t1.is_open c.if1.false)
+opened : (c : tie.Else-not-head) → tested (start c) (start c).args.head.is_open ≡ (a (start c) && b (start c) && f (start c) && t (start c))
+opened c = ap (tested (start c)) c.if-not-head.false
 
-slot : (c : tie.Else2) → a (start c.before.before) ≡ true
-slot c = let s = start c.before.before in le-leb (suc s.args.t1.slot) slot_count (omega (arith, slots_eight, c.if2.false))
+slot : (c : tie.Else-head-ge-SLOTS) → a (start c.before.before) ≡ true
+slot c = let s = start c.before.before in le-leb (suc s.args.head.slot) slot_count (omega (arith, slots_eight, c.if-head-ge-SLOTS.false))
 
-in_range : (c : tie.Else3) → b (start c.before.before.before.before) ≡ true
+in_range : (c : tie.Else-not-in_range) → b (start c.before.before.before.before) ≡ true
 unfolding value_at
-in_range c = sym c.before.in_range.ensures ∙ not-false c.before.in_range.result c.if3.false
+in_range c = sym c.in_range.ensures ∙ c.if-not-in_range.false
 
 -- a part of a column is what the value has of it
-part_of : (s : tie.Start) (at : ℕ) → take (size_at s.args.t1 draft_block).pairs (drop at s.args.columns.now) ≡ take (size_at s.args.t1 draft_block).pairs (take max_pairs (drop at s.args.columns.now))
-part_of s at = sym (take-take (size_at s.args.t1 draft_block).pairs max_pairs (drop at s.args.columns.now) s.requires.1)
+part_of : (s : tie.Start) (at : ℕ) → take (size_at s.args.head draft_block).pairs (drop at s.args.columns.now) ≡ take (size_at s.args.head draft_block).pairs (take max_pairs (drop at s.args.columns.now))
+part_of s at = sym (take-take (size_at s.args.head draft_block).pairs max_pairs (drop at s.args.columns.now) s.requires.1)
 
-from_is : (c : tie.After-are-words) → c.are_words.result ≡ f (start c.before.before.before.before.before.before)
+from_is : (c : tie.After-are_words) → c.are_words.result ≡ f (start c.before.before.before.before.before.before)
 unfolding value_at
 from_is c =
     let s = start c.before.before.before.before.before.before in
-    c.are_words.ensures ∙ ap (λ l. all (is_plan_word (shape_of (value s))) (words_of l)) (c.before.part.ensures ∙ part_of s (from_place draft_block))
+    c.are_words.ensures ∙ ap (λ l. all (is_plan_word (shape_of (value s))) (words_of l)) (c.part.ensures ∙ part_of s (from_place draft_block))
 
-returns : tie.Need-returns
-returns c =
+returns-then-not-head : tie.Need-returns-then-not-head
+returns-then-not-head c =
     let s = c.before.before in
-    sym (ap (tested s) (not-true s.args.t1.is_open c.if1.true))
+    sym (ap (tested s) c.if-not-head.true)
 
-returns-2 : tie.Need-returns-2
-returns-2 c =
+returns-then-head-ge-SLOTS : tie.Need-returns-then-head-ge-SLOTS
+returns-then-head-ge-SLOTS c =
     let e = c.before.before in
     let s = start e in
-    let no : a s ≡ false = lt-leb (suc s.args.t1.slot) slot_count (omega (arith, slots_eight, c.if2.true)) in
+    let no : a s ≡ false = lt-leb (suc s.args.head.slot) slot_count (omega (arith, slots_eight, c.if-head-ge-SLOTS.true)) in
     sym (opened e ∙ ap (λ x. x && b s && f s && t s) no)
 
-returns-3 : tie.Need-returns-3
+returns-then-not-in_range : tie.Need-returns-then-not-in_range
 unfolding value_at
-returns-3 c =
+returns-then-not-in_range c =
     let r = c.before in
     let e = r.before.before.before in
     let s = start e in
-    let no : b s ≡ false = sym r.in_range.ensures ∙ not-true r.in_range.result c.if3.true in
+    let no : b s ≡ false = sym c.in_range.ensures ∙ c.if-not-in_range.true in
     sym (opened e ∙ ap (λ x. x && b s && f s && t s) (slot r.before) ∙ ap (λ x. x && f s && t s) no)
 
 part-requires : tie.Need-part-requires
-part-requires c κs = let s = start c.before.before.before.before in omega (arith, pair_limit, s.pre.0.sized, s.pre.1)
+part-requires c κs = let s = start c.before.before.before.before in omega (arith, pair_limit, s.requires.0.sized, s.requires.1)
 
-returns-4 : tie.Need-returns-4
-returns-4 c =
+returns-then-not-are_words : tie.Need-returns-then-not-are_words
+returns-then-not-are_words c =
     let w = c.before in
     let r = w.before.before in
     let e = r.before.before.before.before in
     let s = start e in
-    let no : f s ≡ false = sym (from_is w) ∙ not-true w.are_words.result c.if4.true in
+    let no : f s ≡ false = sym (from_is w) ∙ c.if-not-are_words.true in
     sym (opened e ∙ ap (λ x. x && b s && f s && t s) (slot r.before.before) ∙ ap (λ x. x && f s && t s) (in_range r) ∙ ap (λ x. x && t s) no)
 
 part-requires-2 : tie.Need-part-requires-2
 part-requires-2 c κs =
     let s = start c.before.before.before.before.before.before.before in
-    omega (arith, pair_limit, s.pre.0.sized, s.pre.1)
+    omega (arith, pair_limit, s.requires.0.sized, s.requires.1)
 
-returns-5 : tie.Need-returns-5
+returns : tie.Need-returns
 unfolding value_at
-returns-5 c =
+returns c =
     let p = c.before in
     let l = p.before in
     let w = l.before in
     let r = w.before.before in
     let e = r.before.before.before.before in
     let s = start e in
-    let yes : f s ≡ true = sym (from_is w) ∙ not-false w.are_words.result l.if4.false in
-    c.are-words2.ensures
-    ∙ ap (λ z. all (is_plan_word (shape_of (value s))) (words_of z)) (p.part2.ensures ∙ part_of s (to_place draft_block))
+    let yes : f s ≡ true = sym (from_is w) ∙ c.if-not-are_words.false in
+    c.are_words-2.ensures
+    ∙ ap (λ z. all (is_plan_word (shape_of (value s))) (words_of z)) (c.part-2.ensures ∙ part_of s (to_place draft_block))
     ∙ sym (opened e ∙ ap (λ x. x && b s && f s && t s) (slot r.before.before) ∙ ap (λ x. x && f s && t s) (in_range r) ∙ ap (λ x. x && t s) yes)
 
-pub is-open-plan-spec : {M : Type 1} → statement M
-is-open-plan-spec =
+pub is_open_plan_spec : {M : Type 1} → statement M
+is_open_plan_spec =
     tie.close
     (tie.spec
-    returns
+    returns-then-not-head
     (λ c. search rules)
     (λ c. search rules)
-    returns-2
+    returns-then-head-ge-SLOTS
     (λ c κs. search rules)
-    returns-3
+    returns-then-not-in_range
     part-requires
     (λ c κs. search rules)
-    returns-4
+    returns-then-not-are_words
     part-requires-2
     (λ c κs. search rules)
-    returns-5)
+    returns)

@@ -16,223 +16,176 @@ use Rattle.lines.proofs.Performed.{line_meant, line_done, line_told, no_line_lem
 use Rattle.lines.proofs.perform.Statement.{statement}
 use Rattle.lines.proofs.perform.Tie as tie
 
-abbrev start : tie.After-slice-known2 → tie.Start
+abbrev start : tie.After-slice_known-2-1 → tie.Start
 start c = c.before.before.before
 
 -- the words of M and the code of W stand within the line
-pair-within : (c : tie.After-known-told2) → let s = start c.before.before.before in let x = c.before.record2.given.0 in
-    Within s.args.line.now x.0 × Within s.args.line.now x.1.0
-pair-within c =
-    let s = start c.before.before.before in
-    subst (InBounds s.args.line.now) c.before.record2.given.1 s.pre.bounds
+pair_within : (c : tie.In-Pair) → Within c.args.line.now c.in-Pair.from × Within c.args.line.now c.in-Pair.to
+pair_within c =
+    subst (InBounds c.args.line.now) c.in-Pair.is c.requires.bounds
 
-code-within : (c : tie.After-known-told7) → let s = start c.before.before.before in Within s.args.line.now c.before.record7.given.0.1.0
-code-within c =
-    let s = start c.before.before.before in
-    subst (InBounds s.args.line.now) c.before.record7.given.1 s.pre.bounds
+code_within : (c : tie.In-Route) → Within c.args.line.now c.in-Route.code
+code_within c =
+    subst (InBounds c.args.line.now) c.in-Route.is c.requires.bounds
 
-sub-pair : tie.Need-overflow-sub-pair
-sub-pair c = omega (arith, (pair-within c.before).0.ordered)
+slice_bounds-pair-count : tie.Need-slice_bounds-pair-count
+slice_bounds-pair-count c = omega (arith, (pair_within c.before).0.ordered)
 
-part-pair-start : tie.Need-slice-bounds-pair-start
-part-pair-start c = omega (arith, (pair-within c.before).0.ordered)
+slice_bounds-pair-start : tie.Need-slice_bounds-pair-start
+slice_bounds-pair-start c = omega (arith, (pair_within c.before).0.ordered)
 
-part-pair-end : tie.Need-slice-bounds-pair-end
-part-pair-end c = omega (arith, (pair-within c.before).0.inside)
+slice_bounds-pair-end : tie.Need-slice_bounds-pair-end
+slice_bounds-pair-end c = omega (arith, (pair_within c.before).0.inside)
 
-sub-pair-2 : tie.Need-overflow-sub-pair-2
-sub-pair-2 c = omega (arith, (pair-within c.before.before).1.ordered)
+slice_bounds-pair-count-in-Pair : tie.Need-slice_bounds-pair-count-in-Pair
+slice_bounds-pair-count-in-Pair c = omega (arith, (pair_within c.before.before).1.ordered)
 
-part-pair-start-2 : tie.Need-slice-bounds-pair-start-2
-part-pair-start-2 c = omega (arith, (pair-within c.before.before).1.ordered)
+slice_bounds-pair-start-in-Pair : tie.Need-slice_bounds-pair-start-in-Pair
+slice_bounds-pair-start-in-Pair c = omega (arith, (pair_within c.before.before).1.ordered)
 
-part-pair-end-2 : tie.Need-slice-bounds-pair-end-2
-part-pair-end-2 c = omega (arith, (pair-within c.before.before).1.inside)
+slice_bounds-pair-end-in-Pair : tie.Need-slice_bounds-pair-end-in-Pair
+slice_bounds-pair-end-in-Pair c = omega (arith, (pair_within c.before.before).1.inside)
 
-sub-route : tie.Need-overflow-sub-route
-sub-route c = omega (arith, (code-within c.before).ordered)
+slice_bounds-route-count : tie.Need-slice_bounds-route-count
+slice_bounds-route-count c = omega (arith, (code_within c).ordered)
 
-part-route-start : tie.Need-slice-bounds-route-start
-part-route-start c = omega (arith, (code-within c.before).ordered)
+slice_bounds-route-start : tie.Need-slice_bounds-route-start
+slice_bounds-route-start c = omega (arith, (code_within c).ordered)
 
-part-route-end : tie.Need-slice-bounds-route-end
-part-route-end c = omega (arith, (code-within c.before).inside)
+slice_bounds-route-end : tie.Need-slice_bounds-route-end
+slice_bounds-route-end c = omega (arith, (code_within c).inside)
 
-returns : tie.Need-returns
-returns c =
-    let r = c.before.before in
-    let s = start r.before.before in
-    let a = s.args in
-    line_done a.head a.columns.now a.line.now a.«record» a.out.now _ _ _ _ _ r.«record».given.1 refl
-    (c.«open».ensures a.columns.now a.out.now s.pre.asked.holds)
+returns-in-Open : tie.Need-returns-in-Open
+returns-in-Open c =
+    let a = c.args in
+    line_done a.head a.columns.now a.line.now a.«record» a.out.now _ _ _ _ _ c.in-Open.is refl
+    (c.«open».ensures a.columns.now a.out.now c.requires.asked.holds)
 
-returns-2 : tie.Need-returns-2
-returns-2 c =
-    let p = c.before.before in
-    let r = p.before.before.before.before.before in
-    let s = start r.before.before in
-    let a = s.args in
-    line_done a.head a.columns.now a.line.now a.«record» a.out.now _ _ _ _ _ r.record2.given.1 refl
-    (p.pair.ensures a.out.now)
+returns-in-Pair : tie.Need-returns-in-Pair
+returns-in-Pair c =
+    let a = c.args in
+    line_done a.head a.columns.now a.line.now a.«record» a.out.now _ _ _ _ _ c.in-Pair.is refl
+    (c.pair.ensures a.out.now)
 
-returns-3 : tie.Need-returns-3
-returns-3 c =
-    let p = c.before.before in
-    let r = p.before.before in
-    let s = start r.before.before in
-    let a = s.args in
-    line_done a.head a.columns.now a.line.now a.«record» a.out.now _ _ _ _ _ r.enum_told.given.1 refl
-    (p.close.ensures a.out.now)
+returns-in-Close : tie.Need-returns-in-Close
+returns-in-Close c =
+    let a = c.args in
+    line_done a.head a.columns.now a.line.now a.«record» a.out.now _ _ _ _ _ c.in-Close.is refl
+    (c.close.ensures a.out.now)
 
-returns-4 : tie.Need-returns-4
-returns-4 c =
-    let p = c.before.before in
-    let r = p.before.before.before in
-    let s = start r.before.before in
-    let a = s.args in
-    line_done a.head a.columns.now a.line.now a.«record» a.out.now _ _ _ _ _ r.record3.given.1 refl
-    (p.follow.ensures a.out.now)
+returns-in-Follow : tie.Need-returns-in-Follow
+returns-in-Follow c =
+    let a = c.args in
+    line_done a.head a.columns.now a.line.now a.«record» a.out.now _ _ _ _ _ c.in-Follow.is refl
+    (c.follow.ensures a.out.now)
 
-returns-5 : tie.Need-returns-5
-returns-5 c =
-    let p = c.before.before in
-    let r = p.before.before.before in
-    let s = start r.before.before in
-    let a = s.args in
-    line_done a.head a.columns.now a.line.now a.«record» a.out.now _ _ _ _ _ r.record4.given.1 refl
-    (p.invert.ensures a.out.now)
+returns-in-Invert : tie.Need-returns-in-Invert
+returns-in-Invert c =
+    let a = c.args in
+    line_done a.head a.columns.now a.line.now a.«record» a.out.now _ _ _ _ _ c.in-Invert.is refl
+    (c.invert.ensures a.out.now)
 
 -- the power fits into 32 bits, so that the work reads it back as it is
-power_read : (c : tie.After-record5) → let k = c.record5.given.0.1.0 in read w32 k ≡ k
+power_read : (c : tie.In-Power) → let k = c.in-Power.k in read w32 k ≡ k
 unfolding max_numeral
 power_read c =
-    let s = start c.before.before in
-    let k = c.record5.given.0.1.0 in
-    let small : nat_abs k < 10 ^ max_numeral = subst (InBounds s.args.line.now) c.record5.given.1 s.pre.bounds in
+    let k = c.in-Power.k in
+    let small : nat_abs k < 10 ^ max_numeral = subst (InBounds c.args.line.now) c.in-Power.is c.requires.bounds in
     read_is w32 k (small_fits k small)
 
-returns-6 : tie.Need-returns-6
-returns-6 c =
-    let p = c.before.before in
-    let r = p.before.before.before in
-    let s = start r.before.before in
-    let a = s.args in
-    let x = r.record5.given.0 in
-    line_done a.head a.columns.now a.line.now a.«record» a.out.now _ _ _ _ _ r.record5.given.1 refl
-    (subst (λ k. Done (K x.0 k x.1.1.0) a.head a.columns.now a.out.now p.power.result p.power.new.1.0 a.out.now) (power_read r) (p.power.ensures a.out.now))
-
-returns-7 : tie.Need-returns-7
-returns-7 c =
-    let r = c.before.before.before in
-    let s = start r.before.before in
-    let a = s.args in
-    line_told a.head a.columns.now s.pre.asked.holds a.line.now a.«record» a.out.now _ _ _ _
-    r.record6.given.1 refl
-    (c.compare.ensures a.out.now)
-
-returns-8 : tie.Need-returns-8
-returns-8 c =
-    let p = c.before.before in
-    let r = p.before.before.before.before.before in
-    let s = start r.before.before in
-    let a = s.args in
-    line_told a.head a.columns.now s.pre.asked.holds a.line.now a.«record» a.out.now _ _ _ _
-    r.record7.given.1 refl
-    p.route.ensures
-
-returns-9 : tie.Need-returns-9
-returns-9 c =
-    let p = c.before.before in
-    let r = p.before.before.before.before in
-    let s = start r.before.before in
-    let a = s.args in
-    line_told a.head a.columns.now s.pre.asked.holds a.line.now a.«record» a.out.now _ _ _ _
-    r.record8.given.1 refl
-    p.list.ensures
-
-returns-10 : tie.Need-returns-10
-returns-10 c =
-    let p = c.before.before in
-    let r = p.before.before.before in
-    let s = start r.before.before in
-    let a = s.args in
-    line_done a.head a.columns.now a.line.now a.«record» a.out.now _ _ _ _ _ r.record9.given.1 refl
-    (p.empty.ensures a.out.now)
-
-returns-11 : tie.Need-returns-11
-returns-11 c =
-    let r = c.before in
-    let s = start r.before.before in
-    let a = s.args in
-    line_told a.head a.columns.now s.pre.asked.holds a.line.now a.«record» a.out.now _ _ _ _
-    r.enum-told2.given.1 refl
-    (c.count.ensures a.columns.now a.out.now)
-
-returns-12 : tie.Need-returns-12
-returns-12 c =
+returns-in-Power : tie.Need-returns-in-Power
+returns-in-Power c =
     let p = c.before.before in
     let r = p.before.before in
-    let s = start r.before.before in
-    let a = s.args in
-    line_told a.head a.columns.now s.pre.asked.holds a.line.now a.«record» a.out.now _ _ _ _
-    r.enum-told3.given.1 refl
-    (p.survey.ensures a.columns.now s.pre.asked.holds)
+    let a = c.args in
+    line_done a.head a.columns.now a.line.now a.«record» a.out.now _ _ _ _ _ c.in-Power.is refl
+    (subst (λ k. Done (K c.in-Power.a k c.in-Power.c) a.head a.columns.now a.out.now c.power.result c.power.new.columns a.out.now) (power_read r) (c.power.ensures a.out.now))
 
-returns-13 : tie.Need-returns-13
-returns-13 c =
-    let p = c.before.before in
-    let r = p.before.before.before in
-    let s = start r.before.before in
-    let a = s.args in
-    line_done a.head a.columns.now a.line.now a.«record» a.out.now _ _ _ _ _ r.record10.given.1 refl
-    (p.exercise.ensures a.out.now)
+returns-in-Same : tie.Need-returns-in-Same
+returns-in-Same c =
+    let a = c.args in
+    line_told a.head a.columns.now c.requires.asked.holds a.line.now a.«record» a.out.now _ _ _ _
+    c.in-Same.is refl
+    (c.compare-reply.ensures a.out.now)
 
-returns-14 : tie.Need-returns-14
-returns-14 c =
-    let r = c.before.before in
-    let s = start r.before.before in
-    let a = s.args in
-    line_done a.head a.columns.now a.line.now a.«record» a.out.now _ _ _ _ _ r.record11.given.1 refl
-    (c.name.ensures a.columns.now a.out.now s.pre.asked.holds)
+returns-in-Route : tie.Need-returns-in-Route
+returns-in-Route c =
+    let a = c.args in
+    line_told a.head a.columns.now c.requires.asked.holds a.line.now a.«record» a.out.now _ _ _ _
+    c.in-Route.is refl
+    c.route-reply.ensures
 
-returns-15 : tie.Need-returns-15
-returns-15 c =
-    let r = c.before.before in
-    let s = start r.before.before in
-    let a = s.args in
-    line_meant a.head a.columns.now a.line.now a.«record» a.out.now _ _ _ _ _ r.record12.given.1 refl
-    (c.grant.ensures a.columns.now a.out.now s.pre.asked.holds)
+returns-in-List : tie.Need-returns-in-List
+returns-in-List c =
+    let a = c.args in
+    line_told a.head a.columns.now c.requires.asked.holds a.line.now a.«record» a.out.now _ _ _ _
+    c.in-List.is refl
+    c.list-reply.ensures
 
-returns-16 : tie.Need-returns-16
-returns-16 c =
-    let r = c.before in
-    let s = start r.before.before in
-    let a = s.args in
-    line_told a.head a.columns.now s.pre.asked.holds a.line.now a.«record» a.out.now _ _ _ _
-    r.enum-told4.given.1 refl
-    (c.sum.ensures a.columns.now a.out.now)
+returns-in-Empty : tie.Need-returns-in-Empty
+returns-in-Empty c =
+    let a = c.args in
+    line_done a.head a.columns.now a.line.now a.«record» a.out.now _ _ _ _ _ c.in-Empty.is refl
+    (c.empty.ensures a.out.now)
 
-returns-17 : tie.Need-returns-17
-returns-17 c =
-    let r = c.before in
-    let s = start r.before.before in
-    let a = s.args in
-    no_line_lem a.head a.columns.now s.pre.asked.holds a.line.now a.«record» a.out.now c.refused.result
-    r.enum-told5.given.1 c.refused.ensures
+returns-in-Count : tie.Need-returns-in-Count
+returns-in-Count c =
+    let a = c.args in
+    line_told a.head a.columns.now c.requires.asked.holds a.line.now a.«record» a.out.now _ _ _ _
+    c.in-Count.is refl
+    (c.count-reply.ensures a.columns.now a.out.now)
 
-pub perform-spec : {M : Type 1} → statement M
-perform-spec =
+returns-in-Survey : tie.Need-returns-in-Survey
+returns-in-Survey c =
+    let a = c.args in
+    line_told a.head a.columns.now c.requires.asked.holds a.line.now a.«record» a.out.now _ _ _ _
+    c.in-Survey.is refl
+    (c.survey-reply.ensures a.columns.now c.requires.asked.holds)
+
+returns-in-Exercise : tie.Need-returns-in-Exercise
+returns-in-Exercise c =
+    let a = c.args in
+    line_done a.head a.columns.now a.line.now a.«record» a.out.now _ _ _ _ _ c.in-Exercise.is refl
+    (c.exercise.ensures a.out.now)
+
+returns-in-Station : tie.Need-returns-in-Station
+returns-in-Station c =
+    let a = c.args in
+    line_done a.head a.columns.now a.line.now a.«record» a.out.now _ _ _ _ _ c.in-Station.is refl
+    (c.name.ensures a.columns.now a.out.now c.requires.asked.holds)
+
+returns-in-Grant : tie.Need-returns-in-Grant
+returns-in-Grant c =
+    let a = c.args in
+    line_meant a.head a.columns.now a.line.now a.«record» a.out.now _ _ _ _ _ c.in-Grant.is refl
+    (c.grant.ensures a.columns.now a.out.now c.requires.asked.holds)
+
+returns-in-Sum : tie.Need-returns-in-Sum
+returns-in-Sum c =
+    let a = c.args in
+    line_told a.head a.columns.now c.requires.asked.holds a.line.now a.«record» a.out.now _ _ _ _
+    c.in-Sum.is refl
+    (c.sum-reply.ensures a.columns.now a.out.now)
+
+returns-in-NoRecord : tie.Need-returns-in-NoRecord
+returns-in-NoRecord c =
+    let a = c.args in
+    no_line_lem a.head a.columns.now c.requires.asked.holds a.line.now a.«record» a.out.now c.refused.result
+    c.in-NoRecord.is c.refused.ensures
+
+pub perform_spec : {M : Type 1} → statement M
+perform_spec =
     tie.close
     (tie.spec
     (λ c. search rules)
     (λ c κs. search rules)
     (λ c. search rules)
-    sub-pair
-    part-pair-start
-    part-pair-end
-    sub-pair-2
-    part-pair-start-2
-    part-pair-end-2
+    slice_bounds-pair-count
+    slice_bounds-pair-start
+    slice_bounds-pair-end
+    slice_bounds-pair-count-in-Pair
+    slice_bounds-pair-start-in-Pair
+    slice_bounds-pair-end-in-Pair
     (λ c κs. search rules)
     (λ c. search rules)
     (λ c κs. search rules)
@@ -245,9 +198,9 @@ perform-spec =
     (λ c. search rules)
     (λ c κs. search rules)
     (λ c. search rules)
-    sub-route
-    part-route-start
-    part-route-end
+    slice_bounds-route-count
+    slice_bounds-route-start
+    slice_bounds-route-end
     (λ c κs. search rules)
     (λ c. search rules)
     (λ c κs. search rules)
@@ -267,33 +220,33 @@ perform-spec =
     (λ c κs. search rules)
     (λ c. search rules)
     (λ c κs. search rules)
-    returns
+    returns-in-Open
     (λ c. search rules)
-    returns-2
+    returns-in-Pair
     (λ c. search rules)
-    returns-3
+    returns-in-Close
     (λ c. search rules)
-    returns-4
+    returns-in-Follow
     (λ c. search rules)
-    returns-5
+    returns-in-Invert
     (λ c. search rules)
-    returns-6
+    returns-in-Power
     (λ c. search rules)
-    returns-7
-    (λ c. search rules)
-    (λ c. search rules)
-    returns-8
+    returns-in-Same
     (λ c. search rules)
     (λ c. search rules)
-    returns-9
+    returns-in-Route
     (λ c. search rules)
-    returns-10
-    returns-11
     (λ c. search rules)
-    returns-12
+    returns-in-List
     (λ c. search rules)
-    returns-13
-    returns-14
-    returns-15
-    returns-16
-    returns-17)
+    returns-in-Empty
+    returns-in-Count
+    (λ c. search rules)
+    returns-in-Survey
+    (λ c. search rules)
+    returns-in-Exercise
+    returns-in-Station
+    returns-in-Grant
+    returns-in-Sum
+    returns-in-NoRecord)

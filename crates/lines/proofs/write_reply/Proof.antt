@@ -8,100 +8,99 @@ use Rattle.lines.proofs.Settled.{wrote_silent, wrote_standing, wrote_ok, wrote_n
 use Rattle.lines.proofs.write_reply.Statement.{statement}
 use Rattle.lines.proofs.write_reply.Tie as tie
 
-abbrev start : tie.After-slice-known → tie.Start
+abbrev start : tie.After-slice_known-1 → tie.Start
 start c = c.before
 
-ok-requires : tie.Need-ok-requires
-ok-requires c κs = omega (arith, rooms.ok, (start c.before.before.before).requires)
+ok-used-requires : tie.Need-ok-used-requires
+ok-used-requires c κs = omega (arith, rooms.ok, (start c.before.before).requires)
 
-ok-number-requires : tie.Need-ok-number-requires
-ok-number-requires c κs =
+ok_number-used-requires : tie.Need-ok_number-used-requires
+ok_number-used-requires c κs =
     let r = c.before.before in
-    let small = ok_number_size r.reply2.given.0.0 (omega (arith, c.before.known-told2.given)) in
-    omega (arith, rooms.ok_number_fact, (start r.before.before).requires)
+    let small = ok_number_size c.in-Number.k (omega (arith, c.in-Number.known_told-in-Number-1-own.given)) in
+    omega (arith, rooms.ok_number_fact, (start r).requires)
 
-no-requires : tie.Need-no-requires
-no-requires c κs = omega (arith, rooms.no, (start c.before.before.before.before).requires)
+no-used-requires : tie.Need-no-used-requires
+no-used-requires c κs = omega (arith, rooms.no, (start c.before.before).requires)
 
-no-column-requires : tie.Need-no-column-requires
-no-column-requires c κs = omega (arith, rooms.no_column, (start c.before.before.before.before).requires)
+no_column-used-requires : tie.Need-no_column-used-requires
+no_column-used-requires c κs = omega (arith, rooms.no_column, (start c.before.before).requires)
 
-returns : tie.Need-returns
-returns c =
-    let a = (start c.before.before).args in
-    let e = c.enum_told.given.1 in
+returns-in-Silent : tie.Need-returns-in-Silent
+returns-in-Silent c =
+    let a = (start c.before).args in
+    let e = c.in-Silent.is in
     record { refuses = sym (ap is_refusal e); wrote = λ q out₀ t o. wrote_silent q out₀ a.out.now o (sym e ∙ t) }
 
-returns-2 : tie.Need-returns-2
-returns-2 c =
+returns-in-Written : tie.Need-returns-in-Written
+returns-in-Written c =
     let r = c.before in
-    let a = (start r.before.before).args in
-    let e = r.reply.given.1 in
+    let a = (start r).args in
+    let e = c.in-Written.is in
     record { refuses = sym (ap is_refusal e); wrote = λ q out₀ t o. wrote_standing q out₀ a.out.now o _ (sym e ∙ t) }
 
-returns-3 : tie.Need-returns-3
-returns-3 c =
+returns-in-Ok : tie.Need-returns-in-Ok
+returns-in-Ok c =
     let w = c.before.before in
     let r = w.before.before in
-    let a = (start r.before.before).args in
-    let e = r.enum-told2.given.1 in
-    record { refuses = sym (ap is_refusal e); wrote = λ q out₀ t o. wrote_ok q out₀ a.out.now o _ _ (sym e ∙ t) w.ok.ensures }
+    let a = (start r.before).args in
+    let e = c.in-Ok.is in
+    record { refuses = sym (ap is_refusal e); wrote = λ q out₀ t o. wrote_ok q out₀ a.out.now o _ _ (sym e ∙ t) c.ok-used.ensures }
 
-returns-4 : tie.Need-returns-4
-returns-4 c =
+returns-in-Number : tie.Need-returns-in-Number
+returns-in-Number c =
     let w = c.before.before in
     let r = w.before.before.before in
-    let a = (start r.before.before).args in
-    let e = r.reply2.given.1 in
+    let a = (start r).args in
+    let e = c.in-Number.is in
     record {
       refuses = sym (ap is_refusal e);
-      wrote = λ q out₀ t o. wrote_number q out₀ a.out.now o _ _ r.reply2.given.0.0 (sym e ∙ t) w.ok_number_fact.ensures;
+      wrote = λ q out₀ t o. wrote_number q out₀ a.out.now o _ _ c.in-Number.k (sym e ∙ t) c.ok_number-used.ensures;
     }
 
-returns-5 : tie.Need-returns-5
-returns-5 c =
+returns-in-Refused : tie.Need-returns-in-Refused
+returns-in-Refused c =
     let w = c.before.before in
     let r = w.before.before.before in
-    let a = (start r.before.before).args in
-    let e = r.reply3.given.1 in
+    let a = (start r).args in
+    let e = c.in-Refused.is in
     record {
       refuses = sym (ap is_refusal e);
-      wrote = λ q out₀ t o. wrote_refusal q out₀ a.out.now o _ _ r.reply3.given.0.0 (sym e ∙ t) w.no.ensures;
+      wrote = λ q out₀ t o. wrote_refusal q out₀ a.out.now o _ _ c.in-Refused.number (sym e ∙ t) c.no-used.ensures;
     }
 
-returns-6 : tie.Need-returns-6
-returns-6 c =
+returns-in-RefusedIn : tie.Need-returns-in-RefusedIn
+returns-in-RefusedIn c =
     let w = c.before.before in
     let r = w.before.before.before in
-    let a = (start r.before.before).args in
-    let x = r.reply4.given.0 in
-    let e = r.reply4.given.1 in
+    let a = (start r).args in
+    let e = c.in-RefusedIn.is in
     record {
       refuses = sym (ap is_refusal e);
-      wrote = λ q out₀ t o. wrote_column q out₀ a.out.now o _ _ x.0 x.1.0 (sym e ∙ t) w.no_column.ensures;
+      wrote = λ q out₀ t o. wrote_column q out₀ a.out.now o _ _ c.in-RefusedIn.number c.in-RefusedIn.letter (sym e ∙ t) c.no_column-used.ensures;
     }
 
-pub write-reply-spec : {M : Type 1} → statement M
-write-reply-spec =
+pub write_reply_spec : {M : Type 1} → statement M
+write_reply_spec =
     tie.close
     (tie.spec
     (λ c. search rules)
     (λ c. search rules)
     (λ c. search rules)
-    ok-requires
+    ok-used-requires
     (λ c. search rules)
-    ok-number-requires
+    ok_number-used-requires
     (λ c. search rules)
-    no-requires
+    no-used-requires
     (λ c. search rules)
-    no-column-requires
-    returns
-    returns-2
+    no_column-used-requires
+    returns-in-Silent
+    returns-in-Written
     (λ c. search rules)
-    returns-3
+    returns-in-Ok
     (λ c. search rules)
-    returns-4
+    returns-in-Number
     (λ c. search rules)
-    returns-5
+    returns-in-Refused
     (λ c. search rules)
-    returns-6)
+    returns-in-RefusedIn)
