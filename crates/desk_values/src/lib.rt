@@ -22,7 +22,7 @@ const TO: usize = FROM + MAX_PAIRS;
 // "The desk has slots A to H, at most one open plan, and a count of changes": the sizes and words of the slots and then of the open plan,
 // and the letter of the slot that the open plan is meant for, 0 where none is open.
 #[repr(C)]
-#[derive(Drop)]
+#[derive(Clone, Copy)]
 pub struct Desk {
     pub blocks: [Size; BLOCKS],
     pub opened: u8,

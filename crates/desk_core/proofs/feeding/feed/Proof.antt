@@ -17,213 +17,212 @@ use Rattle.desk_core.proofs.Feeds.{reply_limit, Turn, turn_start, stopped_within
 use Rattle.desk_core.proofs.feeding.feed.Statement.{statement}
 use Rattle.desk_core.proofs.feeding.feed.Tie as tie
 
-abbrev invariant-loop : tie.invariant-loop
-invariant-loop input out₀ head₀ columns₀ line₀ begun₀ overlong₀ at₀ used₀ out head columns line begun overlong at used =
+abbrev invariant-loop-at : tie.invariant-loop-at
+invariant-loop-at input out₀ head₀ columns₀ line₀ begun₀ overlong₀ at₀ used₀ out head columns line begun overlong at used =
     Turn (record { head = head₀; columns = columns₀; line = line₀; begun = begun₀; overlong = overlong₀ }) input out₀
     (record { head = head; columns = columns; line = line; begun = begun; overlong = overlong }) at out used
 
-abbrev decreases-loop : tie.decreases-loop
-decreases-loop input out₀ head₀ columns₀ line₀ begun₀ overlong₀ at₀ used₀ out head columns line begun overlong at used = length input - at
+abbrev decreases-loop-at : tie.decreases-loop-at
+decreases-loop-at input out₀ head₀ columns₀ line₀ begun₀ overlong₀ at₀ used₀ out head columns line begun overlong at used = length input - at
 
-abbrev start : tie.At-loop invariant-loop decreases-loop → tie.Start invariant-loop decreases-loop
+abbrev start : tie.At-loop-at invariant-loop-at decreases-loop-at → tie.Start invariant-loop-at decreases-loop-at
 start c = c.before.before.before.before.before.before
 
 -- the state at a turn of the loop
-abbrev current : tie.At-loop invariant-loop decreases-loop → State
-current c = let l = c.loop in record { head = l.head; columns = l.columns; line = l.line; begun = l.begun; overlong = l.overlong }
+abbrev current : tie.At-loop-at invariant-loop-at decreases-loop-at → State
+current c = let l = c.loop-at in record { head = l.head; columns = l.columns; line = l.line; begun = l.begun; overlong = l.overlong }
 
 -- where the end of a line was looked for
-abbrev turn : tie.After-line-end invariant-loop decreases-loop → tie.At-loop invariant-loop decreases-loop
+abbrev turn : tie.After-line_end-end invariant-loop-at decreases-loop-at → tie.At-loop-at invariant-loop-at decreases-loop-at
 turn c = c.before.before.before
 
-held : (c : tie.At-loop invariant-loop decreases-loop) → Held c.loop.line c.loop.begun c.loop.overlong
-held c = let k = c.loop.invariant.fed.holds in record { lined = k.lined; fits = k.fits; let_go = k.let_go }
+held : (c : tie.At-loop-at invariant-loop-at decreases-loop-at) → Held c.loop-at.line c.loop-at.begun c.loop-at.overlong
+held c = let k = c.loop-at.invariant.fed.holds in record { lined = k.lined; fits = k.fits; let_go = k.let_go }
 
 -- and there is room for any reply
-room : (c : tie.After-line-end invariant-loop decreases-loop) → max_reply ≤ length (turn c).loop.out - (turn c).loop.used
-room c = omega (arith, reply_limit, c.before.if1.false)
+room : (c : tie.After-line_end-end invariant-loop-at decreases-loop-at) → max_reply ≤ length (turn c).loop-at.out - (turn c).loop-at.used
+room c = omega (arith, reply_limit, c.if-out-used-lt-MAX_REPLY.false)
 
-loop-holds : tie.Need-loop-init invariant-loop decreases-loop
-loop-holds c = turn_start _ _ _ c.before.before.before.before.before.requires
+loop-at-init : tie.Need-loop-at-init invariant-loop-at decreases-loop-at
+loop-at-init c = turn_start _ _ _ c.requires
 
-sub-if1 : tie.Need-overflow-sub-if1 invariant-loop decreases-loop
-sub-if1 c = omega (arith, c.before.loop.invariant.fed.room)
+overflow_sub-out : tie.Need-overflow_sub-out invariant-loop-at decreases-loop-at
+overflow_sub-out c = omega (arith, c.loop-at.invariant.fed.room)
 
-same_length : tie.Need-same-length invariant-loop decreases-loop
-same_length c = omega (arith, c.before.before.loop.invariant.fed.long)
+shape_of-out-then-out-used-lt-MAX_REPLY : tie.Need-shape_of-out-then-out-used-lt-MAX_REPLY invariant-loop-at decreases-loop-at
+shape_of-out-then-out-used-lt-MAX_REPLY c = omega (arith, c.loop-at.invariant.fed.long)
 
-returns : tie.Need-returns invariant-loop decreases-loop
-returns c =
-    let l = c.before.before in
-    let k = l.loop.invariant in
+returns-then-out-used-lt-MAX_REPLY : tie.Need-returns-then-out-used-lt-MAX_REPLY invariant-loop-at decreases-loop-at
+returns-then-out-used-lt-MAX_REPLY c =
+    let k = c.loop-at.invariant in
     record {
       fed = k.fed;
-      stopped = λ _. omega (arith, reply_limit, c.if1.true, k.fed.long, k.fed.room);
-      within = stopped_within _ _ _ _ _ _ _ k (omega (arith, reply_limit, c.if1.true));
+      stopped = λ _. omega (arith, reply_limit, c.if-out-used-lt-MAX_REPLY.true, k.fed.long, k.fed.room);
+      within = stopped_within _ _ _ _ _ _ _ k (omega (arith, reply_limit, c.if-out-used-lt-MAX_REPLY.true));
     }
 
-line-end-requires : tie.Need-line-end-requires invariant-loop decreases-loop
-line-end-requires c κs = omega (arith, c.before.before.loop.invariant.fed.taken)
+line_end-end-requires : tie.Need-line_end-end-requires invariant-loop-at decreases-loop-at
+line_end-end-requires c κs = omega (arith, c.loop-at.invariant.fed.taken)
 
-slice-aggregate-grow : tie.Need-slice-aggregate-grow invariant-loop decreases-loop
-slice-aggregate-grow c = let l = turn c.before.before in omega (arith, line_limit, l.loop.inv.fed.holds.lined)
+slice_bounds-grow-end : tie.Need-slice_bounds-grow-end invariant-loop-at decreases-loop-at
+slice_bounds-grow-end c = let l = turn c.before.before in omega (arith, line_limit, l.loop-at.invariant.fed.holds.lined)
 
-sub-grow : tie.Need-overflow-sub-grow invariant-loop decreases-loop
-sub-grow c = omega (arith, c.before.before.line-end.ensures.from)
+slice_bounds-grow-count : tie.Need-slice_bounds-grow-count invariant-loop-at decreases-loop-at
+slice_bounds-grow-count c = omega (arith, c.line_end-end.ensures.from)
 
-part-grow-start : tie.Need-slice-bounds-grow-start invariant-loop decreases-loop
-part-grow-start c = omega (arith, c.before.before.line-end.ensures.from)
+slice_bounds-grow-start : tie.Need-slice_bounds-grow-start invariant-loop-at decreases-loop-at
+slice_bounds-grow-start c = omega (arith, c.line_end-end.ensures.from)
 
-part-grow-end : tie.Need-slice-bounds-grow-end invariant-loop decreases-loop
-part-grow-end c = omega (arith, c.before.before.line-end.ensures.inside)
+slice_bounds-grow-end-then-input-end : tie.Need-slice_bounds-grow-end-then-input-end invariant-loop-at decreases-loop-at
+slice_bounds-grow-end-then-input-end c = omega (arith, c.line_end-end.ensures.inside)
 
-grow-requires : tie.Need-grow-requires invariant-loop decreases-loop
-grow-requires c κs = held (turn c.before.before.before)
+grow-grown-requires : tie.Need-grow-grown-requires invariant-loop-at decreases-loop-at
+grow-grown-requires c κs = held (turn c.before.before.before)
 
-same-length-2 : tie.Need-same-length-2 invariant-loop decreases-loop
-same-length-2 c = omega (arith, (turn c.before.before.before.before.before).loop.inv.fed.long)
+shape_of-out-then-input-end : tie.Need-shape_of-out-then-input-end invariant-loop-at decreases-loop-at
+shape_of-out-then-input-end c = omega (arith, (turn c.before.before.before.before.before).loop-at.invariant.fed.long)
 
-returns-2 : tie.Need-returns-2 invariant-loop decreases-loop
-returns-2 c =
+returns-then-input-end : tie.Need-returns-then-input-end invariant-loop-at decreases-loop-at
+returns-then-input-end c =
     let g = c.before in
     let t = g.before.before.before in
     let e = t.before in
-    let k = (turn e).loop.invariant in
+    let k = (turn e).loop-at.invariant in
     record {
-      fed = fed_rest _ _ _ _ _ _ _ k _ e.line-end.ensures g.grow.result g.grow.new.0 g.grow.ensures;
-      stopped = λ n. absurd (n (omega (arith, t.if2.true, e.line-end.ensures.inside)));
+      fed = fed_rest _ _ _ _ _ _ _ k _ c.line_end-end.ensures c.grow-grown.result c.grow-grown.new.line c.grow-grown.ensures;
+      stopped = λ n. absurd (n (omega (arith, c.if-input-end.true, c.line_end-end.ensures.inside)));
       within =
-          rest_within _ _ _ _ _ _ _ k _ e.line-end.ensures g.grow.result g.grow.new.0 g.grow.ensures t.if2.true
+          rest_within _ _ _ _ _ _ _ k _ c.line_end-end.ensures c.grow-grown.result c.grow-grown.new.line c.grow-grown.ensures c.if-input-end.true
           (room e);
     }
 
-slice-aggregate-whole-line : tie.Need-slice-aggregate-whole-line invariant-loop decreases-loop
-slice-aggregate-whole-line c = let l = turn c.before.before in omega (arith, l.loop.inv.fed.holds.holds.sized)
+slice_bounds-whole_line-end : tie.Need-slice_bounds-whole_line-end invariant-loop-at decreases-loop-at
+slice_bounds-whole_line-end c = let l = turn c.before.before in omega (arith, l.loop-at.invariant.fed.holds.holds.sized)
 
-slice-aggregate-whole-line-2 : tie.Need-slice-aggregate-whole-line-2 invariant-loop decreases-loop
-slice-aggregate-whole-line-2 c = let l = turn c.before.before.before in omega (arith, line_limit, l.loop.inv.fed.holds.lined)
+slice_bounds-whole_line-end-in-loop-at : tie.Need-slice_bounds-whole_line-end-in-loop-at invariant-loop-at decreases-loop-at
+slice_bounds-whole_line-end-in-loop-at c = let l = turn c.before.before.before in omega (arith, line_limit, l.loop-at.invariant.fed.holds.lined)
 
-sub-whole-line : tie.Need-overflow-sub-whole-line invariant-loop decreases-loop
-sub-whole-line c = omega (arith, c.before.before.before.line-end.ensures.from)
+slice_bounds-whole_line-count : tie.Need-slice_bounds-whole_line-count invariant-loop-at decreases-loop-at
+slice_bounds-whole_line-count c = omega (arith, c.line_end-end.ensures.from)
 
-part-whole-line-start : tie.Need-slice-bounds-whole-line-start invariant-loop decreases-loop
-part-whole-line-start c = omega (arith, c.before.before.before.line-end.ensures.from)
+slice_bounds-whole_line-start : tie.Need-slice_bounds-whole_line-start invariant-loop-at decreases-loop-at
+slice_bounds-whole_line-start c = omega (arith, c.line_end-end.ensures.from)
 
-part-whole-line-end : tie.Need-slice-bounds-whole-line-end invariant-loop decreases-loop
-part-whole-line-end c = omega (arith, c.before.before.before.line-end.ensures.inside)
+slice_bounds-whole_line-end-in-loop-at-2 : tie.Need-slice_bounds-whole_line-end-in-loop-at-2 invariant-loop-at decreases-loop-at
+slice_bounds-whole_line-end-in-loop-at-2 c = omega (arith, c.line_end-end.ensures.inside)
 
-sub-whole-line-2 : tie.Need-overflow-sub-whole-line-2 invariant-loop decreases-loop
-sub-whole-line-2 c = (turn c.before.before.before.before).loop.inv.fed.room
+slice_bounds-whole_line-count-in-loop-at : tie.Need-slice_bounds-whole_line-count-in-loop-at invariant-loop-at decreases-loop-at
+slice_bounds-whole_line-count-in-loop-at c = (turn c.before.before.before.before).loop-at.invariant.fed.room
 
-part-whole-line-start-2 : tie.Need-slice-bounds-whole-line-start-2 invariant-loop decreases-loop
-part-whole-line-start-2 c = omega (arith, (turn c.before.before.before.before).loop.inv.fed.room)
+slice_bounds-whole_line-start-in-loop-at : tie.Need-slice_bounds-whole_line-start-in-loop-at invariant-loop-at decreases-loop-at
+slice_bounds-whole_line-start-in-loop-at c = omega (arith, (turn c.before.before.before.before).loop-at.invariant.fed.room)
 
-part-whole-line-end-2 : tie.Need-slice-bounds-whole-line-end-2 invariant-loop decreases-loop
-part-whole-line-end-2 c = omega (arith, (turn c.before.before.before.before).loop.inv.fed.room)
+slice_bounds-whole_line-end-in-loop-at-3 : tie.Need-slice_bounds-whole_line-end-in-loop-at-3 invariant-loop-at decreases-loop-at
+slice_bounds-whole_line-end-in-loop-at-3 c = omega (arith, (turn c.before.before.before.before).loop-at.invariant.fed.room)
 
-whole-line-requires : tie.Need-whole-line-requires invariant-loop decreases-loop
-whole-line-requires c κs =
+whole_line-s-requires : tie.Need-whole_line-s-requires invariant-loop-at decreases-loop-at
+whole_line-s-requires c κs =
     let e = c.before.before.before.before.before in
     let l = turn e in
-    let out = l.loop.out in
-    let used = l.loop.used in
+    let out = l.loop-at.out in
+    let used = l.loop-at.used in
     let size : length (take (length out - used) (drop used out)) ≡ length out - used = length-take-le (length out - used) (drop used out) (omega (arith, length-drop used out)) in
-    (record { holds = l.loop.inv.fed.holds.holds; room = omega (arith, room e) }, held l)
+    (record { holds = l.loop-at.invariant.fed.holds.holds; room = omega (arith, room e) }, held l)
 
 -- where a line was answered
-abbrev answered : tie.After-whole-line invariant-loop decreases-loop → tie.After-line-end invariant-loop decreases-loop
+abbrev answered : tie.After-whole_line-s invariant-loop-at decreases-loop-at → tie.After-line_end-end invariant-loop-at decreases-loop-at
 answered c = c.before.before.before.before.before.before
 
 -- the output then
-abbrev output : tie.After-whole-line invariant-loop decreases-loop → List ℕ
+abbrev output : tie.After-whole_line-s invariant-loop-at decreases-loop-at → List ℕ
 output c =
-    let l = (turn (answered c)).loop in
-    take l.used l.out ++ (c.whole-line.new.1.1.1.1.1.1.0 ++ drop (length l.out - l.used) (drop l.used l.out))
+    let l = (turn (answered c)).loop-at in
+    take l.used l.out ++ (c.whole_line-s.new.out ++ drop (length l.out - l.used) (drop l.used l.out))
 
-ended : (c : tie.After-whole-line invariant-loop decreases-loop) → let l = turn (answered c) in let s = start l in let w = c.whole-line in
+ended : (c : tie.After-whole_line-s invariant-loop-at decreases-loop-at) → let l = turn (answered c) in let s = start l in let w = c.whole_line-s in
     Turn s.args.state s.args.input.now s.args.out.now
     (record { head = w.result.head; columns = w.new.1.0; line = w.new.1.1.0; begun = 0; overlong = false })
-    ((answered c).line-end.result + 1) (output c) (l.loop.used + w.result.used)
+    ((answered c).line_end-end.result + 1) (output c) (l.loop.used + w.result.used)
 ended c =
     let e = answered c in
-    let k = (turn e).loop.inv in
-    let w = c.whole-line in
-    turn_ended _ _ _ _ _ _ _ k _ e.line-end.ensures (omega (arith, c.before.before.before.before.before.if2.false)) (room e)
+    let k = (turn e).loop-at.invariant in
+    let w = c.whole_line-s in
+    turn_ended _ _ _ _ _ _ _ k _ e.line_end-end.ensures (omega (arith, c.if-input-end.false)) (room e)
     w.result w.new.1.0 w.new.1.1.0
     w.new.1.1.1.1.1.1.0 (w.ensures.1 ∙ k.fed.holds.lined) w.ensures.0
 
 -- what is lent has no more bytes than a number counts
-input-short : (c : tie.Start invariant-loop decreases-loop) → length c.args.input.now < 2 ^ 64
-input-short c = omega arith
+input_short : (c : tie.Start invariant-loop-at decreases-loop-at) → length c.args.input.now < 2 ^ 64
+input_short c = omega arith
 
-out-short : (c : tie.Start invariant-loop decreases-loop) → length c.args.out.now < 2 ^ 64
-out-short c = omega arith
+out_short : (c : tie.Start invariant-loop-at decreases-loop-at) → length c.args.out.now < 2 ^ 64
+out_short c = omega arith
 
-add-used : tie.Need-overflow-add-used invariant-loop decreases-loop
-add-used c =
+overflow_add-used : tie.Need-overflow_add-used invariant-loop-at decreases-loop-at
+overflow_add-used c =
     let w = c.before.before.before.before.before.before in
     let l = turn (answered w) in
     let long : length (output w) ≡ length (start l).args.out.now = (ended w).fed.long in
-    record { fits = omega (arith, (ended w).fed.room, long, out-short (start l)) }
+    record { fits = omega (arith, (ended w).fed.room, long, out_short (start l)) }
 
-add_at : tie.Need-overflow-add-at invariant-loop decreases-loop
-add_at c =
+overflow_add-at : tie.Need-overflow_add-at invariant-loop-at decreases-loop-at
+overflow_add-at c =
     let w = c.before.before.before.before.before.before in
-    record { fits = omega (arith, (ended w).fed.taken, input-short (start (turn (answered w)))) }
+    record { fits = omega (arith, (ended w).fed.taken, input_short (start (turn (answered w)))) }
 
-loop-less : tie.Need-loop-smaller invariant-loop decreases-loop
-loop-less c =
+loop-at-smaller : tie.Need-loop-at-smaller invariant-loop-at decreases-loop-at
+loop-at-smaller c =
     let w = c.before.before.before.before.before.before in
     let e = answered w in
-    omega (arith, (ended w).fed.taken, e.line-end.ensures.from, e.before.before.loop-test.taken)
+    omega (arith, (ended w).fed.taken, e.line_end-end.ensures.from, e.loop-at-test.taken)
 
-loop-again : tie.Need-loop-preserved invariant-loop decreases-loop
-loop-again c = ended c.before.before.before.before.before.before
+loop-at-preserved : tie.Need-loop-at-preserved invariant-loop-at decreases-loop-at
+loop-at-preserved c = ended c.before.before.before.before.before.before
 
-same-length-3 : tie.Need-same-length-3 invariant-loop decreases-loop
-same-length-3 c = omega (arith, c.before.loop.invariant.fed.long)
+shape_of-out : tie.Need-shape_of-out invariant-loop-at decreases-loop-at
+shape_of-out c = omega (arith, c.loop-at.invariant.fed.long)
 
-returns-3 : tie.Need-returns-3 invariant-loop decreases-loop
-returns-3 c =
+returns : tie.Need-returns invariant-loop-at decreases-loop-at
+returns c =
     let l = c.before in
-    let k = l.loop.invariant in
+    let k = c.loop-at.invariant in
     let s = start l in
     record {
       fed = k.fed;
-      stopped = λ n. absurd (n (omega (arith, c.loop-test.false, k.fed.taken)));
-      within = ended_within _ _ _ _ _ _ _ k c.loop-test.false;
+      stopped = λ n. absurd (n (omega (arith, c.loop-at-test.false, k.fed.taken)));
+      within = ended_within _ _ _ _ _ _ _ k c.loop-at-test.false;
     }
 
-pub feed-spec : {M : Type 1} → statement M
-feed-spec =
+pub feed_spec : {M : Type 1} → statement M
+feed_spec =
     tie.close
     (tie.spec
-    invariant-loop
-    decreases-loop
-    loop-holds
-    sub-if1
-    same_length
-    returns
-    line-end-requires
-    slice-aggregate-grow
-    sub-grow
-    part-grow-start
-    part-grow-end
-    grow-requires
-    same-length-2
-    returns-2
-    slice-aggregate-whole-line
-    slice-aggregate-whole-line-2
-    sub-whole-line
-    part-whole-line-start
-    part-whole-line-end
-    sub-whole-line-2
-    part-whole-line-start-2
-    part-whole-line-end-2
-    whole-line-requires
-    add-used
-    add_at
-    loop-less
-    loop-again
-    same-length-3
-    returns-3)
+    invariant-loop-at
+    decreases-loop-at
+    loop-at-init
+    overflow_sub-out
+    shape_of-out-then-out-used-lt-MAX_REPLY
+    returns-then-out-used-lt-MAX_REPLY
+    line_end-end-requires
+    slice_bounds-grow-end
+    slice_bounds-grow-count
+    slice_bounds-grow-start
+    slice_bounds-grow-end-then-input-end
+    grow-grown-requires
+    shape_of-out-then-input-end
+    returns-then-input-end
+    slice_bounds-whole_line-end
+    slice_bounds-whole_line-end-in-loop-at
+    slice_bounds-whole_line-count
+    slice_bounds-whole_line-start
+    slice_bounds-whole_line-end-in-loop-at-2
+    slice_bounds-whole_line-count-in-loop-at
+    slice_bounds-whole_line-start-in-loop-at
+    slice_bounds-whole_line-end-in-loop-at-3
+    whole_line-s-requires
+    overflow_add-used
+    overflow_add-at
+    loop-at-smaller
+    loop-at-preserved
+    shape_of-out
+    returns)
