@@ -170,7 +170,7 @@ module _ (d : Desk) (whole : Whole d) (t : T (is_desk_value d)) where
 pub whole_of_good : (d : Desk) (values : List Val) → Is the_row d values → Whole d
 whole_of_good d values good =
     record {
-      headed = sym (length-map d.blocks _) ∙ good.1.1.0.1.0.1;
-      sized = sym (length-map d.columns (λ (x : ℕ). x)) ∙ good.1.1.1.1.1.0.1.0.1;
+      headed = good.1.1.0.1.0.1;
+      sized = good.1.1.1.1.1.0.1.0.1;
       narrow = narrow_rights d.control.rights _ good.1.1.1.1.0.1.1.1.1.0.1.1;
     }

@@ -6,10 +6,10 @@ use lib.ListN.{get_or}
 use mir.Val.{Val}
 use denote.Shadow.{shadow}
 use denote.Array.{each}
-use denote.Struct.Field.{u16-field}
+use denote.Builtin.{u16}
 
 pub narrow_rights : (rows : List ℕ) (us : List Val)
-    → shadow (each u16-field.row.Denot u16-field.row.own_val (map (λ v. v) rows) us) → (s : ℕ) → get_or rows s 0 < 65_536
+    → shadow (each u16.Denot u16.own_val rows us) → (s : ℕ) → get_or rows s 0 < 65_536
 narrow_rights [] us good s = omega arith
 narrow_rights (row ∷ rows) [] good s = absurd good
 narrow_rights (row ∷ rows) (u ∷ us) good zero = good.0.1

@@ -8,7 +8,7 @@ use Rattle.higman.specs.Words.{count}
 use Rattle.higman.specs.Bases.{all}
 use Rattle.slots.proofs.Held.{slots_eight}
 use Rattle.desks.proofs.Exact.{left_fails, left_passes, left_none}
-use Rattle.desk_values.proofs.are_tidy.Invariants.{place, sizes, tested}
+use Rattle.desk_values.proofs.are_tidy.Invariants.{tested}
 use Rattle.desk_values.proofs.are_tidy.Goals as goal
 
 pub loop-i-init : goal.loop-i-init
@@ -16,17 +16,13 @@ loop-i-init c = (omega arith, ap (λ n. all (tested c.args.sizes) (count 0 n)) s
 
 pub returns-then-not-is_tidy : goal.returns-then-not-is_tidy
 returns-then-not-is_tidy c =
-    let v = c.before in
-    let l = place v in
-    sym (l.loop-i.invariant.1 ∙ left_fails (tested (sizes v)) l.loop-i.i c.loop-i-test.true (sym c.is_tidy.ensures
+    sym (c.loop-i.invariant.1 ∙ left_fails (tested c.args.sizes) c.loop-i.i c.loop-i-test.true (sym c.is_tidy.ensures
     ∙ c.if-not-is_tidy.true))
 
 pub loop-i-preserved : goal.loop-i-preserved
-loop-i-preserved c =
-    let v = c.before in
-    let l = place v in (
+loop-i-preserved c = (
       omega (arith, c.loop-i-test.true),
-      l.loop-i.invariant.1 ∙ left_passes (tested (sizes v)) l.loop-i.i c.loop-i-test.true (sym c.is_tidy.ensures
+      c.loop-i.invariant.1 ∙ left_passes (tested c.args.sizes) c.loop-i.i c.loop-i-test.true (sym c.is_tidy.ensures
           ∙ c.if-not-is_tidy.false),
     )
 

@@ -20,10 +20,3 @@ invariant-loop-i l = (l.i ≤ 8) × (sizes_test l.sizes ≡ all (tested l.sizes)
 
 abbrev pub decreases-loop-i : goal.decreases-loop-i
 decreases-loop-i l = 8 - l.i
-
--- the place in the loop of a size that was tested, and the sizes
-abbrev pub place : tie.After-is-tidy invariant-loop decreases-loop → tie.At-loop invariant-loop decreases-loop
-place c = c.before.before.before
-
-abbrev pub sizes : tie.After-is-tidy invariant-loop decreases-loop → List Size
-sizes c = (place c).before.args.sizes

@@ -30,9 +30,9 @@ slot_number-requires c =
 
 pub overflow_cast-result : goal.overflow_cast-result
 overflow_cast-result c =
-    let e = c.before in
     let d = c.args.desk in
-    record { fits = omega (arith, c.slot_number.ensures, slot_below d.opened (slot_number-requires e tt), slots_eight) }
+    let named = sym (ap (tested d.opened) (ne_eqb d.opened 0 c.if-opened-eq0.false)) ∙ c.requires in
+    record { fits = omega (arith, c.slot_number.ensures, slot_below d.opened named, slots_eight) }
 
 pub returns : goal.returns
 returns c =

@@ -8,15 +8,7 @@ use Rattle.slots.proofs.Held.{slots_eight}
 use Rattle.changing.proofs.Drafts.{open_draft}
 use Rattle.desk_values.specs.Values.{opened_by}
 use Rattle.desk_values.proofs.Blocks.{draft_closed, draft_opened}
-use Rattle.desk_values.proofs.opened_by.Goals.{Else-not-head}
 use Rattle.desk_values.proofs.opened_by.Goals as goal
-
-is_open_lem : (c : Else-not-head) → c.args.head.is_open ≡ true
-is_open_lem c = not-false c.args.head.is_open c.if-not-head.false
-
-small : (c : Else-not-head) → c.args.head.slot < 8
-small c =
-    omega (arith, slots_eight, (open_draft c.args.head c.args.columns.now c.requires (is_open_lem c)).slot_named)
 
 pub returns-then-not-head : goal.returns-then-not-head
 returns-then-not-head c =
@@ -25,9 +17,10 @@ returns-then-not-head c =
 
 pub returns : goal.returns
 returns c =
-    let e = c.before in
     let a = c.args in
-    sym (ap opened_by (draft_opened a.head a.columns.now c.requires (is_open_lem e)))
+    sym (ap opened_by (draft_opened a.head a.columns.now c.requires (not-false c.args.head.is_open c.if-not-head.false)))
 
 pub overflow_add-result : goal.overflow_add-result
-overflow_add-result c = record { fits = omega (arith, small c.before) }
+overflow_add-result c =
+    let draft = open_draft c.args.head c.args.columns.now c.requires (not-false c.args.head.is_open c.if-not-head.false) in
+    record { fits = omega (arith, slots_eight, draft.slot_named) }

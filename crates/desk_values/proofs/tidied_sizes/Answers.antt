@@ -6,17 +6,12 @@ use Rattle.desk_values.proofs.tidied_sizes.Goals as goal
 
 pub returns : goal.returns
 unfolding slot_count
-returns h =
-    let g = h.before.before in
-    let f = g.before.before in
-    let e = f.before.before in
-    let d = e.before.before in
-    let c = d.before.before in
+returns c =
     ap₂ ◌∷◌ c.tidied.ensures
     (ap₂ ◌∷◌ c.tidied-2.ensures
     (ap₂ ◌∷◌ c.tidied-3.ensures
-    (ap₂ ◌∷◌ d.tidied4.ensures
-    (ap₂ ◌∷◌ e.tidied5.ensures
-    (ap₂ ◌∷◌ f.tidied6.ensures
-    (ap₂ ◌∷◌ g.tidied7.ensures
-    (ap₂ ◌∷◌ h.tidied8.ensures refl)))))))
+    (ap₂ ◌∷◌ c.tidied-4.ensures
+    (ap₂ ◌∷◌ c.tidied-5.ensures
+    (ap₂ ◌∷◌ c.tidied-6.ensures
+    (ap₂ ◌∷◌ c.tidied-7.ensures
+    (ap₂ ◌∷◌ c.tidied-8.ensures refl)))))))

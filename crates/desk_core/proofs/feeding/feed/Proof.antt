@@ -141,15 +141,15 @@ output c =
 
 ended : (c : tie.After-whole_line-s invariant-loop-at decreases-loop-at) → let l = turn (answered c) in let s = start l in let w = c.whole_line-s in
     Turn s.args.state s.args.input.now s.args.out.now
-    (record { head = w.result.head; columns = w.new.1.0; line = w.new.1.1.0; begun = 0; overlong = false })
-    ((answered c).line_end-end.result + 1) (output c) (l.loop.used + w.result.used)
+    (record { head = w.result.head; columns = w.new.columns; line = w.new.line; begun = 0; overlong = false })
+    ((answered c).line_end-end.result + 1) (output c) (l.loop-at.used + w.result.used)
 ended c =
     let e = answered c in
     let k = (turn e).loop-at.invariant in
     let w = c.whole_line-s in
     turn_ended _ _ _ _ _ _ _ k _ e.line_end-end.ensures (omega (arith, c.if-input-end.false)) (room e)
-    w.result w.new.1.0 w.new.1.1.0
-    w.new.1.1.1.1.1.1.0 (w.ensures.1 ∙ k.fed.holds.lined) w.ensures.0
+    w.result w.new.columns w.new.line
+    w.new.out (w.ensures.1 ∙ k.fed.holds.lined) w.ensures.0
 
 -- what is lent has no more bytes than a number counts
 input_short : (c : tie.Start invariant-loop-at decreases-loop-at) → length c.args.input.now < 2 ^ 64
@@ -174,7 +174,7 @@ loop-at-smaller : tie.Need-loop-at-smaller invariant-loop-at decreases-loop-at
 loop-at-smaller c =
     let w = c.before.before.before.before.before.before in
     let e = answered w in
-    omega (arith, (ended w).fed.taken, e.line_end-end.ensures.from, e.loop-at-test.taken)
+    omega (arith, (ended w).fed.taken, e.line_end-end.ensures.from, e.loop-at-test.true)
 
 loop-at-preserved : tie.Need-loop-at-preserved invariant-loop-at decreases-loop-at
 loop-at-preserved c = ended c.before.before.before.before.before.before
