@@ -74,7 +74,7 @@ pub struct Desk {
 }
 
 // The reply to a record, by the form of its line.
-#[derive(Drop)]
+#[derive(Clone, Copy)]
 pub enum Reply {
     // "Neither replies when accepted"
     Silent,

@@ -11,16 +11,16 @@ use Rattle.slots.specs.Works.{DoneBy}
 use Rattle.desk_c.proofs.serving.answer.Statement.{statement}
 use Rattle.desk_c.proofs.serving.answer.Tie as tie
 
-abbrev start : tie.After-read → tie.Start
+abbrev start : tie.After-read-record → tie.Start
 start c = c.before.before.before.before
 
-perform-requires : tie.Need-perform-requires
-perform-requires c κs =
+perform-work-requires : tie.Need-perform-work-requires
+perform-work-requires c κs =
     let r = c.before.before in
     let s = start r in
     record {
-      asked = s.pre;
-      bounds = subst (InBounds s.args.line.now) (sym r.read.ensures) (read_exact.in_bounds s.args.line.now);
+      asked = s.requires;
+      bounds = subst (InBounds s.args.line.now) (sym c.read-record.ensures) (read_exact.in_bounds s.args.line.now);
     }
 
 returns : tie.Need-returns
@@ -32,12 +32,18 @@ returns c =
     let a = (start r).args in
     let d = desk_of a.head a.columns.now in
     let line = a.line.now in
-    let meaning : meant line r.read.result ≡ record_of line = ap (meant line) r.read.ensures ∙ read_exact.means line in
-    t.reply.ensures d line a.out.now p.perform.new.1.0
-    (subst (λ (o : Outcome Record). DoneBy d (o >>= operation d) a.out.now p.perform.result p.perform.new.1.0
-    p.perform.new.1.1.1.1.0) meaning p.perform.ensures)
+    let meaning : meant line c.read-record.result ≡ record_of line = ap (meant line) c.read-record.ensures ∙ read_exact.means line in
+    c.reply.ensures d line a.out.now c.perform-work.new.columns
+    (subst (λ (o : Outcome Record). DoneBy d (o >>= operation d) a.out.now c.perform-work.result c.perform-work.new.columns
+    c.perform-work.new.out) meaning c.perform-work.ensures)
 
-pub answer-spec : {M : Type 1} → statement M
-answer-spec =
+pub answer_spec : {M : Type 1} → statement M
+answer_spec =
     tie.close
-    (tie.spec (λ c κs. search rules) perform-requires (λ c κs. search rules) (λ c. search rules) (λ c. search rules) returns)
+    (tie.spec
+    (λ c κs. search rules)
+    perform-work-requires
+    (λ c κs. search rules)
+    (λ c. search rules)
+    (λ c. search rules)
+    returns)

@@ -22,53 +22,52 @@ use Rattle.desk_c.proofs.Pieces.{piece_no_desk, piece_no_room, piece_taken}
 use Rattle.desk_c.proofs.serving.feed.Statement.{statement}
 use Rattle.desk_c.proofs.serving.feed.Tie as tie
 
-abbrev start : tie.Else1 → tie.Start
+abbrev start : tie.Else-not-is_desk → tie.Start
 start c = c.before.before.before.before
 
-abbrev value : tie.Else1 → Desk
+abbrev value : tie.Else-not-is_desk → Desk
 value c = (start c).args.desk
 
-whole : (c : tie.Else1) → Whole (value c)
-whole c = whole_of_good (value c) _ (start c).well_formed_lem.0
+whole : (c : tie.Else-not-is_desk) → Whole (value c)
+whole c = whole_of_good (value c) _ (start c).well_formed.0
 
-passed : (c : tie.Else1) → is_desk_value (value c) ≡ true
-passed c = sym c.before.is_desk_lem.ensures ∙ not-false c.before.is_desk_lem.result c.if1.false
+passed : (c : tie.Else-not-is_desk) → is_desk_value (value c) ≡ true
+passed c = sym c.is_desk.ensures ∙ c.if-not-is_desk.false
 
-room : (c : tie.Else2) → max_reply ≤ length (start c.before).args.out.now
-room c = omega (arith, reply_limit, c.if2.false)
+room : (c : tie.Else-out-lt-MAX_REPLY) → max_reply ≤ length (start c.before).args.out.now
+room c = omega (arith, reply_limit, c.if-out-lt-MAX_REPLY.false)
 
-returns : tie.Need-returns
-returns c =
-    let k = c.before.before in
-    let a = k.before.before.before.args in
-    let no = sym k.is_desk_lem.ensures ∙ not-true k.is_desk_lem.result c.before.if1.true in
+returns-then-not-is_desk : tie.Need-returns-then-not-is_desk
+returns-then-not-is_desk c =
+    let a = c.args in
+    let no = sym c.is_desk.ensures ∙ c.if-not-is_desk.true in
     subst (λ (r : FedDesk). FedInto a.overlong a.input.now a.desk a.out.now r a.out.now) (sym c.unfed.ensures)
     (piece_no_desk a.overlong a.input.now a.desk a.out.now no)
 
-returns-2 : tie.Need-returns-2
-returns-2 c =
+returns-then-out-lt-MAX_REPLY : tie.Need-returns-then-out-lt-MAX_REPLY
+returns-then-out-lt-MAX_REPLY c =
     let t = c.before in
     let e = t.before in
     let a = (start e).args in
-    subst (λ (r : FedDesk). FedInto a.overlong a.input.now a.desk a.out.now r a.out.now) (sym c.unfed2.ensures)
-    (piece_no_room a.overlong a.input.now a.desk a.out.now (passed e) (omega (arith, reply_limit, t.if2.true)))
+    subst (λ (r : FedDesk). FedInto a.overlong a.input.now a.desk a.out.now r a.out.now) (sym c.unfed-then-out-lt-MAX_REPLY.ensures)
+    (piece_no_room a.overlong a.input.now a.desk a.out.now (passed e) (omega (arith, reply_limit, c.if-out-lt-MAX_REPLY.true)))
 
-head-of-requires : tie.Need-head-of-requires
-head-of-requires c κs =
+head_of-head-requires : tie.Need-head_of-head-requires
+head_of-head-requires c κs =
     let e = c.before in
     so (opened_test (value e).opened) (opened_tested (value e) (whole e) (T_of (passed e)))
 
-feed-lines-requires : tie.Need-feed-lines-requires
-feed-lines-requires c κs =
+feed_lines-requires : tie.Need-feed_lines-requires
+feed_lines-requires c κs =
     let h = c.before.before in
     let e = h.before.before in (
-      subst (λ (x : Head). HoldsDesk x (value e).columns) (sym h.head_of.ensures) (value_holds (value e) (whole e) (T_of (passed e))),
+      subst (λ (x : Head). HoldsDesk x (value e).columns) (sym c.head_of-head.ensures) (value_holds (value e) (whole e) (T_of (passed e))),
       room h.before,
     )
 
-returns-3 : tie.Need-returns-3
+returns : tie.Need-returns
 unfolding desk_in
-returns-3 c =
+returns c =
     let l = c.before.before in
     let h = l.before.before.before in
     let e = h.before.before in
@@ -76,19 +75,19 @@ returns-3 c =
     piece_taken a.overlong a.input.now a.desk a.out.now (passed e) (room h.before) _ _
     (subst
     (λ (x : Head). FedOn (fed_within max_reply (length a.out.now) (between (desk_of x a.desk.columns) a.overlong) a.input.now)
-    a.input.now a.out.now l.feed-lines.result l.feed-lines.new.1.1.1.1.0)
-    h.head_of.ensures l.feed-lines.ensures)
+    a.input.now a.out.now c.feed_lines.result c.feed_lines.new.out)
+    c.head_of-head.ensures c.feed_lines.ensures)
 
-pub feed-spec : {M : Type 1} → statement M
-feed-spec =
+pub feed_spec : {M : Type 1} → statement M
+feed_spec =
     tie.close
     (tie.spec
     (λ c κs. search rules)
     (λ c κs. search rules)
-    returns
+    returns-then-not-is_desk
     (λ c κs. search rules)
-    returns-2
-    head-of-requires
-    feed-lines-requires
+    returns-then-out-lt-MAX_REPLY
+    head_of-head-requires
+    feed_lines-requires
     (λ c. search rules)
-    returns-3)
+    returns)

@@ -15,30 +15,30 @@ use Rattle.desk_c.proofs.Lent.{call_refused, reply_fits, call_short, call_done}
 use Rattle.desk_c.proofs.serving.lend.Statement.{statement}
 use Rattle.desk_c.proofs.serving.lend.Tie as tie
 
-abbrev start : tie.After-answer → tie.Start
+abbrev start : tie.After-answer-replied → tie.Start
 start c = c.before.before.before.before.before.before
 
-abbrev answered : tie.After-bytes2 → tie.After-answer
+abbrev answered : tie.After-bytes-2-1 → tie.After-answer-replied
 answered c = c.before.before
 
-abbrev words : tie.After-answer → List ℕ
-words c = c.answer.new.1.0
+abbrev words : tie.After-answer-replied → List ℕ
+words c = c.answer-replied.new.columns
 
-abbrev bytes : tie.After-answer → List ℕ
-bytes c = c.answer.new.1.1.1.0
+abbrev bytes : tie.After-answer-replied → List ℕ
+bytes c = c.answer-replied.new.out
 
 -- the line, where its reply was written
-abbrev wrote : tie.After-known-told2 → tie.After-answer
-wrote c = answered c.before.before.before
+abbrev wrote : tie.In-Wrote → tie.After-answer-replied
+wrote c = answered c.before
 
-packed-requires-2 : tie.Need-packed-requires-2
-packed-requires-2 c κs =
+packed-left-requires-then-out-n : tie.Need-packed-left-requires-then-out-n
+packed-left-requires-then-out-n c κs =
     let s = start (wrote c.before.before) in
     subst (λ (h : Head). HoldsDesk h s.args.columns) (sym c.dropped.ensures) (holds_dropped s.args.head s.args.columns
-    s.pre)
+    s.requires)
 
-returns : tie.Need-returns
-returns c =
+returns-then-out-n : tie.Need-returns-then-out-n
+returns-then-out-n c =
     let p = c.before in
     let d = p.before in
     let t = d.before in
@@ -46,49 +46,49 @@ returns c =
     let w = wrote k in
     let s = start w in
     let a = s.args in
-    call_short a.head a.columns s.pre a.line.now a.out.now _ (words w) (bytes w) w.answer.result w.answer.ensures
-    k.before.outcome2.given.0.0 k.before.outcome2.given.1 t.if1.true p.packed2.result
-    (p.packed2.ensures ∙ ap (λ (h : Head). packed_desk (desk_of h a.columns)) d.dropped.ensures) c.refused2.result
-    c.refused2.ensures
+    call_short a.head a.columns s.requires a.line.now a.out.now _ (words w) (bytes w) w.answer-replied.result w.answer-replied.ensures
+    c.in-Wrote.n c.in-Wrote.is c.if-out-n.true c.packed-left-then-out-n.result
+    (c.packed-left-then-out-n.ensures ∙ ap (λ (h : Head). packed_desk (desk_of h a.columns)) c.dropped.ensures) c.refused-then-out-n.result
+    c.refused-then-out-n.ensures
 
 -- any reply fits into the bytes that there are
-fits : (c : tie.After-known-told2) → c.before.outcome2.given.0.0 ≤ max_reply
+fits : (c : tie.In-Wrote) → c.in-Wrote.n ≤ max_reply
 fits c =
     let w = wrote c in
     let s = start w in
     let a = s.args in
-    reply_fits a.head a.columns s.pre a.line.now a.out.now _ (words w) (bytes w) w.answer.result w.answer.ensures
-    c.before.outcome2.given.0.0 c.before.outcome2.given.1
+    reply_fits a.head a.columns s.requires a.line.now a.out.now _ (words w) (bytes w) w.answer-replied.result w.answer-replied.ensures
+    c.in-Wrote.n c.in-Wrote.is
 
-part-copy-end : tie.Need-slice-bounds-copy-end
+slice_bounds-copy-end : tie.Need-slice_bounds-copy-end
 unfolding max_reply
-part-copy-end c = search (rules, fits c.before.before.before)
+slice_bounds-copy-end c = search (rules, fits c.before.before)
 
-returns-2 : tie.Need-returns-2
-returns-2 c =
+returns-in-Refused : tie.Need-returns-in-Refused
+returns-in-Refused c =
     let p = c.before in
     let o = p.before.before in
-    let w = answered o.before.before in
+    let w = answered o.before in
     let s = start w in
     let a = s.args in
-    call_refused a.head a.columns s.pre a.line.now a.out.now _ (words w) (bytes w) w.answer.result w.answer.ensures
-    o.outcome.given.0.0 o.outcome.given.0.1.0 o.outcome.given.1 p.packed.result p.packed.ensures
+    call_refused a.head a.columns s.requires a.line.now a.out.now _ (words w) (bytes w) w.answer-replied.result w.answer-replied.ensures
+    c.in-Refused.number c.in-Refused.column c.in-Refused.is c.packed-left.result c.packed-left.ensures
     c.refused.result c.refused.ensures
 
-returns-3 : tie.Need-returns-3
-returns-3 c =
+returns-else-out-n : tie.Need-returns-else-out-n
+returns-else-out-n c =
     let y = c.before.before.before in
     let e = y.before.before.before.before in
     let k = e.before in
     let w = wrote k in
     let s = start w in
     let a = s.args in
-    let n = k.before.outcome2.given.0.0 in
+    let n = c.in-Wrote.n in
     let all : n - 0 ≡ n = omega arith in
-    call_done a.head a.columns s.pre a.line.now a.out.now _ (words w) (bytes w) w.answer.result w.answer.ensures
-    n k.before.outcome2.given.1 e.if1.false (omega (arith, fits k, w.before.before.before.scratch.ensures))
-    c.packed3.result c.packed3.ensures _
-    (y.copy.ensures ∙ ap (λ m. written a.out.now 0 (take m (bytes w))) all)
+    call_done a.head a.columns s.requires a.line.now a.out.now _ (words w) (bytes w) w.answer-replied.result w.answer-replied.ensures
+    n c.in-Wrote.is c.if-out-n.false (omega (arith, fits k, w.scratch-bytes.ensures))
+    c.packed-after.result c.packed-after.ensures _
+    (c.copy.ensures ∙ ap (λ m. written a.out.now 0 (take m (bytes w))) all)
 
 pub lend_spec : {M : Type 1} → statement M
 lend_spec =
@@ -103,14 +103,14 @@ lend_spec =
     (λ c κs. search rules)
     (λ c. search rules)
     (λ c κs. search rules)
-    packed-requires-2
+    packed-left-requires-then-out-n
     (λ c κs. search rules)
-    returns
+    returns-then-out-n
     (λ c. search rules)
     (λ c. search rules)
-    part-copy-end
+    slice_bounds-copy-end
     (λ c κs. search rules)
     (λ c κs. search rules)
-    returns-2
+    returns-in-Refused
     (λ c. search rules)
-    returns-3)
+    returns-else-out-n)

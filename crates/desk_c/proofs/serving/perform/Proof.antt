@@ -101,245 +101,231 @@ at0 j b = elim b [ true ↦ pass (P j.a j.b j.c) | false ↦ after1 j ]
 abbrev after0 : Job → Outcome Record
 after0 j = at0 j (eqb j.letter (byte "P"))
 
-rest1 : (c : tie.Else1) → let j = c.before.before.args.job in job_record j ≡ after1 j
-rest1 c = let j = c.before.before.args.job in ap (at0 j) (ne_eqb j.letter (byte "P") c.if1.false)
+rest1 : (c : tie.Else-letter-eq80) → let j = c.args.job in job_record j ≡ after1 j
+rest1 c = let j = c.args.job in ap (at0 j) (ne_eqb j.letter (byte "P") c.if-letter-eq80.false)
 
-rest2 : (c : tie.Else2) → let j = c.before.before.before.args.job in job_record j ≡ after2 j
-rest2 c = let j = c.before.before.before.args.job in rest1 c.before ∙ ap (at1 j) (ne_eqb j.letter (byte "E") c.if2.false)
+rest2 : (c : tie.Else-letter-eq69) → let j = c.args.job in job_record j ≡ after2 j
+rest2 c = let j = c.args.job in rest1 c.before ∙ ap (at1 j) (ne_eqb j.letter (byte "E") c.if-letter-eq69.false)
 
-rest3 : (c : tie.Else3) → let j = c.before.before.before.before.args.job in job_record j ≡ after3 j
-rest3 c = let j = c.before.before.before.before.args.job in rest2 c.before
-    ∙ ap (at2 j) (ne_eqb j.letter (byte "F") c.if3.false)
+rest3 : (c : tie.Else-letter-eq70) → let j = c.args.job in job_record j ≡ after3 j
+rest3 c = let j = c.args.job in rest2 c.before
+    ∙ ap (at2 j) (ne_eqb j.letter (byte "F") c.if-letter-eq70.false)
 
-rest4 : (c : tie.Else4) → let j = c.before.before.before.before.before.args.job in job_record j ≡ after4 j
-rest4 c = let j = c.before.before.before.before.before.args.job in rest3 c.before
-    ∙ ap (at3 j) (ne_eqb j.letter (byte "I") c.if4.false)
+rest4 : (c : tie.Else-letter-eq73) → let j = c.args.job in job_record j ≡ after4 j
+rest4 c = let j = c.args.job in rest3 c.before
+    ∙ ap (at3 j) (ne_eqb j.letter (byte "I") c.if-letter-eq73.false)
 
-rest5 : (c : tie.Else5) → let j = c.before.before.before.before.before.before.args.job in job_record j ≡ after5 j
-rest5 c = let j = c.before.before.before.before.before.before.args.job in rest4 c.before
-    ∙ ap (at4 j) (ne_eqb j.letter (byte "K") c.if5.false)
+rest5 : (c : tie.Else-letter-eq75) → let j = c.args.job in job_record j ≡ after5 j
+rest5 c = let j = c.args.job in rest4 c.before
+    ∙ ap (at4 j) (ne_eqb j.letter (byte "K") c.if-letter-eq75.false)
 
-rest6 : (c : tie.Else6) → let j = c.before.before.before.before.before.before.before.args.job in job_record j ≡ after6 j
-rest6 c = let j = c.before.before.before.before.before.before.before.args.job in rest5 c.before
-    ∙ ap (at5 j) (ne_eqb j.letter (byte "S") c.if6.false)
+rest6 : (c : tie.Else-letter-eq83) → let j = c.args.job in job_record j ≡ after6 j
+rest6 c = let j = c.args.job in rest5 c.before
+    ∙ ap (at5 j) (ne_eqb j.letter (byte "S") c.if-letter-eq83.false)
 
-rest7 : (c : tie.Else7) → let j = c.before.before.before.before.before.before.before.before.args.job in job_record j ≡ after7 j
-rest7 c = let j = c.before.before.before.before.before.before.before.before.args.job in rest6 c.before
-    ∙ ap (at6 j) (ne_eqb j.letter (byte "C") c.if7.false)
+rest7 : (c : tie.Else-letter-eq67) → let j = c.args.job in job_record j ≡ after7 j
+rest7 c = let j = c.args.job in rest6 c.before
+    ∙ ap (at6 j) (ne_eqb j.letter (byte "C") c.if-letter-eq67.false)
 
-rest8 : (c : tie.Else8) → let j = c.before.before.before.before.before.before.before.before.before.args.job in job_record j ≡ after8 j
-rest8 c = let j = c.before.before.before.before.before.before.before.before.before.args.job in rest7 c.before
-    ∙ ap (at7 j) (ne_eqb j.letter (byte "T") c.if8.false)
+rest8 : (c : tie.Else-letter-eq84) → let j = c.args.job in job_record j ≡ after8 j
+rest8 c = let j = c.args.job in rest7 c.before
+    ∙ ap (at7 j) (ne_eqb j.letter (byte "T") c.if-letter-eq84.false)
 
-rest9 : (c : tie.Else9) → let j = c.before.before.before.before.before.before.before.before.before.before.args.job in
+rest9 : (c : tie.Else-letter-eq88) → let j = c.args.job in
     job_record j ≡ after9 j
-rest9 c = let j = c.before.before.before.before.before.before.before.before.before.before.args.job in rest8 c.before
-    ∙ ap (at8 j) (ne_eqb j.letter (byte "X") c.if9.false)
+rest9 c = let j = c.args.job in rest8 c.before
+    ∙ ap (at8 j) (ne_eqb j.letter (byte "X") c.if-letter-eq88.false)
 
-rest10 : (c : tie.Else11) → let j = c.before.before.before.before.before.before.before.before.before.before.before.args.job in
+rest10 : (c : tie.Else-letter-eq90) → let j = c.args.job in
     job_record j ≡ after10 j
-rest10 c = let j = c.before.before.before.before.before.before.before.before.before.before.before.args.job in rest9 c.before
-    ∙ ap (at9 j) (ne_eqb j.letter (byte "Z") c.if11.false)
+rest10 c = let j = c.args.job in rest9 c.before
+    ∙ ap (at9 j) (ne_eqb j.letter (byte "Z") c.if-letter-eq90.false)
 
-rest11 : (c : tie.Else12) → let j = c.before.before.before.before.before.before.before.before.before.before.before.before.args.job in
+rest11 : (c : tie.Else-letter-eq71) → let j = c.args.job in
     job_record j ≡ after11 j
-rest11 c = let j = c.before.before.before.before.before.before.before.before.before.before.before.before.args.job in rest10
+rest11 c = let j = c.args.job in rest10
     c.before
-    ∙ ap (at10 j) (ne_eqb j.letter (byte "G") c.if12.false)
+    ∙ ap (at10 j) (ne_eqb j.letter (byte "G") c.if-letter-eq71.false)
 
-abbrev begun : tie.Else13 → tie.Start
+abbrev begun : tie.Else-letter-eq72 → tie.Start
 begun c = c.before.before.before.before.before.before.before.before.before.before.before.before.before
 
-rest12 : (c : tie.Else13) → let j = (begun c).args.job in job_record j ≡ after12 j
-rest12 c = let j = (begun c).args.job in rest11 c.before ∙ ap (at11 j) (ne_eqb j.letter (byte "H") c.if13.false)
+rest12 : (c : tie.Else-letter-eq72) → let j = (begun c).args.job in job_record j ≡ after12 j
+rest12 c = let j = (begun c).args.job in rest11 c.before ∙ ap (at11 j) (ne_eqb j.letter (byte "H") c.if-letter-eq72.false)
 
-returns : tie.Need-returns
-returns c =
+returns-then-letter-eq80 : tie.Need-returns-then-letter-eq80
+returns-then-letter-eq80 c =
     let q = c in
-    let t = q.before in
-    let s = t.before.before in
-    let a = s.args in
+    let a = c.args in
     let j = a.job in
-    job_done j a.head a.columns.now _ _ (P j.a j.b j.c) (ap (at0 j) (eq-eqb j.letter (byte "P") t.if1.true))
-    (λ out. q.«open».ensures a.columns.now out s.requires)
+    job_done j a.head a.columns.now _ _ (P j.a j.b j.c) (ap (at0 j) (eq-eqb j.letter (byte "P") c.if-letter-eq80.true))
+    (λ out. q.«open».ensures a.columns.now out c.requires)
 
-returns-2 : tie.Need-returns-2
-returns-2 c =
+returns-then-letter-eq69 : tie.Need-returns-then-letter-eq69
+returns-then-letter-eq69 c =
     let q = c.before.before in
     let t = q.before.before in
-    let s = t.before.before.before in
-    let a = s.args in
+    let a = c.args in
     let j = a.job in
-    job_done j a.head a.columns.now _ _ E (rest1 t.before ∙ ap (at1 j) (eq-eqb j.letter (byte "E") t.if2.true))
-    q.close.ensures
+    job_done j a.head a.columns.now _ _ E (rest1 t.before ∙ ap (at1 j) (eq-eqb j.letter (byte "E") c.if-letter-eq69.true))
+    c.close.ensures
 
-returns-3 : tie.Need-returns-3
-returns-3 c =
+returns-then-letter-eq70 : tie.Need-returns-then-letter-eq70
+returns-then-letter-eq70 c =
     let q = c.before.before in
     let t = q.before.before in
-    let s = t.before.before.before.before in
-    let a = s.args in
+    let a = c.args in
     let j = a.job in
     job_done j a.head a.columns.now _ _ (F j.a j.b j.c) (rest2 t.before
-    ∙ ap (at2 j) (eq-eqb j.letter (byte "F") t.if3.true))
-    q.follow.ensures
+    ∙ ap (at2 j) (eq-eqb j.letter (byte "F") c.if-letter-eq70.true))
+    c.follow.ensures
 
-returns-4 : tie.Need-returns-4
-returns-4 c =
+returns-then-letter-eq73 : tie.Need-returns-then-letter-eq73
+returns-then-letter-eq73 c =
     let q = c.before.before in
     let t = q.before.before in
-    let s = t.before.before.before.before.before in
-    let a = s.args in
+    let a = c.args in
     let j = a.job in
     job_done j a.head a.columns.now _ _ (I j.a j.b) (rest3 t.before
-    ∙ ap (at3 j) (eq-eqb j.letter (byte "I") t.if4.true))
-    q.invert.ensures
+    ∙ ap (at3 j) (eq-eqb j.letter (byte "I") c.if-letter-eq73.true))
+    c.invert.ensures
 
 -- the power fits into 32 bits, so that the work reads it back as it is
-power_read : (c : tie.After-struct-told) → let j = c.before.before.before.before.before.before.before.before.args.job in read w32 j.k ≡ j.k
-power_read c = let j = c.before.before.before.before.before.before.before.before.args.job in read_is w32 j.k (search
-    (rules, c.struct_told.given))
+power_read : (c : tie.After-struct_told-1) → let j = c.args.job in read w32 j.k ≡ j.k
+power_read c = let j = c.args.job in read_is w32 j.k (search
+    (rules, c.struct_told-1.given))
 
-returns-5 : tie.Need-returns-5
-returns-5 c =
+returns-then-letter-eq75 : tie.Need-returns-then-letter-eq75
+returns-then-letter-eq75 c =
     let q = c.before.before in
     let t = q.before.before.before in
-    let s = t.before.before.before.before.before.before in
-    let a = s.args in
+    let a = c.args in
     let j = a.job in
     job_done j a.head a.columns.now _ _ (K j.a j.k j.b) (rest4 t.before
-    ∙ ap (at4 j) (eq-eqb j.letter (byte "K") t.if5.true))
-    (subst (λ k. (out : List ℕ) → Done (K j.a k j.b) a.head a.columns.now out q.power.result
-    q.power.new.1.0 out) (power_read q.before)
-    q.power.ensures)
+    ∙ ap (at4 j) (eq-eqb j.letter (byte "K") c.if-letter-eq75.true))
+    (subst (λ k. (out : List ℕ) → Done (K j.a k j.b) a.head a.columns.now out c.power.result
+    c.power.new.columns out) (power_read q.before)
+    c.power.ensures)
 
-returns-6 : tie.Need-returns-6
-returns-6 c =
+returns-then-letter-eq83 : tie.Need-returns-then-letter-eq83
+returns-then-letter-eq83 c =
     let q = c in
     let t = q.before.before in
-    let s = t.before.before.before.before.before.before.before in
-    let a = s.args in
+    let a = c.args in
     let j = a.job in
-    job_done j a.head a.columns.now _ _ (S j.a j.b) (rest5 t.before
-    ∙ ap (at5 j) (eq-eqb j.letter (byte "S") t.if6.true))
-    (λ out. done_told a.head a.columns.now s.requires (S j.a j.b) out q.compare.result out (q.compare.ensures out))
+    job_done j a.head a.columns.now _ _ (S j.a j.b) (rest5 t
+    ∙ ap (at5 j) (eq-eqb j.letter (byte "S") c.if-letter-eq83.true))
+    (λ out. done_told a.head a.columns.now c.requires (S j.a j.b) out c.compare-reply.result out (c.compare-reply.ensures out))
 
-returns-7 : tie.Need-returns-7
-returns-7 c =
+returns-then-letter-eq67 : tie.Need-returns-then-letter-eq67
+returns-then-letter-eq67 c =
     let q = c.before.before in
     let t = q.before.before in
-    let s = t.before.before.before.before.before.before.before.before in
-    let a = s.args in
+    let a = c.args in
     let j = a.job in
-    job_done j a.head a.columns.now _ _ (C j.a) (rest6 t.before ∙ ap (at6 j) (eq-eqb j.letter (byte "C") t.if7.true))
-    q.empty.ensures
+    job_done j a.head a.columns.now _ _ (C j.a) (rest6 t.before ∙ ap (at6 j) (eq-eqb j.letter (byte "C") c.if-letter-eq67.true))
+    c.empty.ensures
 
-returns-8 : tie.Need-returns-8
-returns-8 c =
+returns-then-letter-eq84 : tie.Need-returns-then-letter-eq84
+returns-then-letter-eq84 c =
     let q = c in
     let t = q.before in
-    let s = t.before.before.before.before.before.before.before.before.before in
-    let a = s.args in
+    let a = c.args in
     let j = a.job in
-    job_done j a.head a.columns.now _ _ T (rest7 t.before ∙ ap (at7 j) (eq-eqb j.letter (byte "T") t.if8.true))
-    (λ out. done_told a.head a.columns.now s.requires T out q.count.result out (q.count.ensures a.columns.now out))
+    job_done j a.head a.columns.now _ _ T (rest7 t.before ∙ ap (at7 j) (eq-eqb j.letter (byte "T") c.if-letter-eq84.true))
+    (λ out. done_told a.head a.columns.now c.requires T out c.count-reply.result out (c.count-reply.ensures a.columns.now out))
 
 -- X by whether its splits have two digits
-returns-9 : tie.Need-returns-9
-returns-9 c =
+returns-then-job-gt-MAX_SPLITS : tie.Need-returns-then-job-gt-MAX_SPLITS
+returns-then-job-gt-MAX_SPLITS c =
     let u = c.before in
     let t = u.before.before in
-    let s = t.before.before.before.before.before.before.before.before.before.before in
-    let a = s.args in
+    let a = c.args in
     let j = a.job in
-    no_job j a.head a.columns.now s.requires c.refused.result
-    (rest8 t.before ∙ ap (at8 j) (eq-eqb j.letter (byte "X") t.if9.true)
-    ∙ ap (exercised j) (many_splits j.splits u.if10.true))
+    no_job j a.head a.columns.now c.requires c.refused.result
+    (rest8 t.before ∙ ap (at8 j) (eq-eqb j.letter (byte "X") c.if-letter-eq88.true)
+    ∙ ap (exercised j) (many_splits j.splits c.if-job-gt-MAX_SPLITS.true))
     c.refused.ensures
 
-returns-10 : tie.Need-returns-10
-returns-10 c =
+returns-then-letter-eq88 : tie.Need-returns-then-letter-eq88
+returns-then-letter-eq88 c =
     let q = c.before.before in
     let u = q.before.before in
     let t = u.before.before in
-    let s = t.before.before.before.before.before.before.before.before.before.before in
-    let a = s.args in
+    let a = c.args in
     let j = a.job in
     job_done j a.head a.columns.now _ _ (X j.a j.b j.c j.splits j.seed) (rest8 t.before
-    ∙ ap (at8 j) (eq-eqb j.letter (byte "X") t.if9.true) ∙ ap (exercised j) (few_splits j.splits (omega (arith, u.if10.false))))
-    q.exercise.ensures
+    ∙ ap (at8 j) (eq-eqb j.letter (byte "X") c.if-letter-eq88.true) ∙ ap (exercised j) (few_splits j.splits (omega (arith, c.if-job-gt-MAX_SPLITS.false))))
+    c.exercise.ensures
 
-returns-11 : tie.Need-returns-11
-returns-11 c =
+returns-then-letter-eq90 : tie.Need-returns-then-letter-eq90
+returns-then-letter-eq90 c =
     let t = c.before in
-    let s = t.before.before.before.before.before.before.before.before.before.before.before in
-    let a = s.args in
+    let a = c.args in
     let j = a.job in
-    job_done j a.head a.columns.now _ _ (Z j.a) (rest9 t.before ∙ ap (at9 j) (eq-eqb j.letter (byte "Z") t.if11.true))
-    (λ out. c.name.ensures a.columns.now out s.requires)
+    job_done j a.head a.columns.now _ _ (Z j.a) (rest9 t.before ∙ ap (at9 j) (eq-eqb j.letter (byte "Z") c.if-letter-eq90.true))
+    (λ out. c.name.ensures a.columns.now out c.requires)
 
-returns-12 : tie.Need-returns-12
-returns-12 c =
+returns-then-letter-eq71 : tie.Need-returns-then-letter-eq71
+returns-then-letter-eq71 c =
     let t = c.before in
-    let s = t.before.before.before.before.before.before.before.before.before.before.before.before in
-    let a = s.args in
+    let a = c.args in
     let j = a.job in
     job_meant j a.head a.columns.now _ _ (grant_by j.a j.b j.c)
-    (rest10 t.before ∙ ap (at10 j) (eq-eqb j.letter (byte "G") t.if12.true))
-    (λ out. c.grant.ensures a.columns.now out s.requires)
+    (rest10 t.before ∙ ap (at10 j) (eq-eqb j.letter (byte "G") c.if-letter-eq71.true))
+    (λ out. c.grant.ensures a.columns.now out c.requires)
 
-returns-13 : tie.Need-returns-13
-returns-13 c =
+returns-then-letter-eq72 : tie.Need-returns-then-letter-eq72
+returns-then-letter-eq72 c =
     let t = c.before in
-    let s = t.before.before.before.before.before.before.before.before.before.before.before.before.before in
-    let a = s.args in
+    let a = c.args in
     let j = a.job in
-    job_done j a.head a.columns.now _ _ H (rest11 t.before ∙ ap (at11 j) (eq-eqb j.letter (byte "H") t.if13.true))
-    (λ out. done_told a.head a.columns.now s.requires H out c.sum.result out (c.sum.ensures a.columns.now out))
+    job_done j a.head a.columns.now _ _ H (rest11 t.before ∙ ap (at11 j) (eq-eqb j.letter (byte "H") c.if-letter-eq72.true))
+    (λ out. done_told a.head a.columns.now c.requires H out c.sum-reply.result out (c.sum-reply.ensures a.columns.now out))
 
-returns-14 : tie.Need-returns-14
-returns-14 c =
+returns : tie.Need-returns
+returns c =
     let e = c.before in
     let s = begun e in
     let a = s.args in
-    no_job a.job a.head a.columns.now s.pre c.refused2.result (rest12 e) c.refused2.ensures
+    no_job a.job a.head a.columns.now s.requires c.refused-2.result (rest12 e) c.refused-2.ensures
 
-pub perform-spec : {M : Type 1} → statement M
-perform-spec =
+pub perform_spec : {M : Type 1} → statement M
+perform_spec =
     tie.close
     (tie.spec
     (λ c κs. search rules)
-    returns
+    returns-then-letter-eq80
     (λ c κs. search rules)
     (λ c. search rules)
-    returns-2
+    returns-then-letter-eq69
     (λ c κs. search rules)
     (λ c. search rules)
-    returns-3
+    returns-then-letter-eq70
     (λ c κs. search rules)
     (λ c. search rules)
-    returns-4
+    returns-then-letter-eq73
     (λ c κs. search rules)
     (λ c. search rules)
-    returns-5
+    returns-then-letter-eq75
     (λ c κs. search rules)
     (λ c. search rules)
-    returns-6
+    returns-then-letter-eq83
     (λ c κs. search rules)
     (λ c. search rules)
-    returns-7
+    returns-then-letter-eq67
     (λ c κs. search rules)
-    returns-8
+    returns-then-letter-eq84
     (λ c κs. search rules)
-    returns-9
+    returns-then-job-gt-MAX_SPLITS
     (λ c κs. search rules)
     (λ c. search rules)
-    returns-10
+    returns-then-letter-eq88
     (λ c κs. search rules)
-    returns-11
+    returns-then-letter-eq90
     (λ c κs. search rules)
-    returns-12
+    returns-then-letter-eq71
     (λ c κs. search rules)
-    returns-13
+    returns-then-letter-eq72
     (λ c κs. search rules)
-    returns-14)
+    returns)

@@ -16,19 +16,19 @@ use Rattle.desk_c.specs.Calls.{line_call, lent_of, LentBy, refused_with, served,
 use Rattle.desk_c.proofs.serving.serve.Statement.{statement}
 use Rattle.desk_c.proofs.serving.serve.Tie as tie
 
-abbrev start : tie.Else1 → tie.Start
+abbrev start : tie.Else-not-is_desk → tie.Start
 start c = c.before.before.before.before
 
-abbrev value : tie.Else1 → Desk
+abbrev value : tie.Else-not-is_desk → Desk
 value c = (start c).args.desk
 
-whole : (c : tie.Else1) → Whole (value c)
-whole c = whole_of_good (value c) _ (start c).well_formed_lem.0
+whole : (c : tie.Else-not-is_desk) → Whole (value c)
+whole c = whole_of_good (value c) _ (start c).well_formed.0
 
-passed : (c : tie.Else1) → is_desk_value (value c) ≡ true
-passed c = sym c.before.is_desk_lem.ensures ∙ not-false c.before.is_desk_lem.result c.if1.false
+passed : (c : tie.Else-not-is_desk) → is_desk_value (value c) ≡ true
+passed c = sym c.is_desk.ensures ∙ c.if-not-is_desk.false
 
-holds : (c : tie.Else1) → HoldsDesk (head_of (value c)) (value c).columns
+holds : (c : tie.Else-not-is_desk) → HoldsDesk (head_of (value c)) (value c).columns
 holds c = value_holds (value c) (whole c) (T_of (passed c))
 
 -- the call, by whether the value passes
@@ -38,50 +38,49 @@ leaves line d out b = elim b [ true ↦ lent_of (line_call (desk_in d) line out)
 abbrev buffers : Bytes → Desk → Bytes → Bool → Bytes
 buffers line d out b = elim b [ true ↦ (line_call (desk_in d) line out).1.buffer | false ↦ out ]
 
-returns : tie.Need-returns
+returns-then-not-is_desk : tie.Need-returns-then-not-is_desk
 unfolding served buffer_after
-returns c =
-    let k = c.before.before in
-    let a = k.before.before.before.args in
-    let no = sym k.is_desk_lem.ensures ∙ not-true k.is_desk_lem.result c.before.if1.true in
+returns-then-not-is_desk c =
+    let a = c.args in
+    let no = sym c.is_desk.ensures ∙ c.if-not-is_desk.true in
     record {
       left = c.refused.ensures ∙ sym (ap (leaves a.line.now a.desk a.out.now) no);
       buffer = sym (ap (buffers a.line.now a.desk a.out.now) no);
     }
 
-head-of-requires : tie.Need-head-of-requires
-head-of-requires c κs = so (opened_test (value c).opened) (opened_tested (value c) (whole c) (T_of (passed c)))
+head_of-head-requires : tie.Need-head_of-head-requires
+head_of-head-requires c κs = so (opened_test (value c).opened) (opened_tested (value c) (whole c) (T_of (passed c)))
 
 lend-requires : tie.Need-lend-requires
 lend-requires c κs =
     let h = c.before.before in
-    subst (λ (x : Head). HoldsDesk x (value h.before).columns) (sym h.head_of.ensures) (holds h.before)
+    subst (λ (x : Head). HoldsDesk x (value h.before).columns) (sym c.head_of-head.ensures) (holds h.before)
 
-returns-2 : tie.Need-returns-2
+returns : tie.Need-returns
 unfolding served buffer_after desk_in
-returns-2 c =
+returns c =
     let l = c.before.before in
     let h = l.before.before.before in
     let e = h.before in
     let a = (start e).args in
     let columns = a.desk.columns in
     record {
-      left = l.lend.ensures.left ∙ ap (λ (x : Head). lent_of (line_call (desk_of x columns) a.line.now a.out.now))
-          h.head_of.ensures
+      left = c.lend.ensures.left ∙ ap (λ (x : Head). lent_of (line_call (desk_of x columns) a.line.now a.out.now))
+          c.head_of-head.ensures
           ∙ sym (ap (leaves a.line.now a.desk a.out.now) (passed e));
-      buffer = l.lend.ensures.buffer ∙ ap (λ (x : Head). (line_call (desk_of x columns) a.line.now a.out.now).1.buffer)
-          h.head_of.ensures
+      buffer = c.lend.ensures.buffer ∙ ap (λ (x : Head). (line_call (desk_of x columns) a.line.now a.out.now).1.buffer)
+          c.head_of-head.ensures
           ∙ sym (ap (buffers a.line.now a.desk a.out.now) (passed e));
     }
 
-pub serve-spec : {M : Type 1} → statement M
-serve-spec =
+pub serve_spec : {M : Type 1} → statement M
+serve_spec =
     tie.close
     (tie.spec
     (λ c κs. search rules)
     (λ c κs. search rules)
-    returns
-    head-of-requires
+    returns-then-not-is_desk
+    head_of-head-requires
     lend-requires
     (λ c. search rules)
-    returns-2)
+    returns)
