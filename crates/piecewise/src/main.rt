@@ -46,7 +46,7 @@ fn answer<W: Write>(state: State, piece: &[u8], out: &mut [u8], to: &mut W) -> S
     for _ in 0..piece.len() {
         let fed = feeding::feed(s, &piece[at..], out);
         let used = fed.used;
-        let _ = to.write_all(&out[0..used]);
+        let _ = to.write_all(&out[..used]);
         let after = fed.state;
         s = after;
         at = at + fed.taken;
@@ -75,7 +75,7 @@ fn turn<R: Read, W: Write>(
             go_on: false,
         };
     }
-    let n = from.read(&mut input[0..size]).unwrap_or(0);
+    let n = from.read(&mut input[..size]).unwrap_or(0);
     if n == 0 {
         return Turned {
             state: state,
@@ -116,7 +116,7 @@ fn run<R: Read, W: Write>(large: bool, out: &mut [u8], from: &mut R, to: &mut W)
     let state = read_all(large, out, from, to);
     let last = feeding::finish(state, out);
     let used = last.used;
-    let _ = to.write_all(&out[0..used]);
+    let _ = to.write_all(&out[..used]);
 }
 
 fn main(rt: HostRuntime) {
@@ -124,7 +124,7 @@ fn main(rt: HostRuntime) {
     let from = &mut rt.stdin();
     let to = &mut rt.stdout();
     if let Err(FillError::NotPresent) = rt.arg(1, &mut []) {
-        run(false, &mut out[0..ROOM], from, to);
+        run(false, &mut out[..ROOM], from, to);
     } else {
         run(true, &mut out, from, to);
     }

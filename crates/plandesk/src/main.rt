@@ -1,36 +1,43 @@
 // The desk program (document 01, "Records": "The desk program reads standard input, one record a line .. Replies are lines ended the same
 // way"): the desk of the crate `desk_core`, fed what each read brings, its replies written before the next read. The functions take any
-// reader and writer, and where the bytes of these are known, the promises are of them. Of standard input and output they are not: what
-// read and write do there is the system's.
+// reader and writer. Where it is known which bytes these have left and hold, the promises are of those bytes; of standard input and output
+// it is not, since what read and write do there is the system's.
 #![tactic(auto)]
 
-ghost use Rattle.std.specs.Prelude.{◌≡◌, true, ◌≤◌, length, take, IfOk, OnOk, IfSome};
+ghost use Rattle.std.specs.Prelude.{◌≡◌, ◌≤◌, ◌<◌, length, take, is_ok, IfOk, OnOk, OnErr, IfSome};
+ghost use Rattle.std.specs.Io.KnownBytes.{Appends, Consumes, IsAtEnd, Keeps};
 ghost use Rattle.replies.specs.Sizes.{max_reply};
+ghost use Rattle.desk.specs.Session.{session};
 ghost use Rattle.desk_core.specs.Feeding.{HoldsState};
-ghost use Rattle.plandesk.specs.Session.{FedAll, ReachedFrom};
+ghost use Rattle.plandesk.specs.Session.{FedAll, ReachedFrom, replies_of, Sent, Conversed};
 
 use desk_core::feeding;
 use desk_core::feeding::State;
-use std::io::{Read, Write};
+use std::io::{ErrorKind, Read, Write};
+use std::process::ExitCode;
 
-// How often a call that moves nothing is made before it counts as a fault. A call that a signal interrupted is made again like any other.
+// How often a call that moves nothing is made before it counts as a fault. One that a signal interrupted is made again like any other.
 const TRIES: u64 = 1000;
 
 // The bytes of a buffer.
 const LARGE: usize = 65536;
 
-// Why no more is answered.
+// The status of a program that is ended because nobody reads what it writes: that of a shell for the signal of a closed pipe.
+const CLOSED: u8 = 141;
+
+// Why nothing more is answered: a read failed, a write did, or the reader of the replies went away.
 #[derive(Clone, Copy)]
 enum Fault {
     Unread,
     Unwritten,
+    Closed,
 }
 
 // A state, and whether all replies on the way to it were written.
 #[derive(Drop)]
 struct Answered {
     pub state: State,
-    pub written: bool,
+    pub written: Result<(), Fault>,
 }
 
 // After a read: the state, and how many bytes were read and fed, none at the end of input.
@@ -47,31 +54,36 @@ struct Ended {
     pub whole: Result<(), Fault>,
 }
 
-// One write that takes some of the bytes; how many, and none where every try failed.
-fn write_some<W: Write>(to: &mut W, bytes: &[u8]) -> usize
-    ensures { result ≤ length bytes.now }
+// One write that takes some of the bytes, and how many. A closed pipe stays closed, and is not tried again.
+fn write_some<W: Write>(to: &mut W, bytes: &[u8]) -> Result<usize, Fault>
+    ensures some { IfOk result (λ n. 0 < n) }
+    ensures bound { IfOk result (λ n. n ≤ length bytes.now) }
+    ensures appended { IfOk result (λ n. Appends (W.contents to.old) (W.contents to.new) (take n bytes.now)) }
+    ensures none { OnErr result (Keeps (W.contents to.old) (W.contents to.new)) }
 {
     for _ in 0..TRIES {
-        if let Ok(put) = to.write(bytes) {
-            if 0 < put {
-                return put;
+        match to.write(bytes) {
+            Ok(0) => {}
+            Ok(put) => return Ok(put),
+            Err(error) => {
+                if error.kind() == ErrorKind::BrokenPipe {
+                    return Err(Fault::Closed);
+                }
             }
         }
     }
-    0
+    Err(Fault::Unwritten)
 }
 
-// All of the bytes, in as many writes as that takes; whether they were written.
-fn write_out<W: Write>(to: &mut W, bytes: &[u8]) -> bool {
+// All of the bytes, in as many writes as that takes.
+fn write_out<W: Write>(to: &mut W, bytes: &[u8]) -> Result<(), Fault>
+    ensures { Sent (W.contents to.old) (W.contents to.new) bytes.now (is_ok result) }
+{
     let mut done = 0;
     while done < bytes.len() {
-        let put = write_some(to, &bytes[done..]);
-        if put == 0 {
-            return false;
-        }
-        done += put;
+        done += write_some(to, &bytes[done..])?;
     }
-    true
+    Ok(())
 }
 
 // All of a piece, fed, and its replies written whenever the output is full and at its end.
@@ -79,40 +91,43 @@ fn answer<W: Write>(state: State, piece: &[u8], out: &mut [u8], to: &mut W) -> A
     requires holds_state { HoldsState state }
     requires max_reply_in_bounds { max_reply ≤ length out.old }
     ensures holds_state_2 { HoldsState result.state }
-    ensures fed_all { result.written ≡ true → FedAll state piece.now result.state }
+    ensures fed_all { OnOk result.written (FedAll state piece.now result.state) }
+    ensures replied { Sent (W.contents to.old) (W.contents to.new) (replies_of state piece.now)
+        (is_ok result.written) }
 {
     let mut s = state;
     let mut at = 0;
     while at < piece.len() {
         let fed = feeding::feed(s, &piece[at..], out);
-        let used = fed.used;
-        let written = write_out(to, &out[0..used]);
-        let after = fed.state;
-        s = after;
-        if !written {
+        s = fed.state;
+        if let Err(fault) = write_out(to, &out[..fed.used]) {
             return Answered {
                 state: s,
-                written: false,
+                written: Err(fault),
             };
         }
-        at = at + fed.taken;
+        at += fed.taken;
     }
     Answered {
         state: s,
-        written: true,
+        written: Ok(()),
     }
 }
 
-// What one read brings, from the front of a buffer on; nothing where every try failed.
-fn read_piece<R: Read>(from: &mut R, input: &mut [u8]) -> Option<usize>
-    ensures { IfSome result (λ n. n ≤ length input.new) }
+// What one read brings, from the front of a buffer on: how many bytes.
+fn read_piece<R: Read>(from: &mut R, input: &mut [u8]) -> Result<usize, Fault>
+    ensures bound { IfOk result (λ n. n ≤ length input.new) }
+    ensures read { IfOk result (λ n. Consumes (R.remaining from.old) (R.remaining from.new)
+        (take n input.new)) }
+    ensures end { IfOk result (λ n. n ≡ 0 → 0 < length input.old → IsAtEnd (R.remaining from.new)) }
+    ensures none { OnErr result (Keeps (R.remaining from.old) (R.remaining from.new)) }
 {
     for _ in 0..TRIES {
         if let Ok(got) = from.read(input) {
-            return Some(got);
+            return Ok(got);
         }
     }
-    None
+    Err(Fault::Unread)
 }
 
 // Reads one piece and answers it. At a fault of a read nothing more is answered: what was read of a line may be the beginning of another
@@ -128,25 +143,22 @@ fn turn<R: Read, W: Write>(
     requires max_reply_in_bounds { max_reply ≤ length out.old }
     ensures holds_state_2 { HoldsState result.state }
     ensures fed_all { IfOk result.fed (λ n. FedAll state (take n input.new) result.state) }
+    ensures conversed { Conversed state (R.remaining from.old) (R.remaining from.new)
+        (W.contents to.old) (W.contents to.new) (is_ok result.fed) result.state }
+    ensures end { IfOk result.fed (λ n. n ≡ 0 → 0 < length input.old → IsAtEnd (R.remaining from.new)) }
 {
-    let Some(n) = read_piece(from, input) else {
-        return Turned {
+    match read_piece(from, input) {
+        Ok(n) => {
+            let a = answer(state, &input[..n], out, to);
+            Turned {
+                state: a.state,
+                fed: a.written.and(Ok(n)),
+            }
+        }
+        Err(fault) => Turned {
             state: state,
-            fed: Err(Fault::Unread),
-        };
-    };
-    let a = answer(state, &input[..n], out, to);
-    let written = a.written;
-    let after = a.state;
-    if !written {
-        return Turned {
-            state: after,
-            fed: Err(Fault::Unwritten),
-        };
-    }
-    Turned {
-        state: after,
-        fed: Ok(n),
+            fed: Err(fault),
+        },
     }
 }
 
@@ -156,21 +168,16 @@ fn read_all<R: Read, W: Write>(start: State, out: &mut [u8], from: &mut R, to: &
     requires max_reply_in_bounds { max_reply ≤ length out.old }
     ensures holds_state_2 { HoldsState result.state }
     ensures reached_from { OnOk result.whole (ReachedFrom start result.state) }
+    ensures conversed { Conversed start (R.remaining from.old) (R.remaining from.new)
+        (W.contents to.old) (W.contents to.new) (is_ok result.whole) result.state }
+    ensures end { OnOk result.whole (IsAtEnd (R.remaining from.new)) }
 {
     let mut input = [0u8; LARGE];
     let mut state = start;
     for _ in 0..u64::MAX {
         let t = turn(state, &mut input, out, from, to);
-        let fed = t.fed;
-        let after = t.state;
-        state = after;
-        match fed {
-            Err(fault) => {
-                return Ended {
-                    state: state,
-                    whole: Err(fault),
-                };
-            }
+        state = t.state;
+        match t.fed {
             Ok(0) => {
                 return Ended {
                     state: state,
@@ -178,6 +185,12 @@ fn read_all<R: Read, W: Write>(start: State, out: &mut [u8], from: &mut R, to: &
                 };
             }
             Ok(_) => {}
+            Err(fault) => {
+                return Ended {
+                    state: state,
+                    whole: Err(fault),
+                };
+            }
         }
     }
     Ended {
@@ -189,26 +202,25 @@ fn read_all<R: Read, W: Write>(start: State, out: &mut [u8], from: &mut R, to: &
 // All of the input, from a fresh desk on, and its end.
 fn run<R: Read, W: Write>(out: &mut [u8], from: &mut R, to: &mut W) -> Result<(), Fault>
     requires { max_reply ≤ length out.old }
+    ensures session { IfSome (R.remaining from.old) (λ input. Sent (W.contents to.old)
+        (W.contents to.new) (session input) (is_ok result)) }
+    ensures end { OnOk result (IsAtEnd (R.remaining from.new)) }
 {
-    let fresh = feeding::fresh();
-    let ended = read_all(fresh, out, from, to);
+    let ended = read_all(feeding::fresh(), out, from, to);
     ended.whole?;
-    let state = ended.state;
-    let last = feeding::finish(state, out);
-    let used = last.used;
-    if !write_out(to, &out[0..used]) {
-        return Err(Fault::Unwritten);
-    }
-    Ok(())
+    let last = feeding::finish(ended.state, out);
+    write_out(to, &out[..last.used])
 }
 
-fn main(rt: HostRuntime) {
+// The one line of a fault goes to standard error, and nothing is left to do where that can't be written either.
+fn main(rt: HostRuntime) -> ExitCode {
     let mut out = [0u8; LARGE];
     let line = match run(&mut out, &mut rt.stdin(), &mut rt.stdout()) {
-        Ok(()) => return,
+        Ok(()) => return ExitCode::SUCCESS,
+        Err(Fault::Closed) => return ExitCode::from(CLOSED),
         Err(Fault::Unread) => "plandesk: standard input can't be read\n",
         Err(Fault::Unwritten) => "plandesk: standard output can't be written\n",
     };
-    // Nothing is left to do where the line of a fault can't be written either.
-    write_out(&mut rt.stderr(), line.as_bytes());
+    let _ = write_out(&mut rt.stderr(), line.as_bytes());
+    ExitCode::SUCCESS
 }
