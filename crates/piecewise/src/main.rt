@@ -9,12 +9,13 @@ ghost use Rattle.desk_core.specs.Feeding.{HoldsState};
 
 use desk_core::feeding;
 use desk_core::feeding::State;
-use libc::{STDIN_FILENO, STDOUT_FILENO};
+use std::env::{Env, FillError};
+use std::io::{Read, Write};
 
 // Room for three of the longest replies. An odd piece may ask for more, and `feed` then stops and is called again.
 const ROOM: usize = 13854;
 
-// The bytes of `io::large_buffer`.
+// The bytes of a buffer.
 const LARGE: usize = 65536;
 
 // After a read: the state, and whether there may be more input.
@@ -35,31 +36,36 @@ fn next(size: usize, large: bool) -> usize {
     size + size / 2 + 1
 }
 
-// The replies to a piece, written each time that `feed` stops.
-fn answer(state: State, piece: &[u8], out: &mut [u8]) -> State
+// The replies to a piece, written each time that `feed` stops. One that can't be written is lost.
+fn answer<W: Write>(state: State, piece: &[u8], out: &mut [u8], to: &mut W) -> State
     requires { HoldsState state }
     ensures { HoldsState result }
 {
     let mut s = state;
     let mut at = 0;
-    let mut turns = piece.len();
-    while 0 < turns {
+    for _ in 0..piece.len() {
         let fed = feeding::feed(s, &piece[at..], out);
         let used = fed.used;
-        io::write_all(STDOUT_FILENO, &out[0..used]);
+        let _ = to.write_all(&out[..used]);
         let after = fed.state;
         s = after;
         at = at + fed.taken;
         if piece.len() <= at {
             return s;
         }
-        turns = turns - 1;
     }
     s
 }
 
-// Reads one piece and answers it.
-fn turn(state: State, size: usize, input: &mut [u8], out: &mut [u8]) -> Turned
+// Reads one piece and answers it. A read that fails ends the input.
+fn turn<R: Read, W: Write>(
+    state: State,
+    size: usize,
+    input: &mut [u8],
+    out: &mut [u8],
+    from: &mut R,
+    to: &mut W,
+) -> Turned
     requires { HoldsState state }
     ensures { HoldsState result.state }
 {
@@ -69,16 +75,14 @@ fn turn(state: State, size: usize, input: &mut [u8], out: &mut [u8]) -> Turned
             go_on: false,
         };
     }
-    let room = &mut input[0..size];
-    let got = libc::read(STDIN_FILENO, room);
-    if got <= 0 {
+    let n = from.read(&mut input[..size]).unwrap_or(0);
+    if n == 0 {
         return Turned {
             state: state,
             go_on: false,
         };
     }
-    let n = io::count(got, input);
-    let after = answer(state, &input[..n], out);
+    let after = answer(state, &input[..n], out, to);
     Turned {
         state: after,
         go_on: true,
@@ -86,41 +90,42 @@ fn turn(state: State, size: usize, input: &mut [u8], out: &mut [u8]) -> Turned
 }
 
 // All of the input, in pieces.
-fn read_all(large: bool, out: &mut [u8]) -> State
+fn read_all<R: Read, W: Write>(large: bool, out: &mut [u8], from: &mut R, to: &mut W) -> State
     ensures { HoldsState result }
 {
-    let mut input = io::large_buffer();
+    let mut input = [0u8; LARGE];
     let mut state = feeding::fresh();
     let mut size = next(0, large);
-    let mut turns = u64::MAX;
-    while 0 < turns {
-        let t = turn(state, size, &mut input, out);
+    for _ in 0..u64::MAX {
+        let t = turn(state, size, &mut input, out, from, to);
+        let go_on = t.go_on;
         let after = t.state;
         state = after;
-        if !t.go_on {
+        if !go_on {
             return state;
         }
         size = next(size, large);
-        turns -= 1;
     }
     state
 }
 
 // All of the input, and its end.
-fn run(large: bool, out: &mut [u8])
+fn run<R: Read, W: Write>(large: bool, out: &mut [u8], from: &mut R, to: &mut W)
     requires { max_reply ≤ length out.old }
 {
-    let state = read_all(large, out);
+    let state = read_all(large, out, from, to);
     let last = feeding::finish(state, out);
     let used = last.used;
-    io::write_all(STDOUT_FILENO, &out[0..used]);
+    let _ = to.write_all(&out[..used]);
 }
 
-fn main() {
-    let mut out = io::large_buffer();
-    if 1 < os::arg_count() {
-        run(true, &mut out);
+fn main(rt: HostRuntime) {
+    let mut out = [0u8; LARGE];
+    let from = &mut rt.stdin();
+    let to = &mut rt.stdout();
+    if let Err(FillError::NotPresent) = rt.arg(1, &mut []) {
+        run(false, &mut out[..ROOM], from, to);
     } else {
-        run(false, &mut out[0..ROOM]);
+        run(true, &mut out, from, to);
     }
 }

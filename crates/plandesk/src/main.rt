@@ -1,200 +1,226 @@
 // The desk program (document 01, "Records": "The desk program reads standard input, one record a line .. Replies are lines ended the same
-// way"): the desk of the crate `desk_core`, fed what each read brings, its replies written before the next read. The promises speak of what
-// stands in the buffers, which is as far as a proof can look: what read and write do is the system's.
+// way"): the desk of the crate `desk_core`, fed what each read brings, its replies written before the next read. The functions take any
+// reader and writer. Where it is known which bytes these have left and hold, the promises are of those bytes; of standard input and output
+// it is not, since what read and write do there is the system's.
 #![tactic(auto)]
 
-ghost use Rattle.std.specs.Prelude.{◌≡◌, true, ◌≤◌, length, take};
+ghost use Rattle.std.specs.Prelude.{◌≡◌, ◌≤◌, ◌<◌, length, take, is_ok, IfOk, OnOk, OnErr, IfSome};
+ghost use Rattle.std.specs.Io.KnownBytes.{Appends, Consumes, IsAtEnd, Keeps};
 ghost use Rattle.replies.specs.Sizes.{max_reply};
+ghost use Rattle.desk.specs.Session.{session};
 ghost use Rattle.desk_core.specs.Feeding.{HoldsState};
-ghost use Rattle.plandesk.specs.Session.{FedAll, ReachedFrom};
+ghost use Rattle.plandesk.specs.Session.{FedAll, ReachedFrom, replies_of, Sent, Conversed};
 
 use desk_core::feeding;
 use desk_core::feeding::State;
-use libc::{STDERR_FILENO, STDIN_FILENO, STDOUT_FILENO};
+use std::io::{ErrorKind, Read, Write};
+use std::process::ExitCode;
 
-// How often a call that moves nothing is made before it counts as a fault. A call that a signal interrupted answers as a fault does, and
-// only to try again tells them apart.
+// How often a call that moves nothing is made before it counts as a fault. One that a signal interrupted is made again like any other.
 const TRIES: u64 = 1000;
+
+// The bytes of a buffer.
+const LARGE: usize = 65536;
+
+// The status of a program that is ended because nobody reads what it writes: that of a shell for the signal of a closed pipe.
+const CLOSED: u8 = 141;
+
+// Why nothing more is answered: a read failed, a write did, or the reader of the replies went away.
+#[derive(Clone, Copy)]
+enum Fault {
+    Unread,
+    Unwritten,
+    Closed,
+}
 
 // A state, and whether all replies on the way to it were written.
 #[derive(Drop)]
 struct Answered {
     pub state: State,
-    pub written: bool,
+    pub written: Result<(), Fault>,
 }
 
-// After a read: the state, how many bytes were read and fed, none at the end of input, and whether there was no fault.
+// After a read: the state, and how many bytes were read and fed, none at the end of input.
 #[derive(Drop)]
 struct Turned {
     pub state: State,
-    pub fed: usize,
-    pub whole: bool,
+    pub fed: Result<usize, Fault>,
 }
 
 // After the last read: the state, and whether all of the input was fed and its replies written.
 #[derive(Drop)]
 struct Ended {
     pub state: State,
-    pub whole: bool,
+    pub whole: Result<(), Fault>,
 }
 
-// One write that takes some of the bytes; how many, and none where every try failed.
-fn write_some(fd: i32, bytes: &[u8]) -> usize
-    ensures { result ≤ length bytes.now }
+// One write that takes some of the bytes, and how many. A closed pipe stays closed, and is not tried again.
+fn write_some<W: Write>(to: &mut W, bytes: &[u8]) -> Result<usize, Fault>
+    ensures some { IfOk result (λ n. 0 < n) }
+    ensures bound { IfOk result (λ n. n ≤ length bytes.now) }
+    ensures appended { IfOk result (λ n. Appends (W.contents to.old) (W.contents to.new) (take n bytes.now)) }
+    ensures none { OnErr result (Keeps (W.contents to.old) (W.contents to.new)) }
 {
-    let mut tries = TRIES;
-    while 0 < tries {
-        let put = io::count(libc::write(fd, bytes), bytes);
-        if 0 < put {
-            return put;
+    for _ in 0..TRIES {
+        match to.write(bytes) {
+            Ok(0) => {}
+            Ok(put) => return Ok(put),
+            Err(error) => {
+                if error.kind() == ErrorKind::BrokenPipe {
+                    return Err(Fault::Closed);
+                }
+            }
         }
-        tries -= 1;
     }
-    0
+    Err(Fault::Unwritten)
 }
 
-// All of the bytes, in as many writes as that takes; whether they were written.
-fn write_out(fd: i32, bytes: &[u8]) -> bool {
+// All of the bytes, in as many writes as that takes.
+fn write_out<W: Write>(to: &mut W, bytes: &[u8]) -> Result<(), Fault>
+    ensures { Sent (W.contents to.old) (W.contents to.new) bytes.now (is_ok result) }
+{
     let mut done = 0;
     while done < bytes.len() {
-        let put = write_some(fd, &bytes[done..]);
-        if put == 0 {
-            return false;
-        }
-        done += put;
+        done += write_some(to, &bytes[done..])?;
     }
-    true
-}
-
-// The one line of a fault, on standard error. Nothing is left to do where that can't be written either.
-fn say(line: &[u8]) {
-    write_out(STDERR_FILENO, line);
+    Ok(())
 }
 
 // All of a piece, fed, and its replies written whenever the output is full and at its end.
-fn answer(state: State, piece: &[u8], out: &mut [u8]) -> Answered
+fn answer<W: Write>(state: State, piece: &[u8], out: &mut [u8], to: &mut W) -> Answered
     requires holds_state { HoldsState state }
     requires max_reply_in_bounds { max_reply ≤ length out.old }
     ensures holds_state_2 { HoldsState result.state }
-    ensures fed_all { result.written ≡ true → FedAll state piece.now result.state }
+    ensures fed_all { OnOk result.written (FedAll state piece.now result.state) }
+    ensures replied { Sent (W.contents to.old) (W.contents to.new) (replies_of state piece.now)
+        (is_ok result.written) }
 {
     let mut s = state;
     let mut at = 0;
     while at < piece.len() {
         let fed = feeding::feed(s, &piece[at..], out);
-        let used = fed.used;
-        let written = write_out(STDOUT_FILENO, &out[0..used]);
-        let after = fed.state;
-        s = after;
-        if !written {
+        s = fed.state;
+        if let Err(fault) = write_out(to, &out[..fed.used]) {
             return Answered {
                 state: s,
-                written: false,
+                written: Err(fault),
             };
         }
-        at = at + fed.taken;
+        at += fed.taken;
     }
     Answered {
         state: s,
-        written: true,
+        written: Ok(()),
     }
 }
 
-// What one read brings, from the front of a buffer on; -1 where every try failed.
-fn read_piece(input: &mut [u8]) -> isize {
-    let mut tries = TRIES;
-    while 0 < tries {
-        let got = libc::read(STDIN_FILENO, input);
-        if 0 <= got {
-            return got;
+// What one read brings, from the front of a buffer on: how many bytes.
+fn read_piece<R: Read>(from: &mut R, input: &mut [u8]) -> Result<usize, Fault>
+    ensures bound { IfOk result (λ n. n ≤ length input.new) }
+    ensures read { IfOk result (λ n. Consumes (R.remaining from.old) (R.remaining from.new)
+        (take n input.new)) }
+    ensures end { IfOk result (λ n. n ≡ 0 → 0 < length input.old → IsAtEnd (R.remaining from.new)) }
+    ensures none { OnErr result (Keeps (R.remaining from.old) (R.remaining from.new)) }
+{
+    for _ in 0..TRIES {
+        if let Ok(got) = from.read(input) {
+            return Ok(got);
         }
-        tries -= 1;
     }
-    -1
+    Err(Fault::Unread)
 }
 
 // Reads one piece and answers it. At a fault of a read nothing more is answered: what was read of a line may be the beginning of another
 // record, as `K⇥A⇥1` is of `K⇥A⇥12`, and only the end of input says that it is whole.
-fn turn(state: State, input: &mut [u8], out: &mut [u8]) -> Turned
+fn turn<R: Read, W: Write>(
+    state: State,
+    input: &mut [u8],
+    out: &mut [u8],
+    from: &mut R,
+    to: &mut W,
+) -> Turned
     requires holds_state { HoldsState state }
     requires max_reply_in_bounds { max_reply ≤ length out.old }
     ensures holds_state_2 { HoldsState result.state }
-    ensures fed_all { result.whole ≡ true → FedAll state (take result.fed input.new) result.state }
+    ensures fed_all { IfOk result.fed (λ n. FedAll state (take n input.new) result.state) }
+    ensures conversed { Conversed state (R.remaining from.old) (R.remaining from.new)
+        (W.contents to.old) (W.contents to.new) (is_ok result.fed) result.state }
+    ensures end { IfOk result.fed (λ n. n ≡ 0 → 0 < length input.old → IsAtEnd (R.remaining from.new)) }
 {
-    let got = read_piece(input);
-    if got < 0 {
-        say(b"plandesk: standard input can't be read\n");
-        return Turned {
+    match read_piece(from, input) {
+        Ok(n) => {
+            let a = answer(state, &input[..n], out, to);
+            Turned {
+                state: a.state,
+                fed: a.written.and(Ok(n)),
+            }
+        }
+        Err(fault) => Turned {
             state: state,
-            fed: 0,
-            whole: false,
-        };
-    }
-    let n = io::count(got, input);
-    let a = answer(state, &input[..n], out);
-    if !a.written {
-        say(b"plandesk: standard output can't be written\n");
-    }
-    let after = a.state;
-    Turned {
-        state: after,
-        fed: n,
-        whole: a.written,
+            fed: Err(fault),
+        },
     }
 }
 
 // All of the input, from a state on. The turns are counted because a loop must end; no machine makes so many.
-fn read_all(start: State, out: &mut [u8]) -> Ended
+fn read_all<R: Read, W: Write>(start: State, out: &mut [u8], from: &mut R, to: &mut W) -> Ended
     requires holds_state { HoldsState start }
     requires max_reply_in_bounds { max_reply ≤ length out.old }
     ensures holds_state_2 { HoldsState result.state }
-    ensures reached_from { result.whole ≡ true → ReachedFrom start result.state }
+    ensures reached_from { OnOk result.whole (ReachedFrom start result.state) }
+    ensures conversed { Conversed start (R.remaining from.old) (R.remaining from.new)
+        (W.contents to.old) (W.contents to.new) (is_ok result.whole) result.state }
+    ensures end { OnOk result.whole (IsAtEnd (R.remaining from.new)) }
 {
-    let mut input = io::large_buffer();
+    let mut input = [0u8; LARGE];
     let mut state = start;
-    let mut turns = u64::MAX;
-    while 0 < turns {
-        let t = turn(state, &mut input, out);
-        let after = t.state;
-        state = after;
-        if !t.whole {
-            return Ended {
-                state: state,
-                whole: false,
-            };
+    for _ in 0..u64::MAX {
+        let t = turn(state, &mut input, out, from, to);
+        state = t.state;
+        match t.fed {
+            Ok(0) => {
+                return Ended {
+                    state: state,
+                    whole: Ok(()),
+                };
+            }
+            Ok(_) => {}
+            Err(fault) => {
+                return Ended {
+                    state: state,
+                    whole: Err(fault),
+                };
+            }
         }
-        if t.fed == 0 {
-            return Ended {
-                state: state,
-                whole: true,
-            };
-        }
-        turns -= 1;
     }
     Ended {
         state: state,
-        whole: false,
+        whole: Err(Fault::Unread),
     }
 }
 
 // All of the input, from a fresh desk on, and its end.
-fn run(out: &mut [u8])
+fn run<R: Read, W: Write>(out: &mut [u8], from: &mut R, to: &mut W) -> Result<(), Fault>
     requires { max_reply ≤ length out.old }
+    ensures session { IfSome (R.remaining from.old) (λ input. Sent (W.contents to.old)
+        (W.contents to.new) (session input) (is_ok result)) }
+    ensures end { OnOk result (IsAtEnd (R.remaining from.new)) }
 {
-    let fresh = feeding::fresh();
-    let ended = read_all(fresh, out);
-    if !ended.whole {
-        return;
-    }
-    let state = ended.state;
-    let last = feeding::finish(state, out);
-    let used = last.used;
-    if !write_out(STDOUT_FILENO, &out[0..used]) {
-        say(b"plandesk: standard output can't be written\n");
-    }
+    let ended = read_all(feeding::fresh(), out, from, to);
+    ended.whole?;
+    let last = feeding::finish(ended.state, out);
+    write_out(to, &out[..last.used])
 }
 
-fn main() {
-    let mut out = io::large_buffer();
-    run(&mut out);
+// The one line of a fault goes to standard error, and nothing is left to do where that can't be written either.
+fn main(rt: HostRuntime) -> ExitCode {
+    let mut out = [0u8; LARGE];
+    let line = match run(&mut out, &mut rt.stdin(), &mut rt.stdout()) {
+        Ok(()) => return ExitCode::SUCCESS,
+        Err(Fault::Closed) => return ExitCode::from(CLOSED),
+        Err(Fault::Unread) => "plandesk: standard input can't be read\n",
+        Err(Fault::Unwritten) => "plandesk: standard output can't be written\n",
+    };
+    let _ = write_out(&mut rt.stderr(), line.as_bytes());
+    ExitCode::SUCCESS
 }

@@ -1,0 +1,6 @@
+-- `piecewise::read_all`: a state.
+use Rattle.desk_core.specs.Feeding.{HoldsState}
+use Rattle.piecewise.proofs.read_all.Given as goal
+
+abbrev pub invariant-loop : goal.invariant-loop
+invariant-loop g l = HoldsState l.state
