@@ -17,20 +17,19 @@ use Rattle.higman.specs.Exercises.{exercise}
 use Rattle.higman.specs.Bases.{all}
 use Rattle.higman.specs.Limits.{Plan, slot_count, power_in_range, shape_in_range, is_plan_word, max_pairs}
 use Rattle.higman.specs.Listing.{slot_number, is_slot}
-use Rattle.higman.specs.Refusals.{Letter, wrong_state, station_outside, slot_outside, right_missing, slot_empty, count_full, power_outside}
+use Rattle.higman.specs.Refusals.{Letter, wrong_state, station_outside, slot_outside, right_missing, slot_empty, power_outside}
 use Rattle.higman.specs.Refusals.{shape_outside}
 use Rattle.higman.specs.Refusals.{bad_word, pairs_full, station_refused}
 use Rattle.higman.proofs.Tests.{T_of, all_at, all_head, all_tail}
-use Rattle.desk.specs.Limits.{max_changes}
 use Rattle.desk.specs.Desk.{Draft, Desk, station_of, count_of, own_right, readable, held, seen, changed, with_draft, with_right}
 use Rattle.desk.specs.Desk.{with_pair, is_station}
 use Rattle.desk.specs.Records.{Record, P, M, E, F, I, K, S, W, L, C, T, U, X, Z, G, H, Use, reads, target, SlotUse, needed_right}
 use Rattle.desk.specs.Records.{needs_open}
-use Rattle.desk.specs.Records.{stations_named, slots_named, is_change, kind}
+use Rattle.desk.specs.Records.{stations_named, slots_named, kind}
 use Rattle.desk.specs.Replies.{Reply, silent, ok, ok_number, lists, surveys, Outcome, refuse, pass, ◌>>=◌, ◌when◌, Effect, open_amiss}
 use Rattle.desk.specs.Replies.{open_plan}
-use Rattle.desk.specs.Replies.{plan_in, may_use, no_station, outside, denied, at_limit, held_from, arranged, comes_before, surveyed, keep_in}
-use Rattle.desk.specs.Replies.{of_answer, of_verdict, of_comparison, of_route, bit, closed, new_draft, job, admission, operation}
+use Rattle.desk.specs.Replies.{plan_in, may_use, no_station, outside, denied, held_from, arranged, comes_before, surveyed, keep_in}
+use Rattle.desk.specs.Replies.{of_answer, of_verdict, of_comparison, of_route, bit, closed, new_draft, job, admission}
 use Rattle.desk.specs.Sights.{hands_over}
 use Rattle.desk.proofs.Outcomes.{Admitted}
 use Rattle.desk.proofs.Stays.{slot_below}
@@ -71,14 +70,14 @@ test_fails {Q} n b b' e k = subst (λ x. Agree (λ _ _. Q) (n when b) (n when x)
     go true k = refuses
     go false k = passes (k refl)
 
-agree_then : {A B C D : Type 0} {R : A → B → Type 0} {Q : C → D → Type 0} {o : Outcome A} {p : Outcome B} {f : A → Outcome C} {g : B
+pub agree_then : {A B C D : Type 0} {R : A → B → Type 0} {Q : C → D → Type 0} {o : Outcome A} {p : Outcome B} {f : A → Outcome C} {g : B
     → Outcome D}
     → Agree R o p → ((a : A) (b : B) → R a b → Agree Q (f a) (g b)) → Agree Q (o >>= f) (p >>= g)
 unfolding ◌>>=◌
 agree_then refuses k = refuses
 agree_then (passes {a} {b} h) k = k a b h
 
-test_then : {B C : Type 0} {Q : B → C → Type 0} (n : ℕ) (b b' : Bool) {f : Unit {0} → Outcome B} {g : Unit {0} → Outcome C} → b ≡ b'
+pub test_then : {B C : Type 0} {Q : B → C → Type 0} (n : ℕ) (b b' : Bool) {f : Unit {0} → Outcome B} {g : Unit {0} → Outcome C} → b ≡ b'
     → ((u v : Unit {0}) → b ≡ false → Agree Q (f u) (g v)) → Agree Q ((n when b) >>= f) ((n when b') >>= g)
 test_then n b b' e k = agree_then (test_fails n b b' e (λ q. q)) k
 
@@ -143,7 +142,7 @@ module _ (d c : Desk) (h : Alike d c) where
   unfolding surveyed
   survey_same = ap (λ l. arranged comes_before (held_from 0 l)) h.sees
 
-  job_agrees : (r : Record) → hands_over r ≡ none → Admitted d r → Agree Same (job d r) (job c r)
+  pub job_agrees : (r : Record) → hands_over r ≡ none → Admitted d r → Agree Same (job d r) (job c r)
   unfolding job kind needed_right with_right
   job_agrees (P a n r) e t =
       let w : Shape = record { arity = n; roots = r } in
@@ -209,7 +208,7 @@ module _ (d c : Desk) (h : Alike d c) where
   held_test : (b : Bool) → not b ≡ false → So b
   held_test b e = T_of (not-false b e)
 
-  admission_agrees : (r : Record) → Agree (λ _ _. Admitted d r) (admission d r) (admission c r)
+  pub admission_agrees : (r : Record) → Agree (λ _ _. Admitted d r) (admission d r) (admission c r)
   unfolding admission
   admission_agrees r =
       test_then wrong_state (open_amiss d r) (open_amiss c r) (amiss_same r) (λ _ _ o.
@@ -223,11 +222,3 @@ module _ (d c : Desk) (h : Alike d c) where
         slots_named_fact = named;
         allowed = held_test (all (may_use d) (slots_named r)) m;
       }))))
-
-  pub operation_agrees : (r : Record) → hands_over r ≡ none → Agree Same (operation d r) (operation c r)
-  unfolding operation
-  operation_agrees r e =
-      agree_then (admission_agrees r) (λ _ _ t.
-      agree_then (job_agrees r e t) (λ x y q.
-      test_then count_full (is_change r && at_limit d) (is_change r && at_limit c) (ap (λ n. is_change r && leb max_changes n) h.count)
-      (λ _ _ _. passes q)))

@@ -15,11 +15,13 @@ use Rattle.desk.specs.Desk.{Desk, fresh_desk, station_of, IsDesk, dropped, at_st
 use Rattle.desk.specs.Records.{Record}
 use Rattle.desk.specs.Replies.{Reply, refuses, Outcome, refuse, pass, ◌>>=◌, Effect, operation, record_of, line_operation, settle}
 use Rattle.desk.specs.Replies.{respond_line}
-use Rattle.desk.specs.Sights.{hands_over, turn_to, whole_turns, sent_by, Sight, sight_of, sights, replies_to, StationsApart}
+use Rattle.desk.specs.Sights.{hands_over, turn_to, whole_turns, sent_by, Sight, sight_of, sights, replies_to}
 use Rattle.desk.proofs.Stays.{desk_stays}
-use Rattle.desk.proofs.Alike.{Alike, Same, Agree, operation_agrees}
-use Rattle.desk.proofs.Turns.{whole_turns_lem, turns_whole, turned, stayed, others_stay, closed_at_turn, later_turns, senders_named}
-use Rattle.desk.proofs.Rebuilt.{Own, own, own_here, own_away, own_closed, rebuilt, rebuilt_alike, same_sight}
+use Rattle.desk.proofs.Alike.{Alike, Same, Agree}
+use Rattle.desk.proofs.OperationsAlike.{operation_agrees}
+use Rattle.desk.proofs.Turns.{turned, stayed, others_stay, closed_at_turn, later_turns}
+use Rattle.desk.proofs.Rebuilt.{Own, own, own_here, own_away, own_closed, rebuilt}
+use Rattle.desk.proofs.RebuiltAlike.{rebuilt_alike}
 
 -- the replies from what a station has of its own and what it saw alone
 replay : ℕ → Own → List Sight → List Reply
@@ -109,7 +111,7 @@ replayed s d D (l ∷ ls) w = by (sent_by s d l) refl (replayed s e.0 (desk_stay
         ap₂ ◌∷◌ same.reply
         (rest ∙ ap (λ o. replay s o (sights s e.0 ls)) (own_same s e (respond_line c l) (stayed d l stays ∙ at) same))
 
-same_replies : (s : ℕ) (ls ms : List Bytes) → So (whole_turns fresh_desk ls) → So (whole_turns fresh_desk ms)
+pub same_replies : (s : ℕ) (ls ms : List Bytes) → So (whole_turns fresh_desk ls) → So (whole_turns fresh_desk ms)
     → sights s fresh_desk ls ≡ sights s fresh_desk ms → replies_to s fresh_desk ls ≡ replies_to s fresh_desk ms
 same_replies s ls ms w v e =
     let from = replayed s fresh_desk desk_stays.fresh in
@@ -128,7 +130,7 @@ other_line s d l n = by (sent_by s d l) refl
         let (here, quiet) = both_true (eqb (station_of d) s) (not (given (turn_to l))) q in
         absurd (n (eqb-true (station_of d) s here, none_given (turn_to l) quiet))
 
-replied : (s : ℕ) (d : Desk) (l : Bytes) (ls : List Bytes) → station_of d ≡ s → turn_to l ≡ none
+pub replied : (s : ℕ) (d : Desk) (l : Bytes) (ls : List Bytes) → station_of d ≡ s → turn_to l ≡ none
     → replies_to s d (l ∷ ls) ≡ (respond_line d l).1 ∷ replies_to s (respond_line d l).0 ls
 unfolding replies_to
 replied s d l ls e q =
@@ -139,7 +141,7 @@ replied s d l ls e q =
     ])
     (own_line s d l e q)
 
-unseen : (s : ℕ) (d : Desk) (l : Bytes) (ls : List Bytes) → ((station_of d ≡ s) × (turn_to l ≡ none) → ⊥)
+pub unseen : (s : ℕ) (d : Desk) (l : Bytes) (ls : List Bytes) → ((station_of d ≡ s) × (turn_to l ≡ none) → ⊥)
     → sights s d (l ∷ ls) ≡ sights s (respond_line d l).0 ls
 unfolding sights
 unseen s d l ls n =
@@ -150,7 +152,7 @@ unseen s d l ls n =
     ])
     (other_line s d l n)
 
-seen_then : (s : ℕ) (d : Desk) (l : Bytes) (ls : List Bytes) → station_of d ≡ s → turn_to l ≡ none
+pub seen_then : (s : ℕ) (d : Desk) (l : Bytes) (ls : List Bytes) → station_of d ≡ s → turn_to l ≡ none
     → sights s d (l ∷ ls) ≡ sight_of d l ∷ sights s (respond_line d l).0 ls
 unfolding sights
 seen_then s d l ls e q =
@@ -160,15 +162,3 @@ seen_then s d l ls e q =
       | false ↦ sights s (respond_line d l).0 ls
     ])
     (own_line s d l e q)
-
-pub stations_apart : StationsApart
-stations_apart =
-    record {
-      same_replies = same_replies;
-      replied = replied;
-      unseen = unseen;
-      sighted = seen_then;
-      no_more_fact = same_sight;
-      whole = λ d ls. (whole_turns_lem d ls, turns_whole d ls);
-      senders = senders_named;
-    }

@@ -5,7 +5,7 @@ use Prim.Native.Nat.{ℕ, ◌+◌, ◌≤◌, ◌<◌}
 use native.Mathlib.Omega.{arith}
 use mathlib.Core.Path.{◌≡◌, refl, sym, ◌∙◌, ap, subst}
 use mathlib.Core.Bool.{Bool, true, false, ◌&&◌}
-use mathlib.Core.List.{List, [], ◌∷◌}
+use mathlib.Core.List.{[], ◌∷◌}
 use mathlib.Core.Option.{Option, none}
 use borrow.Author.Tests.{eqb-true, eqb-false}
 use lib.Dec.{eqb}
@@ -20,18 +20,17 @@ use Rattle.desk.specs.Desk.{Desk, fresh_desk, station_of, changes_of, count_of, 
 use Rattle.desk.specs.Desk.{at_station, is_station, with_right}
 use Rattle.desk.specs.Records.{Record, P, M, E, F, I, K, S, W, L, C, T, U, X, Z, stations_named, is_change, kind, Right, G, H}
 use Rattle.desk.specs.Replies.{ok, ok_number, Outcome, refuse, pass, ◌>>=◌, Effect, bit, job, operation, record_of, line_operation}
-use Rattle.desk.specs.Replies.{settle, respond_line, run, desk_after}
+use Rattle.desk.specs.Replies.{settle, respond_line}
 use Rattle.desk.specs.Conditions.{conditions, first_of, refusal_of}
-use Rattle.desk.specs.Stations.{is_done, made_change, changes_made, OwnCountAgrees, CountsOfStations}
-use Rattle.desk.proofs.Outcomes.{Passes, passes, any_then, passed, passes_operation, operation_pass}
+use Rattle.desk.specs.Stations.{is_done, made_change, OwnCountAgrees}
+use Rattle.desk.proofs.Outcomes.{Passes, passes, any_then, passes_operation, operation_pass}
 use Rattle.desk.proofs.Desks.{station_test}
-use Rattle.desk.proofs.Given.{replicated}
-use Rattle.desk.proofs.Stays.{counted_own, counted_other, desk_stays}
+use Rattle.desk.proofs.Stays.{counted_own, counted_other}
 use Rattle.desk.proofs.Conditions.{first_condition}
 
 -- what a line does to the count of a station
 module _ (d : Desk) (D : IsDesk d) (s : ℕ) where
-  abbrev made : Desk → ℕ
+  abbrev pub made : Desk → ℕ
   made c = changes_of c.control s
 
   abbrev Counts : Bool → Effect → Type 0
@@ -87,38 +86,25 @@ module _ (d : Desk) (D : IsDesk d) (s : ℕ) where
       by_record (refuse n c) = none_added
       by_record (pass r) = by_outcome (is_change r) (operation d r) (passes_operation d r (λ _. job_adds r))
 
-lines_add : (s : ℕ) (ls : List Bytes) (d : Desk) → IsDesk d
-    → changes_of (desk_after d (run d ls)).control s ≡ changes_made s d ls + changes_of d.control s
-unfolding run changes_made
-lines_add s [] d D = omega arith
-lines_add s (l ∷ ls) d D =
-    let here = line_adds d D s l in
-    let rest = lines_add s ls (respond_line d l).0 (desk_stays.line d l D) in
-    rest ∙ omega (arith, here)
-
-made_from_fresh : (ls : List Bytes) (s : ℕ) → changes_of (desk_after fresh_desk (run fresh_desk ls)).control s ≡ changes_made s fresh_desk ls
-unfolding fresh_desk
-made_from_fresh ls s = omega (arith, lines_add s ls fresh_desk desk_stays.fresh, replicated {A = ℕ} station_count s 0)
-
 -- Z and T are done wherever no plan is open and, of Z, the station is one
-named_done : (d : Desk) (s : ℕ) → d.draft ≡ none → s ≤ 7 → operation d (Z s) ≡ pass (at_station d s, ok)
+pub named_done : (d : Desk) (s : ℕ) → d.draft ≡ none → s ≤ 7 → operation d (Z s) ≡ pass (at_station d s, ok)
 unfolding job kind station_count
 named_done d s o k =
     let known = all_cons is_station s [] ((station_test s).1 (omega arith)) tt in
     operation_pass d (Z s) (at_station d s, ok)
     (record { admitted = record { open_fits = ap given o; stations_known = known; slots_named_fact = tt; allowed = tt }; room = refl }) refl
 
-told_done : (d : Desk) → d.draft ≡ none → operation d T ≡ pass (d, ok_number (count_of d))
+pub told_done : (d : Desk) → d.draft ≡ none → operation d T ≡ pass (d, ok_number (count_of d))
 unfolding job kind
 told_done d o =
     operation_pass d T (d, ok_number (count_of d))
     (record { admitted = record { open_fits = ap given o; stations_known = tt; slots_named_fact = tt; allowed = tt }; room = refl }) refl
 
-names_own : (s : ℕ) → stations_named (Z s) ≡ s ∷ []
+pub names_own : (s : ℕ) → stations_named (Z s) ≡ s ∷ []
 unfolding kind
 names_own s = refl
 
-names_none : (r : Record) → ((s : ℕ) → r ≡ Z s → ⊥) → ((s a : ℕ) (x : Right) → r ≡ G s a x → ⊥) → stations_named r ≡ []
+pub names_none : (r : Record) → ((s : ℕ) → r ≡ Z s → ⊥) → ((s a : ℕ) (x : Right) → r ≡ G s a x → ⊥) → stations_named r ≡ []
 unfolding kind
 names_none (P a n r) h k = refl
 names_none (M from to) h k = refl
@@ -137,7 +123,7 @@ names_none (Z s) h k = absurd (h s refl)
 names_none (G s a x) h k = absurd (k s a x refl)
 names_none H h k = refl
 
-name_steps : (d : Desk) (s : ℕ) → Passes (λ e. (s < station_count) × (e ≡ (at_station d s, ok))) (operation d (Z s))
+pub name_steps : (d : Desk) (s : ℕ) → Passes (λ e. (s < station_count) × (e ≡ (at_station d s, ok))) (operation d (Z s))
 unfolding job kind
 name_steps d s = passes_operation d (Z s) (λ t. passes ((station_test s).0 (all_head is_station s [] t.admitted.stations_known), refl))
 
@@ -160,7 +146,7 @@ stay_steps d (Z s) h = absurd (h s refl)
 stay_steps d (G s a x) h = any_then _ (λ _. passes refl)
 stay_steps d H h = any_then _ (λ _. passes refl)
 
-refused_stays : (d : Desk) (l : Bytes) (n : ℕ) (c : Option Letter) → line_operation d l ≡ refuse n c
+pub refused_stays : (d : Desk) (l : Bytes) (n : ℕ) (c : Option Letter) → line_operation d l ≡ refuse n c
     → (respond_line d l).0.control ≡ d.control
 unfolding respond_line dropped
 refused_stays d l n c e = ap (λ o. (settle d o).0.control) e
@@ -185,29 +171,14 @@ conditions_agree d c h (Z s) = rw h.draft refl
 conditions_agree d c h (G s a x) = rw (h.draft, h.station) refl
 conditions_agree d c h H = rw (h.draft, h.station) refl
 
-refused_alike : (d c : Desk) → IsDesk d → IsDesk c → OwnCountAgrees d c → (r : Record)
+pub refused_alike : (d c : Desk) → IsDesk d → IsDesk c → OwnCountAgrees d c → (r : Record)
     → refusal_of (operation d r) ≡ refusal_of (operation c r)
 refused_alike d c D D' h r = first_condition d D r ∙ ap first_of (conditions_agree d c h r) ∙ sym (first_condition c D' r)
 
-first_station : station_of fresh_desk ≡ 0
+pub first_station : station_of fresh_desk ≡ 0
 unfolding fresh_desk
 first_station = refl
 
-named_below : (s : ℕ) → s < station_count → s ≤ 7
+pub named_below : (s : ℕ) → s < station_count → s ≤ 7
 unfolding station_count
 named_below s h = omega arith
-
-pub counts_of_stations : CountsOfStations
-counts_of_stations =
-    record {
-      first = first_station;
-      made = made_from_fresh;
-      told = told_done;
-      names = named_done;
-      named = λ d s e h. let (below, effect) = passed (name_steps d s) e h in (named_below s below, effect);
-      names_own = names_own;
-      names_none = names_none;
-      stays = λ d r e n h. passed (passes_operation d r (λ _. stay_steps d r n)) e h;
-      refused = refused_stays;
-      free = refused_alike;
-    }

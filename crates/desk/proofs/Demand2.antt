@@ -15,7 +15,7 @@ use Rattle.higman.specs.Tables.{image, same_table, froms, Pair}
 use Rattle.higman.specs.Normal.{and_then, power}
 use Rattle.higman.specs.Limits.{Plan, Bases, Kept, slot_count}
 use Rattle.higman.specs.Answers.{Accepted, verdict, Granted, followed, inverted, powered, Comparison, Alike, NotCompared}
-use Rattle.higman.specs.Answers.{same, same_shape, Route, Image, TooShort, NotRouted, ShapesDiffer, routed}
+use Rattle.higman.specs.Answers.{same, same_shape, Image, TooShort, ShapesDiffer, routed}
 use Rattle.higman.specs.Theorems.{ActAlike}
 use Rattle.higman.specs.Fronts.{BlockOf, SendsInTurn}
 use Rattle.higman.specs.Places.{place_of, Placed, placed_block, pairs_of, AtPlace, RoutesAt}
@@ -32,7 +32,7 @@ use Rattle.desk.specs.Desk.{Draft, Desk, count_of, held, IsDesk}
 use Rattle.desk.specs.Records.{E, F, I, K, S, W, writing, kind}
 use Rattle.higman.specs.Listing.{slot_number}
 use Rattle.desk.specs.Replies.{pass, Effect, Reply, silent, ok, ok_number, ok_image, ok_block, lists, surveys, refuses, bit}
-use Rattle.desk.specs.Replies.{of_comparison, of_route, keep_in, closed, job, operation}
+use Rattle.desk.specs.Replies.{of_comparison, keep_in, closed, job, operation}
 use Rattle.desk.specs.Theorems.{BlockReplied, PlacesReplied}
 use Rattle.desk.specs.Demands.{KeptAsTyped, KeptIn, RoutedBy, Demand2}
 use Rattle.desk.proofs.ReadBack.{typed_in, listing_read_back}
@@ -40,11 +40,13 @@ use Rattle.desk.proofs.TypedLines.{accepted_from_lines}
 use Rattle.desk.proofs.Outcomes.{Passes, stops, passes, passes_then, any_then, passed, plan_held, passes_operation}
 use Rattle.desk.proofs.Stays.{below_limit, slot_of_record}
 use Rattle.desk.proofs.OpenPlans.{close_pass, close_steps, draft_verdict}
-use Rattle.desk.proofs.Replies.{replies_exact, slots_used, desk_parts}
-use Rattle.desk.proofs.Counts.{counts_of_stations}
-use Rattle.desk.proofs.Rights.{rights_exact}
-use Rattle.desk.proofs.Apart.{stations_apart}
-use Rattle.desk.proofs.Pairs.{pairs_held}
+use Rattle.desk.proofs.RouteMade.{RouteMade, route_made}
+use Rattle.desk.proofs.Replies.{replies_exact, desk_parts}
+use Rattle.desk.proofs.SlotsUsed.{slots_used}
+use Rattle.desk.proofs.CountsOfStations.{counts_of_stations}
+use Rattle.desk.proofs.RightsExact.{rights_exact}
+use Rattle.desk.proofs.StationsApart.{stations_apart}
+use Rattle.desk.proofs.PairsHeld.{pairs_held}
 use Rattle.desk.proofs.Surveys.{survey_exact}
 use Rattle.desk.proofs.Exercises.{answer_granted, kept_there, exercises, exercises_fixed}
 
@@ -52,17 +54,6 @@ use Rattle.desk.proofs.Exercises.{answer_granted, kept_there, exercises, exercis
 comparison_made : (c : Comparison) → Passes (λ b. c ≡ Alike b) (of_comparison c)
 comparison_made (Alike b) = passes refl
 comparison_made (NotCompared r) = stops
-
--- an image, or the block
-abbrev RouteMade : Plan → Word → Route → Reply → Type 0
-RouteMade p w r reply =
-    ((v : Word) × (r ≡ Image v) × (reply ≡ ok_image v (place_of (froms p.rows) w)))
-    ⊎ ((r ≡ TooShort) × (reply ≡ ok_block (placed_block p.rows w)))
-
-route_made : (p : Plan) (w : Word) (r : Route) → Passes (RouteMade p w r) (of_route p w r)
-route_made p w (Image v) = passes (inl (v, refl, refl))
-route_made p w TooShort = passes (inr (refl, refl))
-route_made p w (NotRouted r) = stops
 
 -- E
 one_draft : (d : Desk) (o o' : Draft) → d.draft ≡ some o → d.draft ≡ some o' → o' ≡ o

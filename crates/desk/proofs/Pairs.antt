@@ -17,7 +17,7 @@ use Rattle.higman.specs.Listing.{slot_number}
 use Rattle.higman.specs.Refusals.{station_refused}
 use Rattle.higman.specs.Text.{Bytes}
 use Rattle.higman.proofs.Tests.{clash}
-use Rattle.desk.specs.Desk.{Draft, Desk, fresh_desk, station_of, held, pairs_of_slot, IsDesk, changed, with_draft, dropped, at_station}
+use Rattle.desk.specs.Desk.{Draft, Desk, station_of, held, pairs_of_slot, IsDesk, changed, with_draft, dropped, at_station}
 use Rattle.desk.specs.Desk.{with_right}
 use Rattle.desk.specs.Records.{Record, P, M, E, F, I, K, S, W, L, C, T, U, X, Z, G, H, needs_open, slots_named}
 use Rattle.desk.specs.Records.{Use, reads, target, mentions, SlotUse, writing, is_change, kind}
@@ -25,14 +25,12 @@ use Rattle.desk.specs.Replies.{Reply, ok, ok_number, Outcome, refuse, pass, ◌>
 use Rattle.desk.specs.Replies.{admission, operation, record_of, settle, line_operation, respond_line, run, desk_after}
 use Rattle.desk.specs.Stations.{is_done, made_change}
 use Rattle.desk.specs.Pairs.{pairs_told, target_slots, slots_changed, pairs_at, Tally, no_pairs, tally_of, tally, TallyExact}
-use Rattle.desk.specs.Pairs.{PairsHeld}
-use Rattle.desk.proofs.Outcomes.{Passes, passes, passes_then, any_then, plan_open, passed, test_failed, Tested, passes_operation}
+use Rattle.desk.proofs.Outcomes.{Passes, passes, passes_then, any_then, plan_open, test_failed, Tested, passes_operation}
 use Rattle.desk.proofs.Outcomes.{operation_pass}
 use Rattle.desk.proofs.Replies.{desk_parts}
 use Rattle.desk.proofs.Stays.{desk_stays, slot_of_record}
 use Rattle.desk.proofs.Sums.{pairs_at_lem}
 use Rattle.desk.proofs.Rights.{none_open}
-use Rattle.desk.proofs.Calls.{lent_calls_exact}
 
 abbrev sum : Desk → ℕ
 sum d = d.control.pairs
@@ -191,7 +189,7 @@ module _ (d : Desk) (D : IsDesk d) where
       only_at : (j : ℕ) → pairs_at d (j ∷ []) ≡ pairs_of_slot (held d j)
       only_at j = omega arith
 
-lines_told : (ls : List Bytes) (d : Desk) → IsDesk d → sum (desk_after d (run d ls)) + (tally d ls).lost ≡ sum d + (tally d ls).kept
+pub lines_told : (ls : List Bytes) (d : Desk) → IsDesk d → sum (desk_after d (run d ls)) + (tally d ls).lost ≡ sum d + (tally d ls).kept
 unfolding run tally
 lines_told [] d D = refl
 lines_told (l ∷ ls) d D =
@@ -199,7 +197,7 @@ lines_told (l ∷ ls) d D =
     let rest = lines_told ls (respond_line d l).0 (desk_stays.line d l D) in
     omega (arith, here, rest)
 
-lines_stay : (ls : List Bytes) (d : Desk) → IsDesk d → IsDesk (desk_after d (run d ls))
+pub lines_stay : (ls : List Bytes) (d : Desk) → IsDesk d → IsDesk (desk_after d (run d ls))
 unfolding run
 lines_stay [] d D = D
 lines_stay (l ∷ ls) d D = lines_stay ls (respond_line d l).0 (desk_stays.line d l D)
@@ -209,19 +207,19 @@ sum_tested : (d : Desk) → d.draft ≡ none → Tested d H
 unfolding kind
 sum_tested d o = record { admitted = record { open_fits = ap given o; stations_known = tt; slots_named_fact = tt; allowed = tt }; room = refl }
 
-tells : (d : Desk) → d.draft ≡ none → station_of d ≡ 0 → operation d H ≡ pass (d, ok_number (sum d))
+pub tells : (d : Desk) → d.draft ≡ none → station_of d ≡ 0 → operation d H ≡ pass (d, ok_number (sum d))
 unfolding job ◌>>=◌
 tells d o e =
     operation_pass d H (d, ok_number (sum d)) (sum_tested d o)
     (ap (λ s. (station_refused when not (eqb s 0)) >>= λ _. pass (d, ok_number (sum d))) e)
 
-told_steps : (d : Desk) → Passes (λ e. (station_of d ≡ 0) × (e ≡ (d, ok_number (sum d)))) (operation d H)
+pub told_steps : (d : Desk) → Passes (λ e. (station_of d ≡ 0) × (e ≡ (d, ok_number (sum d)))) (operation d H)
 unfolding job
 told_steps d =
     passes_operation d H (λ _. passes_then (test_failed station_refused (not (eqb (station_of d) 0)))
     (λ _ q. passes (eqb-true (station_of d) 0 (not-false _ q), refl)))
 
-not_told : (d : Desk) → d.draft ≡ none → (station_of d ≡ 0 → ⊥) → operation d H ≡ refuse 19 none
+pub not_told : (d : Desk) → d.draft ≡ none → (station_of d ≡ 0 → ⊥) → operation d H ≡ refuse 19 none
 unfolding operation admission job kind ◌>>=◌
 not_told d o n = rw (ap given o, ne_eqb (station_of d) 0 n) refl
 
@@ -245,7 +243,7 @@ target_named (v ∷ us) u m e = by (Memᴰ.cases_cons m) (λ k. target_named us 
     by (inr k) rest = behind v.does (rest k)
 target_named [] u m e = absurd (Memᴰ.not-nil m)
 
-tally_exact : TallyExact
+pub tally_exact : TallyExact
 unfolding tally
 tally_exact =
     record {
@@ -268,19 +266,3 @@ tally_exact =
     closed_tallied d D l o q m (pass r) e =
         change_tallied d D l r e m o.slot (subst (Memᴰ o.slot) (sym (slot_open d r o q)) (Memᴰ.head refl))
     closed_tallied d D l o q m (refuse n c) e = absurd (clash m (ap (made_by d) e))
-
-pub pairs_held : PairsHeld
-pairs_held =
-    record {
-      of_slot = (refl, λ p. refl);
-      of_slots = (refl, λ x l. refl);
-      tallied = tally_exact;
-      tells = tells;
-      told = λ d e h. passed (told_steps d) e h;
-      not_told = not_told;
-      counted = λ ls. let all = lines_told ls fresh_desk desk_stays.fresh in omega (arith, all, desk_parts.fresh_pairs);
-      summed = λ ls. (lines_stay ls fresh_desk desk_stays.fresh).summed;
-      off = λ d n.
-          let no_desk_lem : IsDesk d → ⊥ = λ D. n D.summed in
-          (no_desk_lem, λ work buffer. lent_calls_exact.no_desk_lem d work buffer no_desk_lem, λ work. lent_calls_exact.plain_no_desk d work no_desk_lem);
-    }

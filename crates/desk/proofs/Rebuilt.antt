@@ -8,19 +8,16 @@ use mathlib.Core.List.{List, [], ◌∷◌, ◌++◌, map}
 use mathlib.Core.Option.{Option, none}
 use lib.Dec.{leb, eqb, eqb_refl}
 use borrow.Author.Tests.{ne_eqb, leb-true}
-use lib.ListN.{length, get_or, set, replicate, length-set, length-replicate}
+use lib.ListN.{length, get_or, set, replicate, length-replicate}
 use Rattle.higman.specs.Words.{count}
 use Rattle.higman.specs.Text.{Bytes}
 use Rattle.higman.specs.Limits.{Plan, slot_count}
 use Rattle.higman.proofs.Tests.{so}
 use Rattle.desk.specs.Limits.{station_count, max_right}
 use Rattle.desk.specs.Desk.{Draft, Rights, Control, Desk, station_of, count_of, changes_of, right_of, own_right, readable, held}
-use Rattle.desk.specs.Desk.{seen_from, seen, IsDesk, changed, pairs_of_slots}
+use Rattle.desk.specs.Desk.{seen_from, seen, IsDesk, pairs_of_slots}
 use Rattle.desk.specs.Sights.{Sight, sight_of}
-use Rattle.desk.proofs.Given.{set_here}
-use Rattle.desk.proofs.Stays.{counted_own}
-use Rattle.desk.proofs.Seen.{shown, seen_at}
-use Rattle.desk.proofs.Alike.{Alike}
+use Rattle.desk.proofs.Seen.{shown}
 
 -- what a station has of its own: its changes, and while it is named the open plan
 pub record Own : Type 0 where
@@ -76,7 +73,7 @@ shown_twice : (b : Bool) (x : Option Plan) → shown b x ≡ shown b (shown b x)
 shown_twice true x = refl
 shown_twice false x = refl
 
-seen_again : (d c : Desk) (k : ℕ) (l : List (Option Plan)) → ((i : ℕ) → k ≤ i → i < k + length l → own_right d i ≡ own_right c i)
+pub seen_again : (d c : Desk) (k : ℕ) (l : List (Option Plan)) → ((i : ℕ) → k ≤ i → i < k + length l → own_right d i ≡ own_right c i)
     → seen_from d k l ≡ seen_from c k (seen_from d k l)
 seen_again d c k [] h = refl
 seen_again d c k (x ∷ l) h =
@@ -85,11 +82,11 @@ seen_again d c k (x ∷ l) h =
     (seen_again d c (suc k) l (λ i a b. h i (omega arith) (omega arith)))
 
 -- station 0 sees what every slot holds
-seen_all : (d : Desk) (k : ℕ) (l : List (Option Plan)) → ((i : ℕ) → readable d i ≡ true) → seen_from d k l ≡ l
+pub seen_all : (d : Desk) (k : ℕ) (l : List (Option Plan)) → ((i : ℕ) → readable d i ≡ true) → seen_from d k l ≡ l
 seen_all d k [] h = refl
 seen_all d k (x ∷ l) h = ap₂ ◌∷◌ (ap (λ b. shown b x) (h k)) (seen_all d (suc k) l h)
 
-first_reads : (d : Desk) → station_of d ≡ 0 → (i : ℕ) → readable d i ≡ true
+pub first_reads : (d : Desk) → station_of d ≡ 0 → (i : ℕ) → readable d i ≡ true
 unfolding max_right
 first_reads d e i = ap (λ s. leb 1 (right_of d.control.rights s i)) e
 
@@ -98,7 +95,7 @@ shown_same : (b : Bool) (x y : Option Plan) → (b ≡ true → x ≡ y) → sho
 shown_same true x y h = h refl
 shown_same false x y h = refl
 
-seen_alike : (d c : Desk) (k : ℕ) (l m : List (Option Plan)) → length l ≡ length m
+pub seen_alike : (d c : Desk) (k : ℕ) (l m : List (Option Plan)) → length l ≡ length m
     → ((i : ℕ) → i < length l → own_right d (k + i) ≡ own_right c (k + i))
     → ((i : ℕ) → i < length l → readable d (k + i) ≡ true → get_or l i none ≡ get_or m i none) → seen_from d k l ≡ seen_from c k m
 seen_alike d c k [] [] e r h = refl
@@ -144,25 +141,9 @@ module _ (d : Desk) (D : IsDesk d) (l : Bytes) where
       let row = map (own_right d) (count 0 slot_count) in
       sym (ap (λ r. get_or r i 0) (row_behind k row) ∙ counted_off (own_right d) 0 slot_count i h ∙ ap (own_right d) first)
 
-  same_rights : (i : ℕ) → i < slot_count → own_right d i ≡ own_right c i
+  pub same_rights : (i : ℕ) → i < slot_count → own_right d i ≡ own_right c i
   unfolding rebuilt
   same_rights i h = own_rights i h s refl
 
-  in_counts : s < length (replicate {A = ℕ} station_count 0)
+  pub in_counts : s < length (replicate {A = ℕ} station_count 0)
   in_counts = omega (arith, D.control.named, length-replicate {A = ℕ} station_count 0)
-
-  pub rebuilt_alike : Alike d c
-  unfolding rebuilt seen changed
-  rebuilt_alike =
-      record {
-        station = refl;
-        draft = ap (λ (o : Own). o.draft) (sym (own_here s d refl));
-        count = sym (set_here (replicate station_count 0) s (count_of d) 0 in_counts);
-        rights = same_rights;
-        reads = λ i h r. sym (seen_at d i ∙ ap (λ b. shown b (held d i)) (so (readable d i) r));
-        sees = seen_again d c 0 d.slots (λ i _ b. same_rights i (omega (arith, D.eight)));
-        sums = λ e. D.summed ∙ ap pairs_of_slots (sym (seen_all d 0 d.slots (first_reads d e)));
-        counts = λ i x. counted_own d.control D.control;
-        counts' = λ i x. set_here c.control.changes s (count_of c + 1) 0
-            (omega (arith, in_counts, length-set (replicate station_count 0) s (count_of d)));
-      }

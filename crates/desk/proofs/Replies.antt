@@ -20,7 +20,7 @@ use Rattle.desk.specs.Records.{mentions, kind}
 use Rattle.desk.specs.Records.{needs_open, slots_named, is_change, G, H, mentioning}
 use Rattle.higman.specs.Listing.{slot_number, is_slot}
 use Rattle.desk.specs.Replies.{Effect, silent, ok, ok_number, lists, surveys, is_open, surveyed, new_draft, job, operation}
-use Rattle.desk.specs.Demands.{RepliesExact, Written, SlotsUsed, DeskParts}
+use Rattle.desk.specs.Demands.{RepliesExact, Written, DeskParts}
 use Rattle.desk.proofs.Outcomes.{Passes, passes, passes_then, any_then, passed, plan_held, plan_open, passes_operation}
 use Rattle.desk.proofs.Given.{set_here, set_elsewhere, replicated}
 use Rattle.desk.proofs.Stays.{counted_own, counted_other}
@@ -178,7 +178,7 @@ unread_held d v n us rest u m e = by_place (Memᴰ.cases_cons m)
 writing_held : (d : Desk) (a : ℕ) (us : List SlotUse) → ReadsHeld d us → ReadsHeld d (writing a ∷ us)
 writing_held d a us rest = unread_held d (writing a) tt us rest
 
-job_reads : (d : Desk) (r : Record) → Passes (λ _. ReadsHeld d (slots_named r)) (job d r)
+pub job_reads : (d : Desk) (r : Record) → Passes (λ _. ReadsHeld d (slots_named r)) (job d r)
 unfolding job kind
 job_reads d (P a n r) = any_then _ (λ _. passes (writing_held d a [] (no_uses d)))
 job_reads d (M from to) = any_then _ (λ _. any_then _ (λ _. any_then _ (λ _. passes (no_uses d))))
@@ -210,7 +210,7 @@ Spares d r e =
     needs_open r ≡ false → (j : ℕ) → ((u : SlotUse) → Memᴰ u (slots_named r) → u.does ≡ target → slot_number u.slot ≡ j → ⊥)
     → held e.0 j ≡ held d j
 
-job_spares : (d : Desk) (r : Record) → Passes (Spares d r) (job d r)
+pub job_spares : (d : Desk) (r : Record) → Passes (Spares d r) (job d r)
 unfolding job kind with_draft at_station with_right
 job_spares d (P a n r) = any_then _ (λ _. passes (λ o j h. refl))
 job_spares d (M from to) = any_then _ (λ _. any_then _ (λ _. any_then _ (λ _. passes (λ o. absurd (clash refl o)))))
@@ -265,7 +265,7 @@ no_target d v n us e rest u m q = by_place (Memᴰ.cases_cons m)
     by_place (inl h) = absurd (subst WritesNot (sym (ap (λ v. v.does) h) ∙ q) n)
     by_place (inr k) = rest u k q
 
-job_writes : (d : Desk) (r : Record) → Passes (λ e. Writes d (slots_named r) e.0) (job d r)
+pub job_writes : (d : Desk) (r : Record) → Passes (λ e. Writes d (slots_named r) e.0) (job d r)
 unfolding job kind
 job_writes d (P a n r) = any_then _ (λ _. passes (target_written d a [] _ (inr (_, refl, refl)) (no_targets d _)))
 job_writes d (M from to) = any_then _ (λ _. any_then _ (λ _. any_then _ (λ _. passes (no_targets d _))))
@@ -290,11 +290,3 @@ job_writes d (X a n r s seed) = any_then _ (λ _. any_then _ (λ p. passes (targ
 job_writes d (Z s) = passes (no_targets d _)
 job_writes d (G s a x) = any_then _ (λ _. passes (no_target d (mentioning a) tt _ _ (no_targets d _)))
 job_writes d H = any_then _ (λ _. passes (no_targets d _))
-
-pub slots_used : SlotsUsed
-slots_used =
-    record {
-      reads_held = λ d r e h. passed (passes_operation d r (λ _. job_reads d r)) e h;
-      only_targets = λ d r e h. passed (passes_operation d r (λ _. job_spares d r)) e h;
-      targets = λ d r e h. passed (passes_operation d r (λ _. job_writes d r)) e h;
-    }

@@ -17,7 +17,7 @@ use Rattle.higman.specs.Listing.{slot_number, is_slot}
 use Rattle.higman.specs.Refusals.{station_refused, count_full}
 use Rattle.higman.specs.Text.{Bytes}
 use Rattle.higman.proofs.Tests.{all_at, all_head, all_cons, or_left_false, or_right_false, clash, T_of, so}
-use Rattle.desk.specs.Limits.{station_count, max_right}
+use Rattle.desk.specs.Limits.{station_count}
 use Rattle.desk.specs.Desk.{Draft, Desk, fresh_desk, station_of, own_right, held, changed, with_draft, dropped, at_station, with_right}
 use Rattle.desk.specs.Desk.{is_station}
 use Rattle.desk.specs.Records.{Right, no_right, may_read, may_write, right_number, Record, P, M, E, F, I, K, S, W, L, C, T, U, X, Z, G, H}
@@ -25,13 +25,11 @@ use Rattle.desk.specs.Records.{needs_open, is_change, SlotUse, writing, mentioni
 use Rattle.desk.specs.Replies.{ok, Outcome, refuse, pass, ◌>>=◌, ◌when◌, Effect, open_amiss, may_use, at_limit, admission, grant_by}
 use Rattle.desk.specs.Replies.{job, operation, record_of, line_operation, settle}
 use Rattle.desk.specs.Replies.{respond_line, run, desk_after}
-use Rattle.desk.specs.Rights.{RightsExact}
-use Rattle.desk.proofs.Outcomes.{Passes, stops, passes, passes_then, any_then, passed, test_failed, plan_open, Tested}
+use Rattle.desk.proofs.Outcomes.{Passes, stops, passes, passes_then, any_then, test_failed, plan_open, Tested}
 use Rattle.desk.proofs.Outcomes.{passes_operation}
 use Rattle.desk.proofs.Outcomes.{operation_pass}
 use Rattle.desk.proofs.Desks.{station_test}
 use Rattle.desk.proofs.Replies.{desk_parts}
-use Rattle.desk.proofs.Given.{fresh_right, given_here, given_elsewhere}
 
 -- G is refused with 19 exactly where another station sends it or it is for station 0
 abbrev refused : Desk → ℕ → Bool
@@ -47,19 +45,19 @@ not_zero (suc s) n = omega arith
 nothing_below : {n : ℕ} → n < 0 → ⊥
 nothing_below h = omega (arith, h)
 
-numbered : (x : Right) (s a : ℕ) → grant_by s a (right_number x) ≡ pass (G s a x)
+pub numbered : (x : Right) (s a : ℕ) → grant_by s a (right_number x) ≡ pass (G s a x)
 unfolding right_number
 numbered no_right s a = refl
 numbered may_read s a = refl
 numbered may_write s a = refl
 
-above_2 : (n : ℕ) → 2 < n → (s a : ℕ) → grant_by s a n ≡ refuse 1 none
+pub above_2 : (n : ℕ) → 2 < n → (s a : ℕ) → grant_by s a n ≡ refuse 1 none
 above_2 zero h s a = absurd (omega (arith, h))
 above_2 (suc zero) h s a = absurd (omega (arith, h))
 above_2 (suc (suc zero)) h s a = absurd (omega (arith, h))
 above_2 (suc (suc (suc n))) h s a = refl
 
-refused_there : (d : Desk) (s : ℕ) → ((station_of d ≡ 0) × (1 ≤ s) → ⊥) → refused d s ≡ true
+pub refused_there : (d : Desk) (s : ℕ) → ((station_of d ≡ 0) × (1 ≤ s) → ⊥) → refused d s ≡ true
 refused_there d s n = by (eqb (station_of d) 0) refl (eqb s 0) refl
   where
     by : (a : Bool) → eqb (station_of d) 0 ≡ a → (b : Bool) → eqb s 0 ≡ b → (not a || b) ≡ true
@@ -67,38 +65,23 @@ refused_there d s n = by (eqb (station_of d) 0) refl (eqb s 0) refl
     by true e true f = refl
     by true e false f = absurd (n (eqb-true (station_of d) 0 e, not_zero s (eqb-false s 0 f)))
 
-admitted_job : (d : Desk) (r : Record) → open_amiss d r ≡ false → all is_station (stations_named r)
+pub admitted_job : (d : Desk) (r : Record) → open_amiss d r ≡ false → all is_station (stations_named r)
     ≡ true → all (λ u. is_slot u.slot) (slots_named r) ≡ true
     → all (may_use d) (slots_named r) ≡ true → operation d r ≡ (job d r >>= λ e. (count_full when (is_change r && at_limit d)) >>= λ _. pass e)
 unfolding operation admission ◌>>=◌
 admitted_job d r a b c m = rw (a, b, c, m) refl
 
-not_given_19 : (d : Desk) (s a : ℕ) (x : Right) → d.draft ≡ none → s < station_count → So (is_slot a) → ((station_of d ≡ 0) × (1 ≤ s) → ⊥)
-    → operation d (G s a x) ≡ refuse 19 none
-unfolding operation admission job kind needed_right ◌>>=◌
-not_given_19 d s a x o h t n =
-    let fits : open_amiss d (G s a x) ≡ false = ap given o in
-    let known : all is_station (stations_named (G s a x)) ≡ true =
-    Rattle.higman.proofs.Tests.so _ (all_cons is_station s [] ((station_test s).1 h) tt) in
-    let named : all (λ u. is_slot u.slot) (slots_named (G s a x))
-    ≡ true = Rattle.higman.proofs.Tests.so _ (all_cons (λ u. is_slot u.slot) (mentioning a) [] t tt) in
-    let may : all (may_use d) (slots_named (G s a x)) ≡ true =
-    Rattle.higman.proofs.Tests.so _ (all_cons (may_use d) (mentioning a) [] (le→leb 0 (own_right d (slot_number a)) (omega arith)) tt) in
-    admitted_job d (G s a x) fits known named may ∙ ap (λ b.
-    ((station_refused when b) >>= λ _. pass (with_right d s (slot_number a) (right_number x), ok)) >>= λ e. (count_full when false) >>=
-    λ _. pass e) (refused_there d s n)
-
 not_given_unused : ℕ
 not_given_unused = 0
 
-record Gave (d : Desk) (s a : ℕ) (x : Right) (e : Effect) : Type 0 where
-  first : station_of d ≡ 0
-  other : 1 ≤ s
-  known : s < station_count
-  slot : So (is_slot a)
-  effect : e ≡ (with_right d s (slot_number a) (right_number x), ok)
+pub record Gave (d : Desk) (s a : ℕ) (x : Right) (e : Effect) : Type 0 where
+  pub first : station_of d ≡ 0
+  pub other : 1 ≤ s
+  pub known : s < station_count
+  pub slot : So (is_slot a)
+  pub effect : e ≡ (with_right d s (slot_number a) (right_number x), ok)
 
-give_steps : (d : Desk) (s a : ℕ) (x : Right) → Passes (Gave d s a x) (operation d (G s a x))
+pub give_steps : (d : Desk) (s a : ℕ) (x : Right) → Passes (Gave d s a x) (operation d (G s a x))
 unfolding job kind
 give_steps d s a x =
     passes_operation d (G s a x) (λ t. passes_then (test_failed station_refused (refused d s)) (λ _ f. passes (record {
@@ -109,7 +92,7 @@ give_steps d s a x =
       effect = refl;
     })))
 
-given_done : (d : Desk) (s a : ℕ) (x : Right) → d.draft ≡ none → station_of d ≡ 0 → 1 ≤ s → s < station_count → So (is_slot a)
+pub given_done : (d : Desk) (s a : ℕ) (x : Right) → d.draft ≡ none → station_of d ≡ 0 → 1 ≤ s → s < station_count → So (is_slot a)
     → operation d (G s a x) ≡ pass (with_right d s (slot_number a) (right_number x), ok)
 unfolding job kind needed_right ◌>>=◌
 given_done d s a x o e h k c =
@@ -127,7 +110,7 @@ given_done d s a x o e h k c =
     (ap (λ b. (station_refused when b) >>= λ _. pass next) (taken d s e h))
 
 -- no other record changes a right
-job_rights : (d : Desk) (r : Record) → ((s a : ℕ) (x : Right) → r ≡ G s a x → ⊥)
+pub job_rights : (d : Desk) (r : Record) → ((s a : ℕ) (x : Right) → r ≡ G s a x → ⊥)
     → Passes (λ e. e.0.control.rights ≡ d.control.rights) (job d r)
 unfolding job changed with_draft at_station
 job_rights d (P a n r) h = any_then _ (λ _. passes refl)
@@ -152,14 +135,14 @@ whatever : {A Q : Type 0} → Q → (o : Outcome A) → Passes (λ _. Q) o
 whatever q (refuse n c) = stops
 whatever q (pass a) = passes q
 
-had_right : (d : Desk) (r : Record)
+pub had_right : (d : Desk) (r : Record)
     → Passes (λ _. (u : SlotUse) → Memᴰ u (slots_named r) → needed_right u.does ≤ own_right d (slot_number u.slot)) (operation d r)
 had_right d r =
     passes_operation d r (λ t. whatever (λ u m. leb→le (needed_right u.does) (own_right d (slot_number u.slot))
     (all_at (may_use d) (slots_named r) t.admitted.allowed u m)) (job d r))
 
 -- whoever has a plan open may write to its slot
-abbrev Owned : Desk → Type 0
+abbrev pub Owned : Desk → Type 0
 Owned d = (o : Draft) → d.draft ≡ some o → 2 ≤ own_right d o.slot
 
 pub none_open : (x : Option Draft) → given x ≡ false → x ≡ none
@@ -200,7 +183,7 @@ line_owned d h l = settled (line_operation d l) (any_then (record_of l) (λ r. p
     settled (refuse n c) k = λ o q. no_draft q
     settled (pass e) (passes k) = k
 
-lines_owned : (ls : List Bytes) (d : Desk) → Owned d → Owned (desk_after d (run d ls))
+pub lines_owned : (ls : List Bytes) (d : Desk) → Owned d → Owned (desk_after d (run d ls))
 unfolding run
 lines_owned [] d h = h
 lines_owned (l ∷ ls) d h = lines_owned ls (respond_line d l).0 (line_owned d h l)
@@ -217,7 +200,7 @@ module _ (d : Desk) (h : Owned d) (i : ℕ) (low : own_right d i < 2) where
       → held (changed d (slot_number a) content) i ≡ held d i
   spared r t a m content = desk_parts.changed_elsewhere d (slot_number a) i content (other_slot (slot_number a) (may_write_lem r t a m))
 
-  job_untouched : (r : Record) → Tested d r → Passes (λ e. held e.0 i ≡ held d i) (job d r)
+  pub job_untouched : (r : Record) → Tested d r → Passes (λ e. held e.0 i ≡ held d i) (job d r)
   unfolding job kind with_draft at_station with_right
   job_untouched (P a n r) t = any_then _ (λ _. passes refl)
   job_untouched (M from to) t = any_then _ (λ _. any_then _ (λ _. any_then _ (λ _. passes refl)))
@@ -241,15 +224,7 @@ module _ (d : Desk) (h : Owned d) (i : ℕ) (low : own_right d i < 2) where
   job_untouched (G s a x) t = any_then _ (λ _. passes refl)
   job_untouched H t = any_then _ (λ _. passes refl)
 
-  line_untouched : (l : Bytes) → held (respond_line d l).0 i ≡ held d i
-  unfolding respond_line line_operation dropped
-  line_untouched l = settled (line_operation d l) (any_then (record_of l) (λ r. passes_operation d r (job_untouched r)))
-    where
-      settled : (o : Outcome Effect) → Passes (λ e. held e.0 i ≡ held d i) o → held (settle d o).0 i ≡ held d i
-      settled (refuse n c) k = refl
-      settled (pass e) (passes k) = k
-
-fresh_owned : Owned fresh_desk
+pub fresh_owned : Owned fresh_desk
 unfolding fresh_desk
 fresh_owned o q = no_draft q
 
@@ -266,14 +241,14 @@ module _ (d : Desk) where
           absurd (omega (arith, enough, h))
 
   -- and 8 before it
-  not_slots : (us : List SlotUse) (u : SlotUse) → Memᴰ u us → (So (is_slot u.slot) → ⊥) → all (λ u. is_slot u.slot) us ≡ false
+  pub not_slots : (us : List SlotUse) (u : SlotUse) → Memᴰ u us → (So (is_slot u.slot) → ⊥) → all (λ u. is_slot u.slot) us ≡ false
   not_slots us u m h = by (all (λ u. is_slot u.slot) us) refl
     where
       by : (b : Bool) → all (λ u. is_slot u.slot) us ≡ b → b ≡ false
       by false e = refl
       by true e = absurd (h (all_at (λ u. is_slot u.slot) us (T_of e) u m))
 
-  refused_8 : (r : Record) → needs_open r ≡ false → stations_named r ≡ [] → d.draft ≡ none → all (λ u. is_slot u.slot) (slots_named r)
+  pub refused_8 : (r : Record) → needs_open r ≡ false → stations_named r ≡ [] → d.draft ≡ none → all (λ u. is_slot u.slot) (slots_named r)
       ≡ false
       → operation d r ≡ refuse 8 none
   unfolding operation admission ◌>>=◌
@@ -291,7 +266,7 @@ module _ (d : Desk) where
   none_named : {A : Type 0} {u : SlotUse} → Memᴰ u [] → A
   none_named m = absurd (Memᴰ.not-nil m)
 
-  missing_right : (r : Record) → d.draft ≡ none → So (all (λ u. is_slot u.slot) (slots_named r)) → (u : SlotUse)
+  pub missing_right : (r : Record) → d.draft ≡ none → So (all (λ u. is_slot u.slot) (slots_named r)) → (u : SlotUse)
       → Memᴰ u (slots_named r)
       → own_right d (slot_number u.slot) < needed_right u.does → operation d r ≡ refuse 20 none
   unfolding kind needed_right
@@ -315,33 +290,3 @@ module _ (d : Desk) where
       no_need : (u ≡ mentioning a) ⊎ Memᴰ u [] → ⊥
       no_need (inl e) = nothing_below (subst (λ v. own_right d (slot_number v.slot) < needed_right v.does) e h)
       no_need (inr k) = Memᴰ.not-nil k
-
-pub rights_exact : RightsExact
-unfolding fresh_desk station_count max_right with_right right_number needed_right kind
-rights_exact =
-    record {
-      fresh = λ s i h k. fresh_right s i (omega arith) k;
-      first = λ rights i. refl;
-      numbers = (refl, refl, refl);
-      within = λ d D s i. D.control.rights.within s i;
-      gives = λ d s a x o e h k c. given_done d s a x o e h (omega arith) c;
-      given = λ d s a x e h. let g = passed (give_steps d s a x) e h in (g.first, g.other, below s g.known, g.slot, g.effect);
-      here = λ d D s i x h k b. given_here d.control.rights D.control.rights s i x h (omega arith) b;
-      elsewhere = λ d s i x t j n. given_elsewhere d.control.rights s i x t j n;
-      parts = λ d s i x. (refl, refl, refl, refl, refl);
-      only = λ d r e n h. passed (passes_operation d r (λ _. job_rights d r n)) e h;
-      needs = (refl, refl, refl);
-      had = λ d r e h. passed (had_right d r) e h;
-      opened = λ ls. lines_owned ls fresh_desk fresh_owned;
-      own = λ d i. refl;
-      outside_first = λ d r o n s u m h. refused_8 d r n s o (not_slots d (slots_named r) u m h);
-      missing = missing_right;
-      not_given = λ d s a x o h t n. not_given_19 d s a x o (omega arith) t n;
-      by_number = λ s a x. numbered x s a;
-      above = λ s a n h. above_2 n h s a;
-      untouched = λ ls l i low. line_untouched _ (lines_owned ls fresh_desk fresh_owned) i low l;
-      names = λ s a x. refl;
-    }
-  where
-    below : (s : ℕ) → s < 8 → s ≤ 7
-    below s h = omega arith

@@ -1,55 +1,29 @@
 -- What a line does to whose turn it is (change request E6): one that hands over, with no plan open, names the next station and does nothing
 -- else; every other leaves the station, and the counts of the others. So in whole turns the input tells whose turn it is.
-use Prim.Native.Nat.{ℕ, ◌+◌, ◌≤◌, ◌<◌}
+use Prim.Native.Nat.{ℕ, ◌≤◌, ◌<◌}
 use native.Mathlib.Omega.{arith}
 use mathlib.Core.Path.{◌≡◌, refl, sym, ◌∙◌, ap, subst}
 use mathlib.Core.Bool.{Bool, true, false, ◌&&◌, not}
 use mathlib.Core.List.{List, [], ◌∷◌, ◌++◌}
-use mathlib.Core.Option.{Option, none, some, none-ne-some, some-injective}
+use mathlib.Core.Option.{Option, none, some}
 use lib.Dec.{T as So, eqb}
 use borrow.Author.Tests.{ne_eqb}
 use Rattle.higman.specs.Text.{Bytes}
 use Rattle.higman.specs.Words.{given}
-use Rattle.higman.proofs.Tests.{so, and_left, and_right, clash, T_of}
+use Rattle.higman.proofs.Tests.{so, and_left, and_right, clash}
 use Rattle.desk.specs.Limits.{station_count}
-use Rattle.desk.specs.Desk.{Desk, fresh_desk, station_of, changes_of, IsDesk, dropped, at_station, is_station}
-use Rattle.desk.specs.Records.{Record, P, M, E, F, I, K, S, W, L, C, T, U, X, Z, G, H}
+use Rattle.desk.specs.Desk.{Desk, fresh_desk, station_of, changes_of, IsDesk, dropped, at_station}
+use Rattle.desk.specs.Records.{Record, Z}
 use Rattle.desk.specs.Replies.{ok, Outcome, refuse, pass, ◌>>=◌, Effect, bit, is_open, operation, record_of, line_operation, settle}
 use Rattle.desk.specs.Replies.{respond_line, run, desk_after}
 use Rattle.desk.specs.Stations.{made_change}
 use Rattle.desk.specs.Sights.{hands_over, turn_to, whole_turns, last_named}
 use Rattle.desk.proofs.Outcomes.{Passes, passes, Admitted, passes_operation}
 use Rattle.desk.proofs.Desks.{station_test}
-use Rattle.desk.proofs.Counts.{stay_steps, line_adds, counts_of_stations}
+use Rattle.desk.proofs.Counts.{stay_steps, line_adds}
+use Rattle.desk.proofs.CountsOfStations.{counts_of_stations}
 use Rattle.desk.proofs.Alike.{no_Z}
-
-no_turn : {A : Type 0} {t : ℕ} → none ≡ some t → A
-no_turn q = absurd (none-ne-some _ q)
-
--- only a Z hands over, and to the station that it names
-hands_over_lem : (r : Record) (t : ℕ) → hands_over r ≡ some t → (r ≡ Z t) × So (is_station t)
-unfolding hands_over
-hands_over_lem (P a n r) t e = no_turn e
-hands_over_lem (M from to) t e = no_turn e
-hands_over_lem E t e = no_turn e
-hands_over_lem (F a b c) t e = no_turn e
-hands_over_lem (I a c) t e = no_turn e
-hands_over_lem (K a k c) t e = no_turn e
-hands_over_lem (S a b) t e = no_turn e
-hands_over_lem (W a code) t e = no_turn e
-hands_over_lem (L a) t e = no_turn e
-hands_over_lem (C a) t e = no_turn e
-hands_over_lem T t e = no_turn e
-hands_over_lem U t e = no_turn e
-hands_over_lem (X a n r s seed) t e = no_turn e
-hands_over_lem (Z s) t e = by (is_station s) refl e
-  where
-    by : (b : Bool) → is_station s ≡ b → ◌≡◌ {A = Option ℕ} (elim b [ true ↦ some s | false ↦ none ]) (some t)
-        → (Z s ≡ Z t) × So (is_station t)
-    by true k q = let same = some-injective s t q in (ap Record.Z same, subst (λ n. So (is_station n)) same (T_of k))
-    by false k q = no_turn q
-hands_over_lem (G s a x) t e = no_turn e
-hands_over_lem H t e = no_turn e
+use Rattle.desk.proofs.HandsOver.{no_turn, hands_over_lem}
 
 eight : (s : ℕ) → s < station_count → s ≤ 7
 unfolding station_count

@@ -15,7 +15,8 @@ use Rattle.higman.proofs.Maps.{Steady}
 use Rattle.higman.proofs.Actions.{Action}
 use Rattle.higman.proofs.Codes.{spell_injective, word_of_code, code_of_word, length_spell, bound_of_ways}
 use Rattle.higman.proofs.Algebras.{to_along, identity_homomorphism, homomorphisms_in_turn}
-use Rattle.higman.proofs.StandardForms.{forms, form_path, leaf_injective, along_leaf}
+use Rattle.higman.proofs.StandardForms.{form_path, leaf_injective}
+use Rattle.higman.proofs.FormAlgebra.{forms, along_leaf}
 use Rattle.higman.proofs.FreeForms.{root_form, from_forms}
 use Rattle.higman.proofs.Readings.{when_passed, when_passed_lem, when_some, word_of, word_of_some}
 use Rattle.higman.proofs.Readings.{read, read_steady, read_spell, words_below}

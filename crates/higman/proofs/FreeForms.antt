@@ -7,7 +7,8 @@ use Rattle.higman.specs.Words.{Shape}
 use Rattle.higman.specs.Algebras.{Way, Code, Algebra, Homomorphism, Free, along}
 use Rattle.higman.specs.StandardForms.{Tree, leaf, node, Parts, Standard, Form}
 use Rattle.higman.proofs.Algebras.{along_append, to_along}
-use Rattle.higman.proofs.StandardForms.{part_tree, unite_with, parts_decided, unite_form, node_united, forms, along_leaf}
+use Rattle.higman.proofs.StandardForms.{part_tree, unite_with, parts_decided, unite_form}
+use Rattle.higman.proofs.FormAlgebra.{node_united, forms, along_leaf}
 
 abbrev pub root_form : (s : Shape) → Way s.roots → Form s
 root_form s a = (leaf (record { belt = a; ways = [] }), tt)

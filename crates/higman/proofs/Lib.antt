@@ -37,6 +37,8 @@ pub mod Reached
 pub mod Demand3
 pub mod Statements
 pub mod Fronts
+pub mod PlacesFound
+pub mod PlacedLines
 pub mod Places
 pub mod Draws
 pub mod Splits
@@ -48,6 +50,7 @@ pub mod Shortest
 pub mod Codes
 pub mod Algebras
 pub mod StandardForms
+pub mod FormAlgebra
 pub mod FreeForms
 pub mod Extensions
 pub mod Readings

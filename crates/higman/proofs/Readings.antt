@@ -14,7 +14,8 @@ use Rattle.higman.specs.Algebras.{Way, Code, spell_ways, spell_code, along}
 use Rattle.higman.specs.StandardForms.{Tree, leaf, node, Standard, Form}
 use Rattle.higman.proofs.Maps.{Steady}
 use Rattle.higman.proofs.Codes.{further, spell_further, bound_of_ways}
-use Rattle.higman.proofs.StandardForms.{part_tree, forms, along_leaf}
+use Rattle.higman.proofs.StandardForms.{part_tree}
+use Rattle.higman.proofs.FormAlgebra.{forms, along_leaf}
 
 -- a value that is there only where a test passes
 abbrev pub when_passed : (b : Bool) → (T b → Option Word) → Option Word

@@ -1,16 +1,16 @@
--- The standard forms as an algebra: whether n trees are the parts of one word can be decided, so the operations can be computed,
--- and they satisfy the two laws. Their equality can be decided.
+-- The standard forms as trees: whether n trees are the parts of one word can be decided, so the operations can be computed. Their equality
+-- can be decided.
 use Prim.Native.Nat.{◌≤◌}
 use mathlib.Core.Path.{◌≡◌, refl, sym, ◌∙◌, ap, ap₂, subst, fun_ext}
 use mathlib.Core.Logic.{◌⊎◌, inl, inr}
 use mathlib.Core.HLevel.{Discrete, Unit-prop, ×_prop, Π_prop, ¬_prop, Σ_prop_path, Σ_prop_discrete}
-use mathlib.Core.List.{List, [], ◌∷◌, ◌++◌, append-nil, append_assoc, concat-ne-nil}
+use mathlib.Core.List.{List, [], ◌∷◌, ◌++◌, concat-ne-nil}
 use mathlib.Core.List.{head-eq_of_cons-eq, tail-eq_of_cons-eq}
 use native.Mathlib.Nat.{le_refl}
 use Rattle.higman.specs.Words.{Shape}
-use Rattle.higman.specs.Algebras.{Way, Code, Algebra, along}
+use Rattle.higman.specs.Algebras.{Way, Code}
 use Rattle.higman.specs.StandardForms.{Tree, leaf, node, part_code, Parts, Standard, Form}
-use Rattle.higman.proofs.Codes.{way_of_digit, code_path, code_discrete, further, decided_at_all}
+use Rattle.higman.proofs.Codes.{way_of_digit, code_path, code_discrete, decided_at_all}
 
 abbrev is_leaf : {s : Shape} → Tree s → Type 0
 is_leaf (leaf c) = Unit {0}
@@ -71,7 +71,7 @@ init_path (c ∷ x) [] a b e = absurd (concat-ne-nil a x (tail-eq_of_cons-eq e))
 init_path (c ∷ x) (d ∷ y) a b e = ap₂ ◌∷◌ (head-eq_of_cons-eq e) (init_path x y a b (tail-eq_of_cons-eq e))
 
 -- words with one part in common are equal
-part_injective : {s : Shape} (c d : Code s) (i j : Way s.arity) → part_code c i ≡ part_code d j → c ≡ d
+pub part_injective : {s : Shape} (c d : Code s) (i j : Way s.arity) → part_code c i ≡ part_code d j → c ≡ d
 part_injective {s} c d i j e =
     code_path (ap (λ (b : Code s). b.belt) e) (init_path c.ways d.ways i j (ap (λ (b : Code s). b.ways) e))
 
@@ -86,7 +86,7 @@ unite_with s y (yes p) = (leaf p.0, tt)
 unite_with s y (no h) = (node (λ i. (y i).0), (λ i. (y i).1, h))
 
 module _ (s : Shape) (n : 1 ≤ s.arity) where
-  first_way : Way s.arity
+  pub first_way : Way s.arity
   first_way = way_of_digit s.arity 1 (le_refl 1, n)
 
   -- The word whose parts the trees are, if there is one: only the first tree's word without its last way can be it.
@@ -117,49 +117,3 @@ module _ (s : Shape) (n : 1 ≤ s.arity) where
 
   abbrev pub unite_form : (Way s.arity → Form s) → Form s
   unite_form y = unite_with s y (parts_decided (λ i. (y i).0))
-
-  -- a standard form under a λ is what the operation gives
-  pub node_united : (k : Way s.arity → Tree s) (h : Standard s (node k)) → unite_form (λ i. (k i, h.0 i)) ≡ (node k, h)
-  unfolding unite_with
-  node_united k h = go (parts_decided k)
-    where
-      go : (d : Dec (Parts s k)) → unite_with s (λ i. (k i, h.0 i)) d ≡ (node k, h)
-      go (yes p) = absurd (h.1 p)
-      go (no q) = form_path refl
-
-  pub unite_parts : (y : Form s) → unite_form (λ i. part_tree s i y.0 y.1) ≡ y
-  unfolding unite_with part_tree
-  unite_parts (t, h) = at t h
-    where
-      at : (t : Tree s) (h : Standard s t) → unite_form (λ i. part_tree s i t h) ≡ (t, h)
-      at (node k) h = node_united k h
-      at (leaf c) h = go (parts_decided (λ i. leaf (part_code c i)))
-        where
-          go : (d : Dec (Parts s (λ i. leaf (part_code c i)))) → unite_with s (λ i. part_tree s i (leaf c) h) d ≡ (leaf c, h)
-          go (yes p) = form_path (ap leaf (part_injective p.0 c first_way first_way (leaf_injective (sym (p.1 first_way)))))
-          go (no k) = absurd (k (c, λ i. refl))
-
-  pub part_unite : (y : Way s.arity → Form s) (i : Way s.arity) → part_tree s i (unite_form y).0 (unite_form y).1 ≡ y i
-  unfolding unite_with part_tree
-  part_unite y i = go (parts_decided (λ j. (y j).0))
-    where
-      go : (d : Dec (Parts s (λ j. (y j).0))) → part_tree s i (unite_with s y d).0 (unite_with s y d).1 ≡ y i
-      go (yes p) = form_path (sym (p.1 i))
-      go (no h) = form_path refl
-
-  -- THE ALGEBRA of the standard forms
-  abbrev pub forms : Algebra s.arity
-  forms =
-      record {
-        Element = Form s;
-        part = λ i y. part_tree s i y.0 y.1;
-        unite = unite_form;
-        unite_parts = unite_parts;
-        part_unite = part_unite;
-      }
-
-  -- below a word there are words
-  pub along_leaf : (x : List (Way s.arity)) (c : Code s) → along forms x (leaf c, tt) ≡ (leaf (further c x), tt)
-  unfolding part_tree
-  along_leaf [] c = form_path (ap leaf (code_path refl (sym (append-nil c.ways))))
-  along_leaf (i ∷ x) c = along_leaf x (part_code c i) ∙ form_path (ap leaf (code_path refl (append_assoc c.ways (i ∷ []) x)))
