@@ -1,7 +1,7 @@
 -- Closing the open plan: its block holds words as M takes them, and E's job by the verdict on its pairs.
 use Prim.Native.Nat.{ℕ, ◌≤◌}
 use mathlib.Core.Path.{◌≡◌, refl, sym, ◌∙◌, ap, subst}
-use mathlib.Core.Bool.{Bool, true, false, ◌&&◌}
+use mathlib.Core.Bool.{true}
 use mathlib.Core.List.{List, [], ◌∷◌}
 use mathlib.Core.Option.{none, some}
 use native.Mathlib.Omega.{arith}
@@ -16,16 +16,15 @@ use Rattle.higman.specs.Refusals.{wrong_state, Letter}
 use Rattle.higman.proofs.Tests.{and_left, and_right, and_intro, all_head, all_tail, all_cons}
 use Rattle.desk.specs.Desk.{Draft, Desk, IsDraft}
 use Rattle.desk.specs.Records.{E}
-use Rattle.desk.specs.Replies.{◌>>=◌, Outcome, refuse, pass, Effect, open_plan, of_verdict, of_answer, keep_in, closed, job}
+use Rattle.desk.specs.Replies.{◌>>=◌, Outcome, refuse, pass, Effect, of_verdict, of_answer, keep_in, closed, job}
 use Rattle.operations.specs.declared.Reason.{Reason}
-use Rattle.operations.specs.declared.Verdict.{Verdict}
 use Rattle.operations.specs.declared.Verdict.TheVariants as Told
 use Rattle.operations.specs.Plans.{shape_of, rows_of}
 use Rattle.operations.specs.Closing.{reason_of, reason_number, verdict_of, DraftColumns}
 use Rattle.operations.proofs.Verdicts.{froms_rows, tos_rows}
 use Rattle.slots.specs.declared.Head.{Head}
-use Rattle.slots.specs.Blocks.{size_at, value_at}
-use Rattle.slots.specs.Desks.{draft_block, draft_in, desk_of, HoldsDesk}
+use Rattle.slots.specs.Blocks.{value_at}
+use Rattle.slots.specs.Desks.{draft_block, draft_in, HoldsDesk}
 use Rattle.slots.proofs.Held.{draft_open, draft_from, draft_to}
 
 module _ (s : Shape) where

@@ -1,13 +1,13 @@
 -- Emptying a slot: it is refused with 9 or 16, or no plan is put into the slot and the change counted.
 use Prim.Native.Nat.{ℕ, ◌-◌, ◌≤◌, ◌<◌}
-use mathlib.Core.Path.{◌≡◌, refl, sym, ◌∙◌, ap, ap₂, subst, subst₂}
+use mathlib.Core.Path.{◌≡◌, refl, sym, ◌∙◌, ap, subst₂}
 use mathlib.Core.Bool.{true, false}
 use mathlib.Core.List.Memᴰ
 use mathlib.Core.List.{List}
 use mathlib.Core.Option.{none}
 use native.Mathlib.Omega.{arith}
 use lib.Dec.{T}
-use lib.ListN.{length, replicate, length-replicate}
+use lib.ListN.{length, length-replicate}
 use Rattle.higman.specs.Limits.{max_pairs, slot_count}
 use Rattle.higman.specs.Listing.{slot_number}
 use Rattle.higman.specs.Refusals.{slot_empty, count_full}

@@ -1,9 +1,9 @@
 -- Keeping an answer in a slot: it is refused with its own number, or with 16, or the plan is put into the slot and the change counted.
 use Prim.Native.Nat.{ℕ, ◌*◌, ◌-◌, ◌≤◌, ◌<◌}
 use mathlib.Core.Path.{◌≡◌, refl, sym, ◌∙◌, ap, ap₂, subst, subst₂}
-use mathlib.Core.Bool.{Bool, true, false, ◌&&◌}
+use mathlib.Core.Bool.{true, false, ◌&&◌}
 use mathlib.Core.List.{List, map}
-use mathlib.Core.Option.{Option, none, some}
+use mathlib.Core.Option.{none, some}
 use native.Mathlib.Nat.{le-add_right}
 use native.Mathlib.Omega.{arith}
 use borrow.Author.Tests.{ne_eqb}
@@ -19,7 +19,7 @@ use Rattle.higman.proofs.Columns.{basis_size}
 use Rattle.higman.proofs.KeptPlans.{in_range}
 use Rattle.desk.specs.Desk.{Desk, IsDesk, changed}
 use Rattle.desk.specs.Records.{Record, is_change}
-use Rattle.desk.specs.Replies.{◌>>=◌, refuse, pass, Effect, job, at_limit, of_answer, keep_in}
+use Rattle.desk.specs.Replies.{◌>>=◌, refuse, pass, job, at_limit, of_answer, keep_in}
 use Rattle.words.specs.Packed.{pack}
 use Rattle.operations.specs.declared.Plan.{Plan}
 use Rattle.operations.specs.declared.Making.{Making}

@@ -35,7 +35,7 @@ use Rattle.desk.proofs.Outcomes.{Passes, stops, passes, passes_then, any_then, t
 use Rattle.desk.proofs.Conditions.{first_condition}
 use Rattle.desk.proofs.ReadBack.{slot_plain}
 use Rattle.desk.proofs.Demands.{demands}
-use Rattle.stations.proofs.Granting.{Numbered, numbered}
+use Rattle.stations.proofs.Granting.{numbered}
 use Rattle.desk_c.specs.declared.Job.{Job}
 use Rattle.desk_c.specs.Calls.{exercise_record, job_record}
 use Rattle.desk_c.specs.CallsExact.{IsJobOf}

@@ -16,19 +16,16 @@ use Rattle.desk.proofs.NumberFields.{digits_below}
 use Rattle.desk.proofs.Outcomes.{Passes, stops, passes, NoRefusal, Answered as Replying, any_then, operation_answers}
 use Rattle.desk.proofs.Calls.{lent_calls_exact}
 use Rattle.slots.specs.declared.Head.{Head}
-use Rattle.slots.specs.declared.Reply.{Reply}
-use Rattle.slots.specs.declared.Reply.TheVariants.{Silent, Ok, Number, Written, Refused, RefusedIn}
 use Rattle.slots.specs.declared.Work.{Work}
 use Rattle.slots.specs.Desks.{desk_of, HoldsDesk}
-use Rattle.slots.specs.Works.{refusing, told, desk_after, reply_to, DoneBy, Done}
+use Rattle.slots.specs.Works.{refusing, told, DoneBy, Done}
 use Rattle.slots.proofs.Steps.{done_by_refusal}
 use Rattle.desk.specs.Replies as Of
 use Rattle.desk_values.specs.declared.Desk.{Desk}
 use Rattle.desk_values.specs.Values.{packed_desk}
 use Rattle.desk_c.specs.declared.Job.{Job}
 use Rattle.desk_c.specs.declared.Done.{Done as Told}
-use Rattle.desk_c.specs.declared.serving.Worked.{Worked}
-use Rattle.desk_c.specs.Calls.{column_byte, reply_number, done_of, job_record, job_work, plain_of}
+use Rattle.desk_c.specs.Calls.{done_of, job_record, job_work, plain_of}
 use Rattle.desk_c.specs.Settling.{JobDone, told_plainly, head_by, head_left}
 use Rattle.desk_c.proofs.Replied.{refusal_left}
 

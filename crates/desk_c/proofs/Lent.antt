@@ -1,14 +1,14 @@
 -- A line's call by its outcome: refused, refused for want of room, or done.
-use Prim.Native.Nat.{ℕ, ◌+◌, ◌≤◌, ◌<◌}
+use Prim.Native.Nat.{ℕ, ◌≤◌, ◌<◌}
 use mathlib.Core.Path.{◌≡◌, refl, sym, ◌∙◌, ap, subst}
 use mathlib.Core.List.{List}
-use mathlib.Core.Option.{Option, none, some}
+use mathlib.Core.Option.{Option, none}
 use native.Mathlib.Omega.{arith}
 use lib.ListN.{length, take}
 use Rattle.higman.specs.Text.{Bytes}
 use Rattle.higman.specs.Refusals.{buffer_too_short, Letter}
 use Rattle.higman.specs.Buffers.{written}
-use Rattle.desk.specs.Desk.{Desk as DeskOf, IsDesk, dropped}
+use Rattle.desk.specs.Desk.{Desk as DeskOf, dropped}
 use Rattle.desk.specs.Replies.{Outcome as OutcomeOf, refuse, pass, ◌>>=◌, Effect, settle, line_operation, respond_line}
 use Rattle.desk.specs.Bytes.{reply_bytes}
 use Rattle.desk.specs.Buffers.{Lent, output_of}
@@ -23,7 +23,6 @@ use Rattle.lines.proofs.Settled.{dropped_is}
 use Rattle.desk_values.specs.declared.Desk.{Desk}
 use Rattle.desk_values.specs.Values.{packed_desk}
 use Rattle.desk_c.specs.declared.serving.Served.{Served}
-use Rattle.desk_c.specs.declared.serving.Outcome.{Outcome}
 use Rattle.desk_c.specs.declared.serving.Outcome.TheVariants.{Wrote, Refused}
 use Rattle.desk_c.specs.declared.serving.Replied.{Replied}
 use Rattle.desk_c.specs.Calls.{column_byte, line_call, lent_of, LentBy, refused_with}

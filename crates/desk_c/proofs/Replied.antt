@@ -1,5 +1,5 @@
 -- How a line's work is told: a reply by the form in which it stands tells whether the operation was refused, and by which number.
-use Prim.Native.Nat.{ℕ, ◌+◌}
+use Prim.Native.Nat.{ℕ}
 use mathlib.Core.Path.{◌≡◌, refl, sym, ◌∙◌, ap, subst}
 use mathlib.Core.Bool.{false}
 use mathlib.Core.List.{List}
@@ -12,7 +12,7 @@ use Rattle.desk.specs.Desk.{Desk as DeskOf, dropped}
 use Rattle.desk.specs.Replies.{Outcome as OutcomeOf, refuse, pass, ◌>>=◌, Effect, settle}
 use Rattle.desk.specs.Bytes.{reply_bytes}
 use Rattle.desk.specs.Buffers.{output_of}
-use Rattle.desk.proofs.Outcomes.{Passes, stops, passes, NoRefusal, Answered as Replying}
+use Rattle.desk.proofs.Outcomes.{Passes, passes, NoRefusal, Answered as Replying}
 use Rattle.slots.specs.declared.Head.{Head}
 use Rattle.slots.specs.declared.Reply.{Reply}
 use Rattle.slots.specs.declared.Reply.TheVariants.{Refused, RefusedIn}

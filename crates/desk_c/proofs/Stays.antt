@@ -1,26 +1,25 @@
 -- What a call leaves is a desk: a refusal leaves the desk with no plan open, and an operation that is done leaves a desk.
-use mathlib.Core.Path.{◌≡◌, refl, sym, ◌∙◌, ap, subst}
+use mathlib.Core.Path.{◌≡◌, refl, sym, ap, subst}
 use mathlib.Core.Bool.{Bool, true, false}
 use mathlib.Core.Option.{none}
-use native.Mathlib.Omega.{arith}
 use borrow.Author.Tests.{leb-true, leb-false, ltb-true, ltb-false}
 use lib.Dec.{T, leb, ltb}
 use lib.ListN.{length}
 use Rattle.higman.specs.Text.{Bytes}
 use Rattle.higman.specs.Buffers.{written}
-use Rattle.higman.specs.Refusals.{buffer_too_short, invalid_value}
-use Rattle.higman.proofs.Tests.{so, T_of}
+use Rattle.higman.specs.Refusals.{invalid_value}
+use Rattle.higman.proofs.Tests.{so}
 use Rattle.desk.specs.Desk.{Desk as DeskOf, IsDesk, dropped}
-use Rattle.desk.specs.Replies.{Outcome, refuse, pass, ◌>>=◌, Effect, settle, operation, record_of, line_operation}
+use Rattle.desk.specs.Replies.{Outcome, refuse, pass, Effect, record_of, line_operation}
 use Rattle.desk.specs.Bytes.{reply_bytes}
 use Rattle.desk.specs.Buffers.{Work, lent_call, plain_call}
-use Rattle.desk.proofs.Outcomes.{Passes, stops, passes, passed, any_then}
+use Rattle.desk.proofs.Outcomes.{Passes, passed, any_then}
 use Rattle.desk.proofs.Stays.{operation_stays, dropped_desk}
 use Rattle.desk.proofs.Calls.{lent_calls_exact}
 use Rattle.desk.proofs.Feeds.{feeds_exact}
 use Rattle.replies.specs.Sizes.{max_reply}
 use Rattle.desk_values.specs.declared.Desk.{Desk}
-use Rattle.desk_values.specs.Values.{desk_in, is_desk_value, packed_desk, Whole}
+use Rattle.desk_values.specs.Values.{desk_in, is_desk_value, Whole}
 use Rattle.desk_values.proofs.Taken.{desk_values}
 use Rattle.desk_c.specs.declared.Job.{Job}
 use Rattle.desk_c.specs.declared.serving.Served.{Served}

@@ -2,7 +2,7 @@
 -- value that is none. What they leave of a desk is its one value (`DeskValues`), so that every field of it is determined. A caller in C
 -- believes it; `DeskCallsExact` holds the answers to the paper's figures, and `DeskLayout` of desk_values the value. Read Feeding.antt
 -- next.
-use Rattle.std.specs.Prelude.{ℕ, ◌+◌, ◌*◌, ◌≡◌, refl, Bool, true, false, List, [], ◌∷◌, map, eqb, ℤ, pos}
+use Rattle.std.specs.Prelude.{ℕ, ◌+◌, ◌*◌, ◌≡◌, refl, true, false, [], ◌∷◌, map, eqb, pos}
 use Rattle.std.proofs.Math.Option.{Option, none, some}
 use Rattle.higman.specs.Text.{Bytes, byte, bytes}
 use Rattle.higman.specs.Limits.{max_pairs, slot_count}

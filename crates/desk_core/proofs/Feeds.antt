@@ -1,14 +1,13 @@
 -- Input fed so far: nothing, a run of bytes that ends no line, and a line with its byte 10. With room for a reply at first, what was fed
 -- and what the definition does with the rest is what it does with the whole.
 use Prim.Native.Nat.{ℕ, ◌+◌, ◌-◌, ◌≤◌, ◌<◌}
-use mathlib.Core.Path.{◌≡◌, refl, sym, ◌∙◌, ap, ap₂, subst}
-use mathlib.Core.Bool.{Bool, true, false}
+use mathlib.Core.Path.{◌≡◌, refl, sym, ◌∙◌, ap, subst}
+use mathlib.Core.Bool.{true, false}
 use mathlib.Core.Logic.{◌⊎◌, inl, inr}
 use mathlib.Core.List.{List, [], ◌∷◌, ◌++◌, append_assoc, append-nil}
 use native.Mathlib.Omega.{arith}
-use lib.Dec.{T}
 use native.Mathlib.Numerals.{add-one}
-use lib.ListN.{length, take, drop, get_or, length-append, length-drop, take-append-drop, drop_of_length-le}
+use lib.ListN.{length, take, drop, length-drop, take-append-drop, drop_of_length-le}
 use lib.Seq.{length-take-le, take-add, take_all, drop-cons, drop-drop}
 use Rattle.higman.specs.Text.{Bytes, line_end}
 use Rattle.higman.specs.Buffers.{written}
@@ -18,20 +17,20 @@ use Rattle.desk.specs.Limits.{max_line}
 use Rattle.desk.specs.Desk.{Desk}
 use Rattle.desk.specs.Replies.{Effect, respond_line}
 use Rattle.desk.specs.Bytes.{reply_bytes}
-use Rattle.desk.specs.Session.{unended, State as StateOf, idle, is_idle, effect_of, feed}
+use Rattle.desk.specs.Session.{State as StateOf, idle, is_idle, effect_of, feed}
 use Rattle.desk.specs.Feeds.{Fed as FedLines, stopped_at, behind, fed_within, then_within}
 use Rattle.desk.proofs.Session.{feed_append, Begun, begun_effect, fed_line, quiet, fed_last, begun_one}
 use Rattle.desk.proofs.LinesWithin.{stops, stops_without_room, goes_on_with_room, line_within, begun_within}
 use Rattle.replies.specs.Sizes.{max_reply}
 use Rattle.replies.proofs.Images.{written_lent}
 use Rattle.replies.proofs.EveryReply.{replies_fit}
-use Rattle.slots.specs.Desks.{desk_of, HoldsDesk}
+use Rattle.slots.specs.Desks.{desk_of}
 use Rattle.slots.proofs.Windows.{written_length}
 use Rattle.lines.specs.declared.Stepped.{Stepped}
 use Rattle.desk_core.specs.declared.feeding.Begun.{Begun as Grown}
 use Rattle.desk_core.specs.declared.feeding.State.{State}
 use Rattle.lines.specs.Lines.{Answered}
-use Rattle.desk_core.specs.Feeding.{state_of, begun_at, HoldsState, fed_up_to, FedTo, LineEnd, grown_line, grown_at, GrownBy}
+use Rattle.desk_core.specs.Feeding.{state_of, HoldsState, fed_up_to, FedTo, LineEnd, grown_line, grown_at, GrownBy}
 use Rattle.desk_core.proofs.Runs.{run_next}
 use Rattle.desk_core.proofs.Grown.{begun_grows, some_line}
 

@@ -1,5 +1,5 @@
 -- Input in pieces: the state of desk's Session.antt that a state in code stands for, and what feeding and finishing promise.
-use Rattle.std.specs.Prelude.{ℕ, ◌+◌, ◌-◌, ◌≤◌, ◌<◌, ◌≡◌, refl, Bool, true, false, List, [], ◌∷◌, ◌++◌, map, T, leb, length, take, drop, get_or}
+use Rattle.std.specs.Prelude.{ℕ, ◌+◌, ◌-◌, ◌≤◌, ◌<◌, ◌≡◌, refl, Bool, true, false, List, [], ◌++◌, T, leb, length, take, drop, get_or}
 use Rattle.higman.specs.Text.{Bytes, line_end, bytes}
 use Rattle.words.specs.Writing.{Wrote}
 use Rattle.desk.specs.Limits.{max_line}

@@ -3,22 +3,22 @@
 use Prim.Native.Nat.{ℕ, zero, suc, ◌+◌, ◌*◌, ◌-◌, ◌≤◌, ◌<◌}
 use mathlib.Core.Path.{◌≡◌, refl, sym, ◌∙◌, ap, ap₂, subst}
 use mathlib.Core.Bool.{Bool, true, false, ◌&&◌}
-use mathlib.Core.List.{List, [], ◌∷◌, ◌++◌, map, append-nil, append_assoc}
+use mathlib.Core.List.{List, [], ◌∷◌, ◌++◌, map, append_assoc}
 use mathlib.Core.Option.{Option, none, some}
 use native.Mathlib.Omega.{arith}
 use borrow.Author.Tests.{eqb-true, eqb-false}
 use lib.Dec.{T, leb, eqb}
 use lib.ListN.{length, get_or, take, drop, replicate, length-append, length-replicate, length-drop, take-append-drop, drop_of_length-le}
-use lib.Seq.{length-take-le, drop-drop, take-take}
+use lib.Seq.{length-take-le, drop-drop}
 use Rattle.higman.specs.Words.{count}
 use Rattle.higman.specs.Limits.{Plan as PlanOf, max_pairs, slot_count}
 use Rattle.higman.proofs.Tests.{and_left, and_right}
 use Rattle.desk.specs.Desk.{Draft}
 use Rattle.operations.specs.declared.Plan.{Plan}
-use Rattle.operations.specs.Plans.{shape_of, rows_of, plan_of, zeros, in_table, column, packed, blank}
+use Rattle.operations.specs.Plans.{plan_of, zeros, in_table, column, blank}
 use Rattle.operations.specs.Filled.{filling, filled_plan}
 use Rattle.operations.proofs.Filled.{filled_packed}
-use Rattle.plans.proofs.Handed.{zeros_replicated, filled_again, held_packed}
+use Rattle.plans.proofs.Handed.{zeros_replicated, held_packed}
 use Rattle.slots.specs.declared.Size.{Size}
 use Rattle.slots.specs.declared.Head.{Head}
 use Rattle.slots.specs.Blocks.{no_size, columns_size, size_at, size_of, from_place, to_place, value_at, put, InColumns}
@@ -27,7 +27,6 @@ use Rattle.columns.proofs.Limits.{pair_limit}
 use Rattle.slots.proofs.Held.{slots_eight, slot_plan}
 use Rattle.slots.proofs.Windows.{put_length, put_from, put_to, put_before}
 use Rattle.slots.proofs.Rows.{control_again}
-use Rattle.desk_values.specs.declared.Desk.{Desk}
 use Rattle.desk_values.specs.Values.{held_value, draft_value, opened_by, words_in, tidy_size, tidy_sizes, packed_desk}
 
 -- a value in its table has zeros behind its pairs

@@ -1,12 +1,12 @@
 -- A value that passes the test holds a desk, and is what that desk packs into.
 use Prim.Native.Nat.{ℕ, zero, suc, ◌+◌, ◌≤◌, ◌<◌}
-use mathlib.Core.Path.{◌≡◌, refl, sym, ◌∙◌, ap, ap₂}
+use mathlib.Core.Path.{◌≡◌, refl, sym, ◌∙◌, ap}
 use mathlib.Core.Bool.{Bool, true, false, ◌&&◌, not}
 use mathlib.Core.List.{List, [], ◌∷◌, ◌++◌, map}
 use native.Mathlib.Omega.{arith}
 use borrow.Author.Tests.{eqb-true}
 use lib.Dec.{T, leb, eqb, eqb→eq, leb→le}
-use lib.ListN.{length, get_or, drop, length-map, drop_of_length-le}
+use lib.ListN.{length, get_or, drop, drop_of_length-le}
 use lib.Seq.{drop-cons}
 use mir.Val.{Val}
 use denote.Laws.{Is}
@@ -14,13 +14,13 @@ use Rattle.higman.specs.Words.{count}
 use Rattle.higman.specs.Limits.{slot_count, max_pairs}
 use Rattle.higman.specs.Listing.{is_slot, slot_byte}
 use Rattle.desk.specs.Desk.{IsDesk}
-use Rattle.higman.proofs.Tests.{so, and_left, and_right, all_at, count_mem}
+use Rattle.higman.proofs.Tests.{and_left, and_right, all_at, count_mem}
 use Rattle.operations.specs.declared.Plan.{Plan}
 use Rattle.operations.specs.Plans.{in_table}
 use Rattle.plans.proofs.Handed.{filled_again}
 use Rattle.slots.specs.declared.Size.{Size}
 use Rattle.slots.specs.declared.Head.{Head}
-use Rattle.slots.specs.Blocks.{no_size, size_at, size_of, from_place, to_place, value_at}
+use Rattle.slots.specs.Blocks.{no_size, size_at, size_of, value_at}
 use Rattle.slots.specs.Desks.{slot_at, draft_block, draft_of, desk_of, HoldsDesk}
 use Rattle.slots.proofs.Held.{slots_eight, same_count}
 use Rattle.slots.proofs.Rows.{control_again}
@@ -28,7 +28,7 @@ use Rattle.desks.specs.Tested.{holds_test}
 use Rattle.desks.proofs.Exact.{holds_exact}
 use Rattle.desk_values.specs.declared.Desk.{Desk}
 use Rattle.desk_values.specs.Values.{opened_test, head_of, desk_in, no_shape, size_test, sizes_test, blank_test, draft_test, is_desk_value}
-use Rattle.desk_values.specs.Values.{held_value, draft_value, opened_by, tidy_size, tidy_sizes, packed_desk, Whole}
+use Rattle.desk_values.specs.Values.{draft_value, opened_by, tidy_size, tidy_sizes, packed_desk, Whole}
 use Rattle.desk_values.specs.contracts.Desk.{the_row}
 use Rattle.desk_values.proofs.Narrow.{narrow_rights}
 use Rattle.desk_values.proofs.Blocks.{unused_zeros, no_pairs_lem, from_places, to_places, held_value_lem, draft_closed, draft_opened}

@@ -1,7 +1,7 @@
 -- The rights of a station that a function is given have 16 bits: what the caller owns of the array says so of each.
 use Prim.Native.Nat.{ℕ, zero, suc, ◌<◌}
 use native.Mathlib.Omega.{arith}
-use mathlib.Core.List.{List, [], ◌∷◌, map}
+use mathlib.Core.List.{List, [], ◌∷◌}
 use lib.ListN.{get_or}
 use mir.Val.{Val}
 use denote.Shadow.{shadow}

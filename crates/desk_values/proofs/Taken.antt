@@ -1,28 +1,28 @@
 -- The value of a desk passes the test and holds that desk: each block of it stands in its place, and holds what was packed into it.
 use Prim.Native.Nat.{ℕ, zero, suc, ◌+◌, ◌*◌, ◌-◌, ◌≤◌, ◌<◌}
-use mathlib.Core.Path.{◌≡◌, refl, sym, ◌∙◌, ap, ap₂, subst}
+use mathlib.Core.Path.{◌≡◌, refl, sym, ◌∙◌, ap, subst}
 use mathlib.Core.Bool.{Bool, true, false, ◌&&◌, not}
 use mathlib.Core.List.Memᴰ
 use mathlib.Core.List.{List, [], ◌∷◌, ◌++◌, map, append_assoc, append-nil}
 use mathlib.Core.Option.{Option, none, some, none-ne-some}
 use native.Mathlib.Nat.{not-suc-le-zero, le_of_suc-le-suc}
 use native.Mathlib.Omega.{arith}
-use borrow.Author.Tests.{eq-eqb, ne_eqb}
+use borrow.Author.Tests.{ne_eqb}
 use lib.Dec.{T, leb, eqb, leb→le}
 use lib.ListN.{length, get_or, take, drop, replicate, length-append, length-map, length-replicate, drop_of_length-le}
 use lib.Seq.{take_at, drop_at, drop-append-add}
-use Rattle.higman.specs.Words.{Word, Shape, is_word, count}
+use Rattle.higman.specs.Words.{Word, is_word, count}
 use Rattle.higman.specs.Bases.{all}
 use Rattle.higman.specs.Tables.{Table, froms, tos}
 use Rattle.higman.specs.Limits.{Plan as PlanOf, Kept, granted, pair_fits, max_pairs, slot_count}
 use Rattle.higman.specs.Listing.{is_slot, slot_byte, slot_number}
 use Rattle.higman.proofs.Listing.{slots_exact}
-use Rattle.higman.proofs.Tests.{and_left, and_right, and_intro, all_at, all_of, count_bounds, word_of_test}
+use Rattle.higman.proofs.Tests.{and_left, and_intro, all_at, all_of, count_bounds, word_of_test}
 use Rattle.desk.specs.Desk.{Draft, Desk as DeskOf, IsDraft, IsDesk, held}
 use Rattle.words.specs.Packed.{pack}
 use Rattle.operations.specs.declared.Plan.{Plan}
-use Rattle.operations.specs.Plans.{plan_of, rows_of, zeros, in_table, column, packed, blank}
-use Rattle.operations.proofs.Values.{Worded, rows_of_words}
+use Rattle.operations.specs.Plans.{plan_of, in_table, column, packed, blank}
+use Rattle.operations.proofs.Values.{rows_of_words}
 use Rattle.operations.proofs.Repacked.{packed_in_table}
 use Rattle.slots.specs.declared.Size.{Size}
 use Rattle.slots.specs.declared.Head.{Head}
@@ -34,9 +34,8 @@ use Rattle.slots.proofs.Rows.{control_back, packed_narrow}
 use Rattle.changing.proofs.Keeping.{kept_held, kept_in_table}
 use Rattle.desks.specs.Tested.{holds_test}
 use Rattle.desks.proofs.Exact.{holds_exact}
-use Rattle.desk_values.specs.declared.Desk.{Desk}
 use Rattle.desk_values.specs.Values.{opened_test, head_of, desk_in, size_test, sizes_test, blank_test, draft_test, is_desk_value}
-use Rattle.desk_values.specs.Values.{held_value, draft_value, opened_by, blocks_of, words_in, packed_desk, Whole, DeskValues}
+use Rattle.desk_values.specs.Values.{held_value, draft_value, opened_by, words_in, packed_desk, Whole, DeskValues}
 use Rattle.desk_values.proofs.Blocks.{blank_places}
 use Rattle.desk_values.proofs.Exact.{by_place, holds_desk, one_value}
 

@@ -2,23 +2,22 @@
 use Prim.Native.Nat.{ℕ, zero, suc, ◌+◌, ◌-◌, ◌≤◌, ◌<◌}
 use mathlib.Core.Path.{◌≡◌, refl, sym, ◌∙◌, ap, ap₂, subst}
 use mathlib.Core.Bool.{Bool, true, false, ◌&&◌}
-use mathlib.Core.List.{List, [], ◌∷◌, map}
-use mathlib.Core.Option.{Option, none, some, none-ne-some, some-injective}
+use mathlib.Core.List.{List, [], ◌∷◌}
+use mathlib.Core.Option.{none, some, none-ne-some, some-injective}
 use native.Mathlib.Numerals.{add-one}
 use native.Mathlib.Omega.{arith}
-use borrow.Author.Tests.{eqb-true, eqb-false, ltb-true, ltb-false, eq-eqb}
+use borrow.Author.Tests.{eqb-true, eqb-false, ltb-true, ltb-false}
 use lib.Dec.{T, leb, eqb, ltb, leb→le, le→leb, eqb→eq, eqb_refl}
-use lib.ListN.{length, get_or, take, drop, length-map, length-drop, get_or-eq_default}
+use lib.ListN.{length, drop, length-map, length-drop, get_or-eq_default}
 use lib.Seq.{length-take-le}
-use Rattle.higman.specs.Words.{Shape, count, is_word}
+use Rattle.higman.specs.Words.{Shape, count}
 use Rattle.higman.specs.Bases.{all}
 use Rattle.higman.specs.Tables.{Table, froms, tos}
 use Rattle.higman.specs.Limits.{Plan as PlanOf, Kept, max_pairs, slot_count, shape_in_range, fits, pair_fits, is_plan_word, granted}
-use Rattle.higman.proofs.PlanWords.{word_of_plan_word, plan_word_fits}
-use Rattle.higman.proofs.Tests.{so, T_of, and_left, and_right, and_intro, all_head, all_tail, all_cons, all_at, all_of, count_mem, count_bounds}
-use Rattle.columns.specs.Packed.{words_of}
+use Rattle.higman.proofs.PlanWords.{plan_word_fits}
+use Rattle.higman.proofs.Tests.{T_of, and_left, and_right, and_intro, all_head, all_tail, all_cons, all_at, all_of, count_mem, count_bounds}
 use Rattle.columns.proofs.Rows.{rows_length}
-use Rattle.desk.specs.Desk.{Draft, Desk, IsDraft, IsControl, IsDesk, held, pairs_of_slots}
+use Rattle.desk.specs.Desk.{Draft, IsDraft, IsControl, held, pairs_of_slots}
 use Rattle.desk.proofs.Desks.{control_test_lem}
 use Rattle.operations.specs.declared.Plan.{Plan}
 use Rattle.operations.specs.Plans.{shape_of, rows_of, plan_of, zeros, in_table, is_plan}

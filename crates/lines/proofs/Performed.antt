@@ -2,7 +2,6 @@
 use Prim.Native.Nat.{ℕ, ◌<◌}
 use mathlib.Core.Path.{◌≡◌, sym, ◌∙◌, ap, subst}
 use mathlib.Core.List.{List}
-use mathlib.Core.Option.{none}
 use native.Mathlib.Omega.{arith}
 use lib.IntN.{ℤ, pos, negsuc, nat_abs}
 use mir.Syntax.{w32}
@@ -10,7 +9,7 @@ use mir.Val.{SFits}
 use Rattle.higman.specs.Refusals.{no_record}
 use Rattle.higman.specs.Text.{Bytes}
 use Rattle.desk.specs.Records.{Record as DeskRecord}
-use Rattle.desk.specs.Replies.{◌>>=◌, Outcome, refuse, pass, operation}
+use Rattle.desk.specs.Replies.{◌>>=◌, Outcome, pass, operation}
 use Rattle.records.specs.declared.Record.{Record}
 use Rattle.records.specs.declared.Record.TheVariants.{NoRecord}
 use Rattle.records.specs.Reading.{meant}

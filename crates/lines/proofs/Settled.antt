@@ -1,5 +1,5 @@
 -- A reply is settled by the value that tells it: what the reply is, what is written of it, and what becomes of the desk of a work.
-use Prim.Native.Nat.{ℕ, ◌+◌}
+use Prim.Native.Nat.{ℕ}
 use mathlib.Core.Path.{◌≡◌, refl, sym, ◌∙◌, ap, subst, subst₂}
 use mathlib.Core.Bool.{Bool, true, false}
 use mathlib.Core.List.{List, [], ◌∷◌}
@@ -15,7 +15,7 @@ use Rattle.desk.specs.Replies.{Reply, silent, ok, ok_number, ok_image, ok_block,
 use Rattle.desk.specs.Replies.{settle}
 use Rattle.desk.specs.Replies.{line_operation, respond_line}
 use Rattle.desk.specs.Bytes.{ok_line, no_line, reply_bytes}
-use Rattle.desk.proofs.Outcomes.{Passes, stops, passes, NoRefusal, Answered as Replied, line_answers}
+use Rattle.desk.proofs.Outcomes.{Passes, passes, NoRefusal, Answered as Replied, line_answers}
 use Rattle.desk.proofs.Stays.{dropped_desk}
 use Rattle.slots.specs.declared.Head.{Head}
 use Rattle.slots.specs.declared.Reply.TheVariants.{Silent, Ok, Number, Written, Refused, RefusedIn}

@@ -1,12 +1,12 @@
 -- The open plan: the desk after its block was written, which leaves the slots as they were, and the jobs of P and M.
-use Prim.Native.Nat.{ℕ, zero, suc, ◌+◌, ◌*◌, ◌-◌, ◌≤◌, ◌<◌}
+use Prim.Native.Nat.{ℕ, ◌+◌, ◌-◌, ◌≤◌, ◌<◌}
 use mathlib.Core.Path.{◌≡◌, refl, sym, ◌∙◌, ap, ap₂, subst}
-use mathlib.Core.Bool.{Bool, true, false, ◌&&◌, not}
-use mathlib.Core.List.{List, [], ◌∷◌, ◌++◌, map}
-use mathlib.Core.Option.{Option, none, some}
+use mathlib.Core.Bool.{Bool, true, false, ◌&&◌}
+use mathlib.Core.List.{List, [], ◌∷◌, ◌++◌}
+use mathlib.Core.Option.{none, some}
 use native.Mathlib.Omega.{arith}
 use lib.Dec.{T, leb}
-use lib.ListN.{length, get_or, set, take, drop, length-set, length-drop}
+use lib.ListN.{length, set, take, drop, length-set, length-drop}
 use lib.Seq.{get_or-set_same, get_or-set_other, length-take-le, drop-set-add, drop-set-lt, take-set-le, take-set-lt}
 use Rattle.higman.specs.Words.{Shape, is_word}
 use Rattle.higman.specs.Limits.{max_pairs, slot_count, shape_in_range, is_plan_word}
@@ -24,7 +24,7 @@ use Rattle.words.specs.Packed.{pack, unpack}
 use Rattle.words.specs.declared.Reading.TheVariants.{Spelled, Bad}
 use Rattle.words.proofs.Codes.{unpack_spelled}
 use Rattle.columns.specs.Packed.{pair_of, rows}
-use Rattle.columns.proofs.Rows.{rows_set, rows_length}
+use Rattle.columns.proofs.Rows.{rows_set}
 use Rattle.slots.specs.declared.Size.{Size}
 use Rattle.slots.specs.declared.Head.{Head}
 use Rattle.slots.specs.Blocks.{no_size, size_at, from_place, to_place, value_at}

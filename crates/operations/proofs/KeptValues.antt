@@ -1,7 +1,7 @@
 -- What the test of a kept plan says of a value: its pairs are few, its plan is kept, and the first places of its columns may be lent.
 -- Lent columns are those that words are looked up in, packed and in order.
 use Prim.Native.Nat.{ℕ, ◌≤◌}
-use mathlib.Core.Path.{◌≡◌, refl, sym, ◌∙◌, ap, subst}
+use mathlib.Core.Path.{◌≡◌, sym, ◌∙◌, ap, subst}
 use mathlib.Core.Bool.{true, false}
 use mathlib.Core.List.Memᴰ
 use mathlib.Core.List.{List, map, Memᴰ}

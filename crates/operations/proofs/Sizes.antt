@@ -1,9 +1,8 @@
 -- A plan that is passed by value has columns of 128 places: what the caller owns says so, and each function is told it on entry, in
 -- its `good`.
-use Prim.Native.Nat.{ℕ}
 use mathlib.Core.Path.{◌≡◌, sym, ◌∙◌}
 use mathlib.Core.List.{List}
-use lib.ListN.{length, length-map}
+use lib.ListN.{length}
 use mir.Val.{Val}
 use denote.Laws.{Is}
 use Rattle.operations.specs.declared.Plan.{Plan}

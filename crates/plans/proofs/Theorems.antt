@@ -1,7 +1,7 @@
 -- The statements about values, gathered: `library_exact`. Handed.antt ties a value to its plan and ValueLaws.antt has the laws; here
 -- is what L writes, which is the listing of the plan and so determines the value.
 use Prim.Native.Nat.{ℕ, ◌+◌, ◌≤◌}
-use mathlib.Core.Path.{◌≡◌, refl, sym, ◌∙◌, ap, subst}
+use mathlib.Core.Path.{◌≡◌, sym, ◌∙◌, ap, subst}
 use mathlib.Core.Logic.{◌⊎◌, inl, inr}
 use mathlib.Core.Bool.{true, false}
 use mathlib.Core.List.{List, ◌++◌}

@@ -9,11 +9,9 @@ use Rattle.plans.specs.declared.Keeping.{Keeping}
 use Rattle.operations.specs.declared.Answer.TheVariants as Answer
 use Rattle.operations.specs.declared.Making.{Making}
 use Rattle.operations.specs.declared.Likeness.{Likeness}
-use Rattle.operations.specs.declared.Likeness.TheVariants as Likeness
 use Rattle.operations.specs.declared.Route.{Route}
 use Rattle.operations.specs.declared.Route.TheVariants.{Image, TooShort}
 use Rattle.operations.specs.declared.Listed.{Listed}
-use Rattle.operations.specs.declared.Listed.TheVariants as Listed
 use Rattle.operations.specs.Answers.{answer_number, likeness_number, likeness_value}
 use Rattle.plans.specs.Answers.{judgement_number, judgement_column}
 use Rattle.operations.specs.Routing.{routing_number, routing_length, routing_place}

@@ -1,8 +1,8 @@
 -- The desk that a head and its columns hold: whether a plan is open, what a slot holds, and the desk after a plan was put into a slot.
-use Prim.Native.Nat.{ℕ, zero, suc, ◌+◌, ◌*◌, ◌≤◌, ◌<◌}
+use Prim.Native.Nat.{ℕ, zero, suc, ◌+◌, ◌≤◌, ◌<◌}
 use mathlib.Core.Path.{◌≡◌, refl, sym, ◌∙◌, ap, ap₂, subst}
-use mathlib.Core.Bool.{Bool, true, false, ◌&&◌}
-use mathlib.Core.List.{List, [], ◌∷◌, map}
+use mathlib.Core.Bool.{Bool, true, false}
+use mathlib.Core.List.{List, ◌∷◌, map}
 use mathlib.Core.Option.{Option, none, some}
 use native.Mathlib.Nat.{not-suc-le-zero, le_of_suc-le-suc}
 use native.Mathlib.Omega.{arith}
@@ -10,12 +10,12 @@ use borrow.Author.Tests.{eq-eqb, ne_eqb, eqb-true, eqb-false, ltb-true, ltb-fals
 use lib.Dec.{T, eqb, ltb}
 use lib.ListN.{length, get_or, set, take, drop, length-set, length-drop}
 use lib.Seq.{get_or-set_same, get_or-set_other, length-take-le}
-use Rattle.higman.specs.Words.{count, given}
+use Rattle.higman.specs.Words.{count}
 use Rattle.higman.specs.Limits.{Plan as PlanOf, Kept, max_pairs, slot_count}
 use Rattle.higman.specs.Answers.{is_kept}
 use Rattle.higman.proofs.Statements.{answers_exact}
 use Rattle.higman.proofs.Tests.{so, and_intro}
-use Rattle.desk.specs.Desk.{Desk, IsControl, IsDesk, held, pairs_of_slot, changed}
+use Rattle.desk.specs.Desk.{IsControl, IsDesk, held, pairs_of_slot, changed}
 use Rattle.desk.specs.Replies.{is_open}
 use Rattle.columns.proofs.Rows.{rows_length}
 use Rattle.operations.specs.declared.Plan.{Plan}

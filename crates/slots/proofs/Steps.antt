@@ -1,13 +1,10 @@
 -- An operation step by step: with which of the tests around its job it ends, in the terms of a desk in code, and that a refusal changes
 -- nothing of the head and its columns.
-use Prim.Native.Nat.{ℕ, zero, suc, ◌≤◌, ◌<◌}
+use Prim.Native.Nat.{ℕ, zero, suc, ◌<◌}
 use mathlib.Core.Path.{◌≡◌, refl, sym, ◌∙◌, ap, ap₂, subst}
 use mathlib.Core.Bool.{Bool, true, false, ◌&&◌, not}
-use mathlib.Core.List.{List, [], map, Memᴰ}
+use mathlib.Core.List.{List, map, Memᴰ}
 use mathlib.Core.Option.{Option, none, some}
-use native.Mathlib.Omega.{arith}
-use lib.Dec.{T}
-use lib.ListN.{length}
 use Rattle.higman.specs.Bases.{all}
 use Rattle.higman.specs.Limits.{slot_count}
 use Rattle.higman.specs.Listing.{is_slot, slot_number}
@@ -19,16 +16,14 @@ use Rattle.desk.specs.Desk.{Desk, IsDesk}
 use Rattle.desk.specs.Records.{Record, SlotUse, reading, writing, Kind, kind, of_slots, of_open_plan, needs_open, stations_named, slots_named}
 use Rattle.desk.specs.Records.{needed_right, is_change}
 use Rattle.desk.specs.Replies.{◌>>=◌, ◌when◌, refuses, Outcome, refuse, pass, Effect}
-use Rattle.desk.specs.Replies.{open_amiss, no_station, outside, may_use, denied, at_limit, job, admission, operation, is_open}
+use Rattle.desk.specs.Replies.{open_amiss, no_station, outside, may_use, denied, at_limit, job, admission, operation}
 use Rattle.desk.proofs.Outcomes.{passed, admitted}
 use Rattle.desk.proofs.Stays.{operation_stays, slot_below as below}
-use Rattle.operations.specs.Plans.{in_table}
 use Rattle.slots.specs.declared.Head.{Head}
 use Rattle.slots.specs.declared.Reply.{Reply}
 use Rattle.slots.specs.declared.Reply.TheVariants.{Refused, RefusedIn}
 use Rattle.slots.specs.declared.Work.{Work}
-use Rattle.slots.specs.Blocks.{block_count, columns_size, size_at, value_at}
-use Rattle.slots.specs.Desks.{draft_block, desk_of, HoldsDesk, allowed_in}
+use Rattle.slots.specs.Desks.{desk_of, HoldsDesk, allowed_in}
 use Rattle.slots.specs.Works.{uses_of, AdmittedAs, refusing, refusing_in, direct, told, reply_to, desk_after, DoneBy, Done, ToldBy, Tells}
 use Rattle.slots.proofs.Held.{open_is}
 

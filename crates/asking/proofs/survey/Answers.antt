@@ -1,6 +1,5 @@
 -- `asking::survey` meets its contract. The loop's invariant: the lines of so many slots are written, in the order that they were arranged
 -- in. The measure is how many are left.
-use Prim.Native.Nat.{◌-◌}
 use mathlib.Core.Path.{refl, ◌∙◌, ap}
 use mathlib.Core.Bool.{false}
 use mathlib.Core.List.{[]}

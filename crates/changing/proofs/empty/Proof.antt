@@ -12,9 +12,8 @@ use Rattle.desk.specs.Desk.{Desk}
 use Rattle.desk.specs.Records.{Record, C, kind, writing}
 use Rattle.desk.specs.Replies.{pass, admission}
 use Rattle.operations.specs.declared.Plan.{Plan}
-use Rattle.slots.specs.declared.Head.{Head}
 use Rattle.slots.specs.declared.Reply.TheVariants.{Ok}
-use Rattle.slots.specs.Blocks.{InColumns, size_at, filled_head, put}
+use Rattle.slots.specs.Blocks.{size_at, filled_head, put}
 use Rattle.slots.specs.Desks.{full_in, desk_of}
 use Rattle.slots.specs.Works.{admitted_by}
 use Rattle.slots.proofs.Held.{control_held, slots_eight, slot_inside}

@@ -5,7 +5,6 @@ use mathlib.Core.Bool.{true}
 use mathlib.Core.List.Memᴰ
 use mathlib.Core.List.{[], ◌∷◌}
 use borrow.Author.Rules.{rules}
-use borrow.Author.Tests.{not-true, not-false}
 use Rattle.higman.specs.Words.{Shape}
 use Rattle.higman.specs.Limits.{shape_in_range, slot_count}
 use Rattle.higman.specs.Answers.{Answer}

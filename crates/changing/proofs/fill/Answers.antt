@@ -11,4 +11,4 @@ unfolding filled_head
 returns c =
     let a = c.args in
     let sizes = set a.head.sizes a.i (size_of a.plan) in
-    record { value = ap (λ (k : Control). record { sizes = sizes; is_open = false; slot = a.head.slot; control = k }) c.noted-h.ensures; columns_after = c.put.ensures; }
+    record { value = ap (λ (k : Control). record { sizes = sizes; is_open = false; slot = a.head.slot; control = k }) c.noted-h.ensures; columns_after = c.put.ensures }

@@ -5,8 +5,6 @@ use mathlib.Core.Bool.{true}
 use mathlib.Core.List.Memᴰ
 use mathlib.Core.List.{[], ◌∷◌}
 use borrow.Author.Rules.{rules}
-use borrow.Author.Tests.{not-true, not-false}
-use lib.IntN.{ℤ}
 use mir.Syntax.{w32}
 use Rattle.higman.specs.Limits.{slot_count, power_in_range}
 use Rattle.higman.specs.Answers.{Answer, powered}

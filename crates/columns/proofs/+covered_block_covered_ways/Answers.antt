@@ -1,17 +1,15 @@
 -- The proof of the cycle of `covered_block` and `covered_ways`: what the walk over a block and over its parts answers.
 use Prim.Native.Nat.{ℕ, ◌-◌, ◌≤◌}
-use mathlib.Core.Path.{◌≡◌, sym, ◌∙◌, ap, subst}
-use mathlib.Core.Bool.{Bool, false}
+use mathlib.Core.Path.{sym, ◌∙◌, ap, subst}
+use mathlib.Core.Bool.{Bool}
 use mathlib.Core.List.{List}
 use native.Mathlib.Omega.{arith}
-use lib.ListN.{length}
 use Rattle.higman.specs.Words.{child}
-use Rattle.higman.specs.Bases.{listed, covered}
+use Rattle.higman.specs.Bases.{covered}
 use Rattle.words.specs.Packed.{unpack}
-use Rattle.words.proofs.Sizes.{length_child}
 use Rattle.columns.specs.Packed.{words_of}
-use Rattle.columns.specs.Columns.{AtBlock, Walked}
-use Rattle.columns.proofs.Covered.{covered_listed, covered_parts, all_done, all_stop, all_pass}
+use Rattle.columns.specs.Columns.{Walked}
+use Rattle.columns.proofs.Covered.{covered_listed, covered_parts, all_done, all_pass}
 use Rattle.columns.proofs.Walks.{at_first, at_later, past_listed, past_parts, walked_same, walked_past, walked_gap}
 use Rattle.columns.proofs.Walks.{uncovered_behind, listed_here, listed_nowhere}
 use Rattle.columns.proofs.+covered_block_covered_ways.Goals as goal

@@ -6,7 +6,6 @@ use mathlib.Core.Bool.{◌||◌}
 use borrow.Author.Rules.{rules}
 use native.Mathlib.Omega.{arith}
 use lib.ListN.{length, drop}
-use Rattle.higman.specs.Words.{begins}
 use Rattle.higman.specs.Bases.{overlap}
 use Rattle.columns.specs.Packed.{words_of}
 use Rattle.columns.proofs.Neighbours.{neighbours_at, overlap_last}

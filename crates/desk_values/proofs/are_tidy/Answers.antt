@@ -1,8 +1,6 @@
 -- `desk_values::are_tidy` meets its contract. The invariant: the sizes are as they should be exactly if those from i on are. The measure is
 -- how many are left.
-use Prim.Native.Nat.{◌-◌}
 use mathlib.Core.Path.{sym, ◌∙◌, ap}
-use mathlib.Core.Bool.{true, false}
 use native.Mathlib.Omega.{arith}
 use Rattle.higman.specs.Words.{count}
 use Rattle.higman.specs.Bases.{all}
@@ -21,10 +19,10 @@ returns-then-not-is_tidy c =
 
 pub loop-i-preserved : goal.loop-i-preserved
 loop-i-preserved c = (
-      omega (arith, c.loop-i-test.true),
-      c.loop-i.invariant.1 ∙ left_passes (tested c.args.sizes) c.loop-i.i c.loop-i-test.true (sym c.is_tidy.ensures
-          ∙ c.if-not-is_tidy.false),
-    )
+  omega (arith, c.loop-i-test.true),
+  c.loop-i.invariant.1 ∙ left_passes (tested c.args.sizes) c.loop-i.i c.loop-i-test.true (sym c.is_tidy.ensures
+      ∙ c.if-not-is_tidy.false),
+)
 
 pub returns : goal.returns
 returns c =

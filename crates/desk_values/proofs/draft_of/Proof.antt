@@ -1,16 +1,15 @@
 -- `desk_values::draft_of` meets its contract: the pairs of the open plan are the first of its block's columns.
 use Prim.Native.Nat.{ℕ, ◌+◌, ◌-◌, ◌≤◌}
 use mathlib.Core.Path.{◌≡◌, sym, ◌∙◌, ap}
-use mathlib.Core.Bool.{true, false}
 use mathlib.Core.List.{◌++◌}
 use native.Mathlib.Omega.{arith}
 use borrow.Author.Rules.{rules}
-use borrow.Author.Tests.{not-true, not-false}
+use borrow.Author.Tests.{not-true}
 use lib.ListN.{length, take, drop, replicate, length-drop}
 use lib.Seq.{length-take-le, take-take}
 use Rattle.higman.specs.Limits.{max_pairs}
 use Rattle.operations.specs.Filled.{filling}
-use Rattle.slots.specs.Blocks.{from_place, to_place, size_at, value_at}
+use Rattle.slots.specs.Blocks.{size_at, value_at}
 use Rattle.slots.specs.Desks.{draft_block}
 use Rattle.columns.proofs.Limits.{pair_limit}
 use Rattle.desk_values.specs.Values.{draft_value}

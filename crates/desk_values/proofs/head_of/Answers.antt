@@ -1,7 +1,7 @@
 -- `desk_values::head_of` meets its contract: a plan is open exactly where the letter is not 0.
 use mathlib.Core.Path.{◌≡◌, sym, ◌∙◌, ap}
 use mathlib.Core.Bool.{Bool, true, false, not}
-use Prim.Native.Nat.{ℕ, ◌-◌}
+use Prim.Native.Nat.{ℕ}
 use native.Mathlib.Omega.{arith}
 use borrow.Author.Tests.{eq-eqb, ne_eqb}
 use Rattle.higman.specs.Listing.{is_slot, slot_number}

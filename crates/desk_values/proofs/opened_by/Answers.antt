@@ -1,7 +1,5 @@
 -- `desk_values::opened_by` meets its contract: an open plan is meant for one of the slots.
-use Prim.Native.Nat.{◌<◌}
-use mathlib.Core.Path.{◌≡◌, sym, ap}
-use mathlib.Core.Bool.{true, false}
+use mathlib.Core.Path.{sym, ap}
 use native.Mathlib.Omega.{arith}
 use borrow.Author.Tests.{not-true, not-false}
 use Rattle.slots.proofs.Held.{slots_eight}

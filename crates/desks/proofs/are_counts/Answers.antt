@@ -1,6 +1,5 @@
 -- `desks::are_counts` meets its contract. The invariant: no count is over the limit exactly if none of those that are left is. The measure
 -- is how many are left.
-use Prim.Native.Nat.{◌-◌}
 use mathlib.Core.Path.{◌≡◌, refl, sym, ◌∙◌}
 use borrow.Author.Tests.{le-leb, lt-leb}
 use native.Mathlib.Omega.{arith}

@@ -1,6 +1,5 @@
 -- `desks::are_rights` meets its contract. The invariant: all rows are in their range exactly if those that are left are. The measure
 -- is how many are left.
-use Prim.Native.Nat.{◌-◌}
 use mathlib.Core.Path.{◌≡◌, refl, sym, ◌∙◌}
 use native.Mathlib.Omega.{arith}
 use lib.ListN.{length}

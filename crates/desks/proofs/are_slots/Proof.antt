@@ -1,17 +1,11 @@
 -- `desks::are_slots` meets its contract. The invariant: the slots hold what they may exactly if those from i on do. The measure is how many
 -- are left.
-use Prim.Native.Nat.{ℕ, suc, ◌+◌, ◌-◌, ◌≤◌}
-use mathlib.Core.Path.{◌≡◌, refl, sym, ◌∙◌, ap}
-use mathlib.Core.Bool.{Bool, true, false}
+use Prim.Native.Nat.{◌-◌, ◌≤◌}
+use mathlib.Core.Path.{◌≡◌, sym, ◌∙◌, ap}
 use borrow.Author.Rules.{rules}
-use borrow.Author.Tests.{not-true, not-false}
 use native.Mathlib.Omega.{arith}
-use native.Mathlib.Numerals.{add-one}
-use lib.ListN.{length}
 use Rattle.higman.specs.Words.{count}
 use Rattle.higman.specs.Bases.{all}
-use Rattle.higman.specs.Limits.{slot_count}
-use Rattle.slots.specs.declared.Head.{Head}
 use Rattle.slots.specs.Blocks.{value_at}
 use Rattle.slots.proofs.Held.{slots_eight}
 use Rattle.desks.specs.Tested.{slot_test, slots_test}

@@ -91,7 +91,7 @@ returns-then-size-gt-MAX_PAIRS c =
 
 pub is_open_plan-requires : goal.is_open_plan-requires
 is_open_plan-requires c =
-    record { in_columns = search rules; draft_block_bound = small c.before; }
+    record { in_columns = search rules; draft_block_bound = small c.before }
 
 pub returns-then-not-is_open_plan : goal.returns-then-not-is_open_plan
 unfolding holds_test

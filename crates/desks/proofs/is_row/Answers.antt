@@ -1,6 +1,5 @@
 -- `desks::is_row` meets its contract. The invariant: no right is above 2 exactly if none of those that are left is. The measure is how many
 -- are left.
-use Prim.Native.Nat.{◌-◌}
 use mathlib.Core.Path.{◌≡◌, refl, sym, ◌∙◌, subst}
 use mathlib.Core.Bool.{true, false}
 use borrow.Author.Tests.{le-leb, lt-leb}

@@ -1,5 +1,4 @@
 -- `desks::sum` meets its contract: what was added and what is left are the pairs of all slots, and so few that no sum runs over.
-use Prim.Native.Nat.{◌-◌}
 use native.Mathlib.Omega.{arith}
 use Rattle.higman.specs.Limits.{slot_count}
 use Rattle.columns.proofs.Limits.{pair_limit}

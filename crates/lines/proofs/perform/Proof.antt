@@ -1,14 +1,12 @@
 -- `lines::perform` meets its contract: each record goes to its work, with the parts of the line that it names.
-use Prim.Native.Nat.{ℕ, ◌^◌, ◌<◌}
-use mathlib.Core.Path.{◌≡◌, refl, sym, ◌∙◌, ap, subst}
+use Prim.Native.Nat.{◌^◌, ◌<◌}
+use mathlib.Core.Path.{◌≡◌, refl, subst}
 use borrow.Author.Rules.{rules}
 use native.Mathlib.Omega.{arith}
 use lib.IntN.{nat_abs}
 use mir.Syntax.{w32}
 use Rattle.desk.specs.Limits.{max_numeral}
-use Rattle.desk.specs.Records.{P, M, E, F, I, K, S, W, L, C, T, U}
-use Rattle.records.specs.declared.Record.{Record}
-use Rattle.records.specs.declared.Record.TheVariants.{Open, Pair, Close, Follow, Invert, Power, Same, Route, List, Empty, Count, Survey, NoRecord}
+use Rattle.desk.specs.Records.{K}
 use Rattle.records.specs.Reading.{Within, InBounds}
 use Rattle.operations.proofs.Signs.{read, read_is}
 use Rattle.slots.specs.Works.{Done}

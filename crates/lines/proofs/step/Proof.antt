@@ -1,8 +1,6 @@
 -- `lines::step` meets its contract: what is read of a line means the record that the definitions read.
 use mathlib.Core.Path.{◌≡◌, sym, ◌∙◌, ap, subst}
 use borrow.Author.Rules.{rules}
-use native.Mathlib.Omega.{arith}
-use lib.ListN.{length}
 use Rattle.desk.specs.Desk.{Desk}
 use Rattle.desk.specs.Records.{Record}
 use Rattle.desk.specs.Replies.{◌>>=◌, Outcome, operation, record_of, line_operation}

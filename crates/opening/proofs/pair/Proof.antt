@@ -2,12 +2,10 @@
 use Prim.Native.Nat.{ℕ, ◌+◌, ◌≤◌, ◌<◌}
 use mathlib.Core.Path.{◌≡◌, refl, sym, ◌∙◌, ap, ap₂, subst}
 use mathlib.Core.Bool.{Bool, true, false, ◌&&◌}
-use mathlib.Core.List.{List}
 use mathlib.Core.Option.{some}
 use borrow.Author.Rules.{rules}
-use borrow.Author.Tests.{not-true, not-false, le-leb, lt-leb}
+use borrow.Author.Tests.{le-leb, lt-leb}
 use native.Mathlib.Omega.{arith}
-use lib.Dec.{leb}
 use lib.ListN.{length, set, length-set}
 use Rattle.higman.specs.Limits.{max_pairs, is_plan_word}
 use Rattle.higman.specs.Refusals.{wrong_state, bad_word, pairs_full}
@@ -15,14 +13,13 @@ use Rattle.higman.specs.Text.{word_of}
 use Rattle.desk.specs.Desk.{Desk, Draft, IsDesk, with_draft, with_pair}
 use Rattle.desk.specs.Records.{Record, M, kind}
 use Rattle.desk.specs.Replies.{pass, silent, admission}
-use Rattle.words.specs.Bytes.{shape}
 use Rattle.higman.specs.Tables.{Pair}
 use Rattle.columns.specs.Packed.{pair_of}
 use Rattle.slots.specs.declared.Size.{Size}
 use Rattle.slots.specs.declared.Work.{Work}
 use Rattle.slots.specs.declared.Reply.TheVariants.{Silent}
 use Rattle.slots.specs.Blocks.{size_at, value_at}
-use Rattle.slots.specs.Desks.{draft_block, draft_in, desk_of, HoldsDesk}
+use Rattle.slots.specs.Desks.{draft_block, draft_in, desk_of}
 use Rattle.slots.specs.Works.{Done}
 use Rattle.columns.proofs.Limits.{pair_limit}
 use Rattle.slots.proofs.Held.{draft_open, draft_length}

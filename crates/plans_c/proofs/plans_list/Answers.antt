@@ -5,4 +5,4 @@ use Rattle.plans_c.proofs.plans_list.Goals as goal
 
 pub returns : goal.returns
 returns c =
-    record { value = c.listed_of.ensures ∙ ap listed_of c.list.ensures.value; out_after = c.list.ensures.out_after; }
+    record { value = c.listed_of.ensures ∙ ap listed_of c.list.ensures.value; out_after = c.list.ensures.out_after }

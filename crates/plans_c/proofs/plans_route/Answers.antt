@@ -5,4 +5,4 @@ use Rattle.plans_c.proofs.plans_route.Goals as goal
 
 pub returns : goal.returns
 returns c =
-    record { value = c.routed_of.ensures ∙ ap routed_of c.route.ensures.value; out_after = c.route.ensures.out_after; }
+    record { value = c.routed_of.ensures ∙ ap routed_of c.route.ensures.value; out_after = c.route.ensures.out_after }

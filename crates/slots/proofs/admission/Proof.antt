@@ -2,7 +2,6 @@
 use mathlib.Core.Path.{◌≡◌, refl, sym, ◌∙◌}
 use mathlib.Core.Bool.{true}
 use borrow.Author.Rules.{rules}
-use borrow.Author.Tests.{not-true, not-false}
 use Rattle.higman.specs.Bases.{all}
 use Rattle.higman.specs.Listing.{is_slot}
 use native.Mathlib.Omega.{arith}

@@ -1,5 +1,4 @@
 -- `slots::are_slots` meets its contract: all name slots exactly if those that are left do.
-use Prim.Native.Nat.{◌-◌}
 use mathlib.Core.Path.{refl, sym, ◌∙◌}
 use native.Mathlib.Omega.{arith}
 use Rattle.higman.specs.Listing.{is_slot}

@@ -1,5 +1,5 @@
 -- `columns::splits::root_words` meets its contract. The invariant: the first i places hold the first i roots.
-use Prim.Native.Nat.{◌+◌, ◌-◌}
+use Prim.Native.Nat.{◌+◌}
 use mathlib.Core.Path.{◌≡◌, refl, sym, ◌∙◌, ap, ap₂}
 use mathlib.Core.List.{[], ◌∷◌, ◌++◌, map, map-append}
 use native.Mathlib.Numerals.{add-one}

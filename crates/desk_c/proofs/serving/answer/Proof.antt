@@ -1,7 +1,6 @@
 -- `desk_c::serving::answer` meets its contract: what is read of a line means the record that the definitions read.
 use mathlib.Core.Path.{◌≡◌, sym, ◌∙◌, ap, subst}
 use borrow.Author.Rules.{rules}
-use native.Mathlib.Omega.{arith}
 use Rattle.desk.specs.Records.{Record}
 use Rattle.desk.specs.Replies.{◌>>=◌, Outcome, operation, record_of, line_operation}
 use Rattle.records.specs.Reading.{meant, InBounds}

@@ -4,7 +4,7 @@ use mathlib.Core.Path.{◌≡◌, sym, ◌∙◌, ap, subst}
 use mathlib.Core.List.{List}
 use borrow.Author.Rules.{rules}
 use native.Mathlib.Omega.{arith}
-use lib.ListN.{length, take, drop}
+use lib.ListN.{take}
 use Rattle.higman.specs.Buffers.{written}
 use Rattle.replies.specs.Sizes.{max_reply}
 use Rattle.slots.specs.declared.Head.{Head}

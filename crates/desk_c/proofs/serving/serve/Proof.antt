@@ -2,7 +2,6 @@
 use mathlib.Core.Path.{◌≡◌, sym, ◌∙◌, ap, subst}
 use mathlib.Core.Bool.{Bool, true, false}
 use borrow.Author.Rules.{rules}
-use borrow.Author.Tests.{not-true, not-false}
 use Rattle.higman.specs.Refusals.{invalid_value}
 use Rattle.higman.specs.Text.{Bytes}
 use Rattle.higman.proofs.Tests.{so, T_of}
@@ -12,7 +11,7 @@ use Rattle.desk_values.specs.declared.Desk.{Desk}
 use Rattle.desk_values.specs.Values.{opened_test, head_of, desk_in, is_desk_value, Whole}
 use Rattle.desk_values.proofs.Exact.{value_holds, opened_tested, whole_of_good}
 use Rattle.desk_c.specs.declared.serving.Served.{Served}
-use Rattle.desk_c.specs.Calls.{line_call, lent_of, LentBy, refused_with, served, buffer_after, ServedBy}
+use Rattle.desk_c.specs.Calls.{line_call, lent_of, refused_with, served, buffer_after}
 use Rattle.desk_c.proofs.serving.serve.Statement.{statement}
 use Rattle.desk_c.proofs.serving.serve.Tie as tie
 

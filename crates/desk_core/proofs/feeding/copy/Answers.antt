@@ -1,5 +1,5 @@
 -- `desk_core::feeding::copy` meets its contract. The invariant: the first i bytes are copied. The measure is what is left of them.
-use Prim.Native.Nat.{◌+◌, ◌-◌}
+use Prim.Native.Nat.{◌+◌}
 use mathlib.Core.Path.{refl, ◌∙◌, ap}
 use native.Mathlib.Omega.{arith}
 use lib.ListN.{get_or, set, length-set}

@@ -1,6 +1,6 @@
 -- `desk_core::feeding::end_line` meets its contract: a line that is too long is refused, as every line of more bytes is.
 use mathlib.Core.Path.{refl, sym, subst}
-use mathlib.Core.Bool.{true, false}
+use mathlib.Core.Bool.{true}
 use native.Mathlib.Omega.{arith}
 use Rattle.higman.specs.Refusals.{no_record}
 use Rattle.replies.proofs.Sizes.{rooms}

@@ -1,6 +1,5 @@
 -- `desk_core::feeding::line_end` meets its contract. The invariant: no byte 10 stands between the place and i. The measure is what is left
 -- of the input.
-use Prim.Native.Nat.{◌-◌}
 use native.Mathlib.Omega.{arith}
 use Rattle.desk_core.proofs.Runs.{run_none, run_grows}
 use Rattle.desk_core.proofs.feeding.line_end.Goals as goal

@@ -1,11 +1,9 @@
 -- `desk_core::feeding::whole_line` meets its contract: a line that lies whole in the input is what its empty beginning has grown to.
 use mathlib.Core.Path.{◌≡◌, refl, sym, ◌∙◌, ap, subst}
-use mathlib.Core.Bool.{true, false}
 use mathlib.Core.List.{[]}
 use borrow.Author.Rules.{rules}
-use borrow.Author.Tests.{not-true}
 use native.Mathlib.Omega.{arith}
-use lib.ListN.{length, take}
+use lib.ListN.{take}
 use lib.Seq.{length-take-le}
 use Rattle.desk.specs.Replies.{respond_line}
 use Rattle.desk.specs.Session.{effect_of}

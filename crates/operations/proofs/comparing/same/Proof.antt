@@ -1,12 +1,10 @@
 -- `operations::comparing::same` meets its contract: 10, and then whether the pairs are the same.
-use borrow.Author.Rules.{rules}
 use Prim.Native.Nat.{ℕ}
 use mathlib.Core.Path.{◌≡◌, sym, ◌∙◌, ap}
 use mathlib.Core.List.{List}
 use lib.ListN.{length, length-map}
 use Rattle.higman.specs.Limits.{Plan}
 use Rattle.words.specs.Packed.{unpack}
-use Rattle.words.specs.Bytes.{shape}
 use Rattle.columns.specs.Packed.{table}
 use Rattle.columns.proofs.Rearranged.{froms_table}
 use Rattle.tables.specs.Lines.{plan_of_columns}

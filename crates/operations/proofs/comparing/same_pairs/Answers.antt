@@ -1,6 +1,5 @@
 -- `operations::comparing::same_pairs` meets its contract. The invariant: the tables are the same where the pairs from i on are.
 -- The measure is what is left of the columns.
-use Prim.Native.Nat.{◌-◌}
 use mathlib.Core.Path.{refl, sym, ◌∙◌}
 use native.Mathlib.Omega.{arith}
 use Rattle.operations.proofs.SamePairs.{at_end, from_differs, to_differs, same_place}

@@ -143,7 +143,7 @@ slice_bounds-spread_plans-end-4 c =
 pub spread_plans-requires : goal.spread_plans-requires
 spread_plans-requires c =
     let s = c.before.before.before.before.before.before.before.before.before.before in
-    record { plain = plain c.args.a c.requires.0 (a_from_room s) (a_to_room s); operand = operand c.args.b c.requires.1 (b_from_room s) (b_to_room s); room = (omega (arith, room s), omega (arith, room s)); }
+    record { plain = plain c.args.a c.requires.0 (a_from_room s) (a_to_room s); operand = operand c.args.b c.requires.1 (b_from_room s) (b_to_room s); room = (omega (arith, room s), omega (arith, room s)) }
 
 pub returns-in_default : goal.returns-in_default
 returns-in_default c =

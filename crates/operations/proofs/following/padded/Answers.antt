@@ -1,6 +1,5 @@
 -- `operations::following::padded` meets its contract. The invariant: the first i places are the column's, and zeros stand behind them.
 -- The measure is what is left of n.
-use Prim.Native.Nat.{◌-◌}
 use mathlib.Core.Path.{◌≡◌, ◌∙◌, ap}
 use native.Mathlib.Omega.{arith}
 use lib.ListN.{get_or, set}

@@ -1,7 +1,5 @@
 -- `operations::following::repeat` meets its contract. The invariant: the power reached is the i-th. The measure is what is left of n.
-use Prim.Native.Nat.{◌-◌}
 use mathlib.Core.Path.{◌≡◌, ◌∙◌, ap}
-use mathlib.Core.Bool.{true}
 use native.Mathlib.Omega.{arith}
 use Rattle.operations.specs.Plans.{plan_of}
 use Rattle.operations.specs.Answers.{repeating}

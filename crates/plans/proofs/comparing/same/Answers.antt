@@ -80,7 +80,7 @@ pub same-requires : goal.same-requires
 same-requires c =
     let e = c.before.before.before.before.before.before.before.before in
     let a = (called e).args in
-    record { lent_plan = lent a.a (first e) (a_from_room e) (a_to_room e); lent_plan_2 = lent a.b (second e) (b_from_room e) (b_to_room e); }
+    record { lent_plan = lent a.a (first e) (a_from_room e) (a_to_room e); lent_plan_2 = lent a.b (second e) (b_from_room e) (b_to_room e) }
 
 pub returns : goal.returns
 returns c =

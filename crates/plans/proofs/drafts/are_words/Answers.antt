@@ -1,6 +1,5 @@
 -- `plans::drafts::are_words` meets its contract. The invariant: the column holds words exactly if what is left of it does. The measure
 -- is what is left of the column.
-use Prim.Native.Nat.{◌-◌}
 use mathlib.Core.Path.{sym, ◌∙◌}
 use native.Mathlib.Omega.{arith}
 use Rattle.words.specs.Packed.{unpack}

@@ -1,6 +1,5 @@
 -- `plans::drafts::are_zeros` meets its contract. The invariant: the column is zero exactly if what is left of it is. The measure is what
 -- is left of the column.
-use Prim.Native.Nat.{◌-◌}
 use mathlib.Core.Path.{refl, sym, ◌∙◌}
 use borrow.Author.Tests.{eq-eqb, ne_eqb}
 use native.Mathlib.Omega.{arith}

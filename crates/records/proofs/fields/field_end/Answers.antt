@@ -1,6 +1,5 @@
 -- `records::fields::field_end` meets its contract. The invariant: what is left of the field from i on ends where the field does. The
 -- measure is what is left of the line.
-use Prim.Native.Nat.{◌-◌}
 use mathlib.Core.Path.{refl}
 use native.Mathlib.Omega.{arith}
 use Rattle.records.proofs.fields.Ends.{first_at_tab, first_at_end, first_goes_on}

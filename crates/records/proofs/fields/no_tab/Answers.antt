@@ -1,6 +1,6 @@
 -- `records::fields::no_tab` meets its contract. The invariant: no tab stands from the place on exactly if none was seen so far and
 -- none stands in what is left. The measure is what is left of the line.
-use Prim.Native.Nat.{ℕ, ◌+◌, ◌-◌}
+use Prim.Native.Nat.{ℕ, ◌+◌}
 use mathlib.Core.Path.{◌≡◌, refl, sym, ◌∙◌, ap}
 use mathlib.Core.Bool.{Bool, false, not, ◌&&◌, and-true, and-false, and_assoc}
 use native.Mathlib.Omega.{arith}

@@ -1,5 +1,5 @@
 -- `slots::blocks::put_column` meets its contract. The invariant: the first i words are written. The measure is what is left of them.
-use Prim.Native.Nat.{◌+◌, ◌-◌}
+use Prim.Native.Nat.{◌+◌}
 use mathlib.Core.Path.{refl, ◌∙◌, ap}
 use native.Mathlib.Omega.{arith}
 use lib.ListN.{get_or, set, length-set}

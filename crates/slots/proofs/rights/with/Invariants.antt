@@ -1,5 +1,5 @@
 -- `slots::rights::with` meets its contract: the row is packed from the last slot on, and what is packed of it has 16 bits.
-use Prim.Native.Nat.{◌-◌, ◌≤◌}
+use Prim.Native.Nat.{◌≤◌}
 use mathlib.Core.Path.{◌≡◌}
 use lib.ListN.{set, drop}
 use Rattle.slots.specs.Rights.{row_of, packed_row}

@@ -7,7 +7,6 @@ use mathlib.Core.List.{List}
 use borrow.Author.Rules.{rules}
 use native.Mathlib.Omega.{arith}
 use lib.ListN.{get_or}
-use borrow.Author.Tests.{not-true, not-false}
 use Rattle.higman.specs.Words.{child}
 use Rattle.higman.specs.Bases.{same_word}
 use Rattle.words.specs.Packed.{unpack}

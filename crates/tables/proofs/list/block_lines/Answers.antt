@@ -1,6 +1,6 @@
 -- `tables::list::block_lines` meets its contract. The invariant: the lines of the pairs before i are written, each with its place, and
 -- those of the others are left. The measure is the number of pairs that are left.
-use Prim.Native.Nat.{ℕ, ◌+◌, ◌-◌, ◌≤◌, ◌<◌}
+use Prim.Native.Nat.{ℕ, ◌+◌, ◌≤◌, ◌<◌}
 use mathlib.Core.Path.{◌≡◌, ap, subst}
 use mathlib.Core.List.{List, ◌++◌}
 use native.Mathlib.Omega.{arith}

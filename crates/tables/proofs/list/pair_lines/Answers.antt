@@ -1,6 +1,5 @@
 -- `tables::list::pair_lines` meets its contract. The invariant: the M records of the pairs before i are written, and those of the others
 -- are left. The measure is the number of pairs that are left.
-use Prim.Native.Nat.{◌-◌}
 use native.Mathlib.Omega.{arith}
 use lib.ListN.{length, get_or}
 use Rattle.higman.specs.Listing.{pair_record}

@@ -2,7 +2,6 @@
 use mathlib.Core.Path.{◌≡◌, sym, ◌∙◌, ap}
 use mathlib.Core.Bool.{not}
 use borrow.Author.Rules.{rules}
-use borrow.Author.Tests.{not-true, not-false}
 use Rattle.higman.specs.Normal.{ordered}
 use Rattle.columns.specs.Packed.{words_of}
 use Rattle.columns.proofs.WordOrder.{sorted_is_ordered}

@@ -1,12 +1,11 @@
 -- The proof of the cycle of `reduce_block` and `reduce_ways`: a listed block is copied, and any other is cut into its parts, which are
 -- reduced one after the other and joined.
-use Prim.Native.Nat.{◌+◌, ◌-◌, ◌<◌}
 use mathlib.Core.Path.{refl, ap}
 use native.Mathlib.Omega.{arith}
 use lib.ListN.{length}
 use Rattle.words.specs.Packed.{unpack}
 use Rattle.words.proofs.Sizes.{length_child}
-use Rattle.tables.specs.Reduction.{State, state, ahead}
+use Rattle.tables.specs.Reduction.{state, ahead}
 use Rattle.tables.proofs.Cuts.{block_place}
 use Rattle.tables.proofs.Steps.{write_grows, copy_places, join_places, copied, divided, rejoined, passed, part, behind, followed}
 use Rattle.tables.proofs.reduce.+reduce_block_reduce_ways.Goals as goal

@@ -1,6 +1,6 @@
 -- `tables::routing::copy` meets its contract. The invariant: the first i bytes of the tail stand at the start of the output, and the
 -- rest of it is as it was. The measure is what is left of the tail.
-use Prim.Native.Nat.{◌+◌, ◌-◌}
+use Prim.Native.Nat.{◌+◌}
 use mathlib.Core.Path.{◌≡◌, refl, sym, ◌∙◌, ap, ap₂}
 use mathlib.Core.List.{◌++◌}
 use native.Mathlib.Numerals.{add-one}

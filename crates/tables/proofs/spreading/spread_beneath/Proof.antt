@@ -5,7 +5,6 @@ use mathlib.Core.Path.{◌≡◌, sym, ◌∙◌, ap, subst}
 use mathlib.Core.Bool.{false}
 use mathlib.Core.List.{List, [], ◌∷◌, ◌++◌, append-nil}
 use borrow.Author.Rules.{rules}
-use borrow.Author.Tests.{not-true, not-false}
 use native.Mathlib.Omega.{arith}
 use lib.ListN.{length, get_or, drop}
 use Rattle.higman.specs.Words.{begins}
@@ -105,11 +104,10 @@ bounds-from-i-in-loop-i : tie.Need-bounds-from-i-in-loop-i invariant-loop-i decr
 bounds-from-i-in-loop-i c = omega arith
 
 tail-tail-requires : tie.Need-tail-tail-requires invariant-loop-i decreases-loop-i
-tail-tail-requires c κs =
-    (
-      packed_at c.args.from.now c.requires.1.0.plain.from_packed c.loop-i.i (omega arith),
-      sym c.begins.ensures ∙ c.if-not-begins.false,
-    )
+tail-tail-requires c κs = (
+  packed_at c.args.from.now c.requires.1.0.plain.from_packed c.loop-i.i (omega arith),
+  sym c.begins.ensures ∙ c.if-not-begins.false,
+)
 
 offset_bounds-to-i : tie.Need-offset_bounds-to-i invariant-loop-i decreases-loop-i
 offset_bounds-to-i c = omega arith

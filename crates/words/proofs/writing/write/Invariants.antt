@@ -1,6 +1,6 @@
 -- `words::writing::write` meets its contract. The invariant: the digits that are taken off stand in the buffer, in front of what was there
 -- behind them, and the others still fit before them. The measure is what is left of the number.
-use Prim.Native.Nat.{ℕ, ◌+◌, ◌-◌, ◌≤◌}
+use Prim.Native.Nat.{ℕ, ◌+◌, ◌≤◌}
 use mathlib.Core.Path.{◌≡◌}
 use mathlib.Core.List.{List, ◌++◌}
 use lib.ListN.{length}
