@@ -10,6 +10,7 @@ pub mod following;
 pub mod keeping;
 pub mod listing;
 pub mod numbers;
+pub mod refusals;
 pub mod routing;
 pub mod shapes;
 
