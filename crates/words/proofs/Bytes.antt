@@ -15,7 +15,7 @@ use Rattle.higman.specs.Limits.{max_digits, is_plan_word}
 use Rattle.words.specs.Packed.{pack_on, pack}
 use Rattle.higman.specs.Buffers.{written}
 use Rattle.words.specs.Bytes.{read_word}
-use Rattle.words.specs.declared.Reading.TheVariants.{Spelled, Bad}
+use Rattle.std.specs.Prelude.{Some, None}
 
 -- a first digit from 1 to m, if there is one, and then ways from 1 to n
 abbrev pub is_from : ℕ → ℕ → Word → Bool
@@ -48,13 +48,13 @@ module _ (code : List ℕ) (i : ℕ) (h : i < length code) where
 
 -- what `read` answers, by the two tests
 module _ (s : Shape) (code : List ℕ) where
-  pub read_word_lem : is_plan_word s (word_of code) ≡ true → read_word s code ≡ Spelled (pack (word_of code))
+  pub read_some : is_plan_word s (word_of code) ≡ true → read_word s code ≡ Some (pack (word_of code))
   unfolding read_word
-  read_word_lem e = rw (e, read_word)
+  read_some e = rw (e, read_word)
 
-  pub read_bad : is_plan_word s (word_of code) ≡ false → read_word s code ≡ Bad
+  pub read_none : is_plan_word s (word_of code) ≡ false → read_word s code ≡ None
   unfolding read_word
-  read_bad e = rw (e, read_word)
+  read_none e = rw (e, read_word)
 
   pub too_long : max_digits < length code → is_plan_word s (word_of code) ≡ false
   unfolding is_plan_word
