@@ -8,6 +8,7 @@ use native.Mathlib.Nat.{not-suc-le-zero, le_of_suc-le-suc}
 use native.Mathlib.Omega.{arith}
 use borrow.Author.Tests.{eq-eqb, ne_eqb, eqb-true, eqb-false, ltb-true, ltb-false}
 use lib.Dec.{T, eqb, ltb}
+use Rattle.std.specs.Prelude.{Option as Opened, Some, None, is_some}
 use lib.ListN.{length, get_or, set, take, drop, length-set, length-drop}
 use lib.Seq.{get_or-set_same, get_or-set_other, length-take-le}
 use Rattle.higman.specs.Words.{count}
@@ -92,13 +93,13 @@ module _ (h : Head) (columns : List ℕ) (i : ℕ) (inside : InColumns i columns
   block_pairs t = value_pairs (value_at h columns i) t value_from value_to
 
 module _ (h : Head) (columns : List ℕ) where
-  pub open_is : is_open (desk_of h columns) ≡ h.is_open
+  pub open_is : is_open (desk_of h columns) ≡ is_some h.draft
   unfolding desk_of
-  open_is = by h.is_open refl
+  open_is = by h.draft refl
     where
-      by : (b : Bool) → h.is_open ≡ b → is_open (desk_of h columns) ≡ h.is_open
-      by true e = rw e refl
-      by false e = rw e refl
+      by : (o : Opened ℕ) → h.draft ≡ o → is_open (desk_of h columns) ≡ is_some h.draft
+      by None e = rw e refl
+      by (Some slot) e = rw e refl
 
   pub held_at : (i : ℕ) → i < slot_count → held (desk_of h columns) i ≡ slot_at h columns i
   unfolding desk_of
@@ -210,10 +211,10 @@ module _ (h : Head) (columns : List ℕ) where
           by_slot j b false e = subst (λ v. T (in_table v)) (sym (value_other j (eqb-false j i e))) (H.in_tables j b)
 
 -- the open plan, and the two columns of its block
-pub draft_open : (h : Head) (columns : List ℕ) → h.is_open ≡ true
-    → (desk_of h columns).draft ≡ some (draft_in h.slot (value_at h columns draft_block))
+pub draft_open : (h : Head) (columns : List ℕ) (slot : ℕ) → h.draft ≡ Some slot
+    → (desk_of h columns).draft ≡ some (draft_in slot (value_at h columns draft_block))
 unfolding desk_of
-draft_open h columns e = ap (λ b. elim b [ true ↦ some (draft_in h.slot (value_at h columns draft_block)) | false ↦ none ]) e
+draft_open h columns slot e = rw e refl
 
 module _ (h : Head) (columns : List ℕ) (H : HoldsDesk h columns) where
   draft_inside : InColumns draft_block columns
@@ -225,8 +226,8 @@ module _ (h : Head) (columns : List ℕ) (H : HoldsDesk h columns) where
   pub draft_to : length (value_at h columns draft_block).to ≡ max_pairs
   draft_to = value_to h columns draft_block draft_inside
 
-  pub draft_length : length (draft_in h.slot (value_at h columns draft_block)).rows ≡ (size_at h draft_block).pairs
+  pub draft_length : (slot : ℕ) → length (draft_in slot (value_at h columns draft_block)).rows ≡ (size_at h draft_block).pairs
   unfolding value_at
-  draft_length =
+  draft_length slot =
       let v = value_at h columns draft_block in
       rows_length (size_at h draft_block).pairs v.from v.to (omega (arith, H.few, draft_from)) (omega (arith, H.few, draft_to))

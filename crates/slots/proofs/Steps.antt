@@ -4,11 +4,12 @@ use Prim.Native.Nat.{ℕ, zero, suc, ◌<◌}
 use mathlib.Core.Path.{◌≡◌, refl, sym, ◌∙◌, ap, ap₂, subst}
 use mathlib.Core.Bool.{Bool, true, false, ◌&&◌, not}
 use mathlib.Core.List.{List, map, Memᴰ}
-use mathlib.Core.Option.{Option, none, some}
+use mathlib.Core.Option.{Option, none}
+use Rattle.std.specs.Prelude.{is_some, Result, Ok, Err}
 use Rattle.higman.specs.Bases.{all}
 use Rattle.higman.specs.Limits.{slot_count}
 use Rattle.higman.specs.Listing.{is_slot, slot_number}
-use Rattle.higman.specs.Refusals.{wrong_state, slot_outside, count_full, station_outside, right_missing, Letter, letter_byte}
+use Rattle.higman.specs.Refusals.{wrong_state, slot_outside, count_full, station_outside, right_missing, Letter}
 use Rattle.higman.specs.Buffers.{written}
 use Rattle.higman.proofs.Tests.{T_of, so, all_at}
 use Rattle.words.proofs.Checks.{check_map, check_append}
@@ -20,11 +21,14 @@ use Rattle.desk.specs.Replies.{open_amiss, no_station, outside, may_use, denied,
 use Rattle.desk.proofs.Outcomes.{passed, admitted}
 use Rattle.desk.proofs.Stays.{operation_stays, slot_below as below}
 use Rattle.slots.specs.declared.Head.{Head}
+use Rattle.operations.specs.declared.refusals.Refusal.TheVariants as The
+use Rattle.operations.specs.Refusals.{number_of}
 use Rattle.slots.specs.declared.Reply.{Reply}
-use Rattle.slots.specs.declared.Reply.TheVariants.{Refused, RefusedIn}
+use Rattle.slots.specs.declared.Refused.{Refused}
 use Rattle.slots.specs.declared.Work.{Work}
 use Rattle.slots.specs.Desks.{desk_of, HoldsDesk, allowed_in}
-use Rattle.slots.specs.Works.{uses_of, AdmittedAs, refusing, refusing_in, direct, told, reply_to, desk_after, DoneBy, Done, ToldBy, Tells}
+use Rattle.slots.specs.Refused.{refusing, letter_of, outcome_of}
+use Rattle.slots.specs.Works.{uses_of, AdmittedAs, direct, told, reply_to, reply_in, head_after, desk_after, DoneBy, Done, ToldBy, Tells}
 use Rattle.slots.proofs.Held.{open_is}
 
 module _ (d : Desk) (r : Record) where
@@ -46,10 +50,10 @@ module _ (d : Desk) (r : Record) where
     at_end e j l = rw (a, j, l) refl
 
 -- whether the state is amiss for a record, by the head
-pub amiss_closed : (h : Head) (columns : List ℕ) (r : Record) → needs_open r ≡ false → open_amiss (desk_of h columns) r ≡ h.is_open
+pub amiss_closed : (h : Head) (columns : List ℕ) (r : Record) → needs_open r ≡ false → open_amiss (desk_of h columns) r ≡ is_some h.draft
 amiss_closed h columns r e = rw (open_amiss, e) (open_is h columns)
 
-pub amiss_open : (h : Head) (columns : List ℕ) (r : Record) → needs_open r ≡ true → open_amiss (desk_of h columns) r ≡ not h.is_open
+pub amiss_open : (h : Head) (columns : List ℕ) (r : Record) → needs_open r ≡ true → open_amiss (desk_of h columns) r ≡ not (is_some h.draft)
 amiss_open h columns r e = rw (open_amiss, e) (ap not (open_is h columns))
 
 -- the tests that all records have in common, by what they find
@@ -68,7 +72,7 @@ module _ (h : Head) (columns : List ℕ) (r : Record) where
       ∙ ap (tests b s c) a
 
   -- of a record of some slots
-  admission_is : (us : List SlotUse) (change : Bool) → kind r ≡ of_slots us change → {b c m : Bool} → h.is_open ≡ b → outside us ≡ c
+  admission_is : (us : List SlotUse) (change : Bool) → kind r ≡ of_slots us change → {b c m : Bool} → is_some h.draft ≡ b → outside us ≡ c
       → denied (desk_of h columns) us ≡ m → admission (desk_of h columns) r ≡ tests b false c m
   admission_is us change k o s a =
       tested (amiss_closed h columns r (ap (λ (z : Kind). z.open_plan) k) ∙ o) (ap no_station (ap (λ (z : Kind). z.stations) k))
@@ -76,16 +80,16 @@ module _ (h : Head) (columns : List ℕ) (r : Record) where
 
   -- and of one of the open plan
   module _ (change : Bool) (k : kind r ≡ of_open_plan change) where
-    plan_tested : {b : Bool} → h.is_open ≡ b → admission (desk_of h columns) r ≡ tests (not b) false false false
+    plan_tested : {b : Bool} → is_some h.draft ≡ b → admission (desk_of h columns) r ≡ tests (not b) false false false
     plan_tested o =
         tested (amiss_open h columns r (ap (λ (z : Kind). z.open_plan) k) ∙ ap not o) (ap no_station (ap (λ (z : Kind). z.stations) k))
         (ap outside (ap (λ (z : Kind). z.slots) k)) (ap (denied (desk_of h columns)) (ap (λ (z : Kind). z.slots) k))
 
-    pub no_plan_open : h.is_open ≡ false → admission (desk_of h columns) r ≡ refuse wrong_state none
+    pub no_plan_open : is_some h.draft ≡ false → admission (desk_of h columns) r ≡ refuse wrong_state none
     unfolding ◌>>=◌
     no_plan_open o = plan_tested o
 
-    pub plan_open : h.is_open ≡ true → admission (desk_of h columns) r ≡ pass tt
+    pub plan_open : is_some h.draft ≡ true → admission (desk_of h columns) r ≡ pass tt
     unfolding ◌>>=◌
     plan_open o = plan_tested o
 
@@ -108,26 +112,26 @@ denied_uses h columns reads targets e f =
     ∙ ap₂ ◌&&◌ (check_map may reading reads ∙ e) (check_map may writing targets ∙ f))
 
 -- what a head says to every record of these slots
-pub admission_open : (h : Head) (reads targets : List ℕ) → h.is_open ≡ true → AdmittedAs h reads targets wrong_state
+pub admission_open : (h : Head) (reads targets : List ℕ) → is_some h.draft ≡ true → AdmittedAs h reads targets (refusing The.WrongState)
 unfolding ◌>>=◌
 admission_open h reads targets o = λ r change columns k. admission_is h columns r (uses_of reads targets) change k o refl refl
 
-module _ (h : Head) (reads targets : List ℕ) (o : h.is_open ≡ false) where
+module _ (h : Head) (reads targets : List ℕ) (o : is_some h.draft ≡ false) where
   pub admission_outside : {b c : Bool} → all is_slot reads ≡ b → all is_slot targets ≡ c → (b && c) ≡ false
-      → AdmittedAs h reads targets slot_outside
+      → AdmittedAs h reads targets (refusing The.SlotOutside)
   unfolding ◌>>=◌
   admission_outside e f n =
       λ r change columns k. admission_is h columns r (uses_of reads targets) change k o (outside_uses reads targets e f ∙ ap not n) refl
 
   module _ (e : all is_slot reads ≡ true) (f : all is_slot targets ≡ true) where
     pub admission_denied : {b c : Bool} → allowed_in h.control 1 reads ≡ b → allowed_in h.control 2 targets ≡ c → (b && c) ≡ false
-        → AdmittedAs h reads targets right_missing
+        → AdmittedAs h reads targets (refusing The.RightMissing)
     unfolding ◌>>=◌
     admission_denied a m n =
         λ r change columns k. admission_is h columns r (uses_of reads targets) change k o (outside_uses reads targets e f)
         (denied_uses h columns reads targets a m ∙ ap not n)
 
-    pub admission_passed : allowed_in h.control 1 reads ≡ true → allowed_in h.control 2 targets ≡ true → AdmittedAs h reads targets 0
+    pub admission_passed : allowed_in h.control 1 reads ≡ true → allowed_in h.control 2 targets ≡ true → AdmittedAs h reads targets (Ok tt)
     unfolding ◌>>=◌
     admission_passed a m =
         λ r change columns k. admission_is h columns r (uses_of reads targets) change k o (outside_uses reads targets e f)
@@ -143,81 +147,84 @@ admitted_named d r a u m =
     so (is_slot u.slot) (all_at (λ (u : SlotUse). is_slot u.slot) (slots_named r) (passed (admitted d r) tt a).slots_named_fact u m)
 
 -- a refusal leaves the desk as it is, whatever it is that is refused
-pub told_refusal : (d : Desk) (o : Outcome Effect) (n : ℕ) (c : Option Letter) → o ≡ refuse n c → (out : List ℕ)
-    → ToldBy d o out (told (refuses n c)) out
-told_refusal d o n c e out =
+pub told_refusal : (d : Desk) (o : Outcome Effect) (f : Refused) → o ≡ outcome_of (Err f) → (out : List ℕ) (p : Result Reply Refused)
+    → p ≡ Err f → ToldBy d o out p out
+told_refusal d o f e out p q =
     record {
       desk = ap (desk_after d) e;
-      reply = ap (λ x. told (reply_to x)) (sym e);
+      reply = ap outcome_of q ∙ ap (λ x. told (reply_to x)) (sym e);
       output = ap (λ x. written out 0 (direct (reply_to x))) (sym e);
     }
 
--- what is told of a desk is done where the head and the columns are left as they are
-pub done_telling : (h : Head) (columns : List ℕ) → HoldsDesk h columns → (o : Outcome Effect) (out : List ℕ) (reply : Reply) (out' : List ℕ)
-    → ToldBy (desk_of h columns) o out reply out' → (w : Work) → w ≡ record { head = h; reply = reply }
-    → DoneBy (desk_of h columns) o out w columns out'
-done_telling h columns H o out reply out' t w q =
-    subst (λ x. DoneBy (desk_of h columns) o out x columns out') (sym q)
+-- and its head and columns
+pub done_refusal : (h : Head) (columns : List ℕ) → HoldsDesk h columns → (o : Outcome Effect) (f : Refused) → o ≡ outcome_of (Err f)
+    → (out : List ℕ) (w : Result Work Refused) → w ≡ Err f → DoneBy (desk_of h columns) o out h w columns out
+done_refusal h columns H o f e out w q =
+    let t = told_refusal (desk_of h columns) o f e out (Err f) refl in
+    subst (λ x. DoneBy (desk_of h columns) o out h x columns out) (sym q)
     (record { holds = H; desk = sym t.desk; reply = t.reply; output = t.output })
 
-pub done_told : (h : Head) (columns : List ℕ) → HoldsDesk h columns → (r : Record) (out : List ℕ) (reply : Reply) (out' : List ℕ)
-    → Tells r h columns out reply out' → Done r h columns out (record { head = h; reply = reply }) columns out'
-done_told h columns H r out reply out' t = done_telling h columns H (operation (desk_of h columns) r) out reply out' t _ refl
+-- what is told of a desk is done where the head and the columns are left as they are
+pub done_told : (h : Head) (columns : List ℕ) → HoldsDesk h columns → (o : Outcome Effect) (out : List ℕ) (p : Result Reply Refused)
+    (out' : List ℕ) → ToldBy (desk_of h columns) o out p out' → (w : Result Work Refused) → head_after h w ≡ h → reply_in w ≡ p
+    → DoneBy (desk_of h columns) o out h w columns out'
+done_told h columns H o out p out' t w e q =
+    record {
+      holds = subst (λ x. HoldsDesk x columns) (sym e) H;
+      desk = ap (λ x. desk_of x columns) e ∙ sym t.desk;
+      reply = ap outcome_of q ∙ t.reply;
+      output = t.output;
+    }
 
-pub done_by_refusal : (h : Head) (columns : List ℕ) → HoldsDesk h columns → (out : List ℕ) (n : ℕ) (w : Work) → w ≡ refusing h n
-    → DoneBy (desk_of h columns) (refuse n none) out w columns out
-done_by_refusal h columns H out n w q =
-    let o = refuse n none in
-    done_telling h columns H o out (Refused n) out (told_refusal (desk_of h columns) o n none refl out) w q
+-- with what a record is refused: by the tests that all records have in common, and by its own
+module _ (d : Desk) (r : Record) where
+  pub operation_admission : (f : Refused) → admission d r ≡ outcome_of (Err f) → operation d r ≡ outcome_of (Err f)
+  operation_admission f a = at_admission d r (number_of f.refusal) (letter_of f.column) a
 
--- what is told where a record is refused: by the tests that all records have in common, and by its own
+  pub operation_job : admission d r ≡ pass tt → (f : Refused) → job d r ≡ outcome_of (Err f) → operation d r ≡ outcome_of (Err f)
+  operation_job a f j = at_job d r a (number_of f.refusal) (letter_of f.column) j
+
+-- what is told where a record is refused
 module _ (h : Head) (columns : List ℕ) (r : Record) (out : List ℕ) where
   abbrev d : Desk
   d = desk_of h columns
 
-  pub tells_admission : (n : ℕ) → admission d r ≡ refuse n none → Tells r h columns out (Refused n) out
-  tells_admission n a = told_refusal d (operation d r) n none (at_admission d r n none a) out
+  pub tells_admission : (f : Refused) → admission d r ≡ outcome_of (Err f) → (p : Result Reply Refused) → p ≡ Err f → Tells r h columns out p out
+  tells_admission f a p q = told_refusal d (operation d r) f (operation_admission d r f a) out p q
 
-  pub tells_by : (reads targets : List ℕ) (change : Bool) → kind r ≡ of_slots (uses_of reads targets) change → (n : ℕ)
-      → AdmittedAs h reads targets n → (n ≡ 0 → ⊥) → Tells r h columns out (Refused n) out
-  tells_by reads targets change k zero a z = absurd (z refl)
-  tells_by reads targets change k (suc n) a z = tells_admission (suc n) (a r change columns k)
+  pub tells_by : (reads targets : List ℕ) (change : Bool) → kind r ≡ of_slots (uses_of reads targets) change → (f : Refused)
+      → AdmittedAs h reads targets (Err f) → (p : Result Reply Refused) → p ≡ Err f → Tells r h columns out p out
+  tells_by reads targets change k f a p q = tells_admission f (a r change columns k) p q
 
-  pub tells_job : admission d r ≡ pass tt → (n : ℕ) (c : Option Letter) → job d r ≡ refuse n c
-      → Tells r h columns out (told (refuses n c)) out
-  tells_job a n c j = told_refusal d (operation d r) n c (at_job d r a n c j) out
+  pub tells_job : admission d r ≡ pass tt → (f : Refused) → job d r ≡ outcome_of (Err f) → (p : Result Reply Refused) → p ≡ Err f
+      → Tells r h columns out p out
+  tells_job a f j p q = told_refusal d (operation d r) f (operation_job d r a f j) out p q
 
 -- and what is done then
 module _ (h : Head) (columns : List ℕ) (H : HoldsDesk h columns) (r : Record) (out : List ℕ) where
   abbrev o : Outcome Effect
   o = operation (desk_of h columns) r
 
-  pub done_refused : (n : ℕ) → o ≡ refuse n none → (w : Work) → w ≡ refusing h n → Done r h columns out w columns out
-  done_refused n e w q = done_telling h columns H o out (Refused n) out (told_refusal (desk_of h columns) o n none e out) w q
+  pub done_refused : (f : Refused) → o ≡ outcome_of (Err f) → (w : Result Work Refused) → w ≡ Err f → Done r h columns out w columns out
+  done_refused f e w q = done_refusal h columns H o f e out w q
 
-  pub refused_admission : (n : ℕ) → admission (desk_of h columns) r ≡ refuse n none → (w : Work) → w ≡ refusing h n
+  pub refused_admission : (f : Refused) → admission (desk_of h columns) r ≡ outcome_of (Err f) → (w : Result Work Refused) → w ≡ Err f
       → Done r h columns out w columns out
-  refused_admission n a w q = done_telling h columns H o out (Refused n) out (tells_admission h columns r out n a) w q
+  refused_admission f a w q = done_refused f (operation_admission (desk_of h columns) r f a) w q
 
-  pub refused_by_lem : (reads targets : List ℕ) (change : Bool) → kind r ≡ of_slots (uses_of reads targets) change → (n : ℕ)
-      → AdmittedAs h reads targets n → (n ≡ 0 → ⊥) → (w : Work) → w ≡ refusing h n → Done r h columns out w columns out
-  refused_by_lem reads targets change k n a z w q =
-      done_telling h columns H o out (Refused n) out (tells_by h columns r out reads targets change k n a z) w q
+  pub refused_by : (reads targets : List ℕ) (change : Bool) → kind r ≡ of_slots (uses_of reads targets) change → (f : Refused)
+      → AdmittedAs h reads targets (Err f) → (w : Result Work Refused) → w ≡ Err f → Done r h columns out w columns out
+  refused_by reads targets change k f a w q = refused_admission f (a r change columns k) w q
 
-  pub refused_job : admission (desk_of h columns) r ≡ pass tt → (n : ℕ) → job (desk_of h columns) r ≡ refuse n none → (w : Work)
-      → w ≡ refusing h n → Done r h columns out w columns out
-  refused_job a n j w q = done_telling h columns H o out (Refused n) out (tells_job h columns r out a n none j) w q
-
-  -- one that names a column
-  pub refused_column : admission (desk_of h columns) r ≡ pass tt → (n : ℕ) (c : Letter) → job (desk_of h columns) r ≡ refuse n (some c)
-      → (w : Work) → w ≡ refusing_in h n c → Done r h columns out w columns out
-  refused_column a n c j w q =
-      done_telling h columns H o out (RefusedIn n (letter_byte c)) out (tells_job h columns r out a n (some c) j) w q
+  -- also where it names a column
+  pub refused_job : admission (desk_of h columns) r ≡ pass tt → (f : Refused) → job (desk_of h columns) r ≡ outcome_of (Err f)
+      → (w : Result Work Refused) → w ≡ Err f → Done r h columns out w columns out
+  refused_job a f j w q = done_refused f (operation_job (desk_of h columns) r a f j) w q
 
   -- an operation that is done
   pub done_passed : (e : Effect) → o ≡ pass e → (w : Work) (columns' out' : List ℕ)
-      → (IsDesk e.0 → HoldsDesk w.head columns') → desk_of w.head columns' ≡ e.0 → w.reply ≡ told e.1
-      → out' ≡ written out 0 (direct e.1) → Done r h columns out w columns' out'
+      → (IsDesk e.0 → HoldsDesk w.head columns') → desk_of w.head columns' ≡ e.0 → pass w.reply ≡ told e.1
+      → out' ≡ written out 0 (direct e.1) → Done r h columns out (Ok w) columns' out'
   done_passed e p w columns' out' holds same reply output =
       record {
         holds = holds (passed (operation_stays (desk_of h columns) H.is_desk_lem r) e p);

@@ -1,5 +1,5 @@
 -- The blocks of the columns: what stands in one, and the columns with another plan in one.
-use Rattle.std.specs.Prelude.{ℕ, ◌+◌, ◌*◌, ◌-◌, ◌<◌, ◌≡◌, false, List, length, get_or, set, take, drop}
+use Rattle.std.specs.Prelude.{ℕ, ◌+◌, ◌*◌, ◌-◌, ◌<◌, ◌≡◌, None, List, length, get_or, set, take, drop}
 use Rattle.higman.specs.Limits.{max_pairs}
 use Rattle.higman.specs.Buffers.{written}
 use Rattle.operations.specs.declared.Plan.{Plan}
@@ -77,7 +77,6 @@ unfoldable pub filled_head : Head → ℕ → Plan → Head
 filled_head h i p =
     record {
       sizes = set h.sizes i (size_of p);
-      is_open = false;
-      slot = h.slot;
+      draft = None;
       control = noted_in h.control (size_at h i).pairs p.pairs;
     }

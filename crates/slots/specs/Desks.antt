@@ -1,5 +1,5 @@
 -- The desk that a head and its columns hold, and what it is for them to hold one. Read Works.antt next.
-use Rattle.std.specs.Prelude.{ℕ, ◌+◌, ◌≤◌, ◌<◌, ◌≡◌, refl, Bool, true, false, List, [], ◌∷◌, ◌++◌, map, T, leb, eqb, length, replicate}
+use Rattle.std.specs.Prelude.{ℕ, ◌+◌, ◌≤◌, ◌<◌, ◌≡◌, refl, Bool, true, false, List, [], ◌∷◌, ◌++◌, map, T, leb, eqb, length, replicate, Some, None}
 use Rattle.std.proofs.Math.Option.{Option, none, some}
 use Rattle.higman.specs.Words.{count}
 use Rattle.higman.specs.Tables.{row}
@@ -35,7 +35,7 @@ abbrev pub draft_in : ℕ → Plan → Draft
 draft_in slot v = record { slot = slot; shape = shape_of v; rows = rows_of v }
 
 abbrev pub draft_of : Head → List ℕ → Option Draft
-draft_of h columns = elim h.is_open [ true ↦ some (draft_in h.slot (value_at h columns draft_block)) | false ↦ none ]
+draft_of h columns = elim h.draft [ None ↦ none | Some slot ↦ some (draft_in slot (value_at h columns draft_block)) ]
 
 -- what a desk keeps beside its plans
 abbrev pub control_of : Control → ControlOf
@@ -98,8 +98,7 @@ abbrev held_head : Head
 held_head =
     record {
       sizes = record { arity = 2; roots = 1; pairs = 2 } ∷ replicate 8 no_size;
-      is_open = false;
-      slot = 0;
+      draft = None;
       control = record { station = 0; changes = 1 ∷ replicate 7 0; rights = replicate 7 0xAAAA; pairs = 2 };
     }
 

@@ -1,12 +1,12 @@
 -- What a record does to a head and its columns, and its reply: `operation` of desk's Replies.antt, through the desk that they hold. The
 -- reply is told by a value, and written later, but for an image, a block, a listing and a survey, which are written where they are found.
-use Rattle.std.specs.Prelude.{ℕ, zero, suc, ◌<◌, ◌≡◌, refl, Bool, true, List, [], ◌∷◌, ◌++◌, map, length}
+use Rattle.std.specs.Prelude.{ℕ, ◌<◌, ◌≡◌, refl, Bool, true, List, [], ◌∷◌, ◌++◌, map, length, Result, Ok, Err}
 use Rattle.std.proofs.Math.Option.{none, some}
 use Rattle.higman.specs.Limits.{Plan, Kept, slot_count}
 use Rattle.higman.specs.Answers.{Answer, Granted}
 use Rattle.higman.specs.Words.{spell}
 use Rattle.higman.specs.Text.{Bytes, bytes}
-use Rattle.higman.specs.Refusals.{Letter, letter_byte}
+use Rattle.higman.specs.Refusals.{Letter}
 use Rattle.higman.specs.Buffers.{written}
 use Rattle.desk.specs.Desk.{Desk}
 use Rattle.desk.specs.Records.{Record, SlotUse, reading, writing, kind, of_slots, is_change}
@@ -18,9 +18,11 @@ use Rattle.operations.specs.declared.Making.{Making}
 use Rattle.operations.specs.Answers.{making}
 use Rattle.slots.specs.declared.Head.{Head}
 use Rattle.slots.specs.declared.Reply.{Reply}
-use Rattle.slots.specs.declared.Reply.TheVariants.{Silent, Ok, Number, Written, Refused, RefusedIn}
+use Rattle.slots.specs.declared.Reply.TheVariants as The
+use Rattle.slots.specs.declared.Refused.{Refused}
 use Rattle.slots.specs.declared.Work.{Work}
 use Rattle.slots.specs.Desks.{desk_of, HoldsDesk}
+use Rattle.slots.specs.Refused.{outcome_of}
 
 -- the bytes of a reply that a work writes itself
 abbrev pub direct : ReplyOf → Bytes
@@ -33,25 +35,16 @@ direct (lists slot p) = reply_bytes (lists slot p)
 direct (surveys hs) = reply_bytes (surveys hs)
 direct (refuses n c) = []
 
--- the value by which a reply is told
-abbrev pub told : ReplyOf → Reply
-told silent = Silent
-told ok = Ok
-told (ok_number n) = Number n
-told (ok_image w k) = Written (length (direct (ok_image w k)))
-told (ok_block ls) = Written (length (direct (ok_block ls)))
-told (lists slot p) = Written (length (direct (lists slot p)))
-told (surveys hs) = Written (length (direct (surveys hs)))
-told (refuses n none) = Refused n
-told (refuses n (some c)) = RefusedIn n (letter_byte c)
-
--- a record that is refused
-abbrev pub refusing : Head → ℕ → Work
-refusing h n = record { head = h; reply = Refused n }
-
--- the same for a column
-abbrev pub refusing_in : Head → ℕ → Letter → Work
-refusing_in h n c = record { head = h; reply = RefusedIn n (letter_byte c) }
+-- the value by which a reply is told, unless it refuses
+abbrev pub told : ReplyOf → Outcome Reply
+told silent = pass The.Silent
+told ok = pass The.Ok
+told (ok_number n) = pass (The.Number n)
+told (ok_image w k) = pass (The.Written (length (direct (ok_image w k))))
+told (ok_block ls) = pass (The.Written (length (direct (ok_block ls))))
+told (lists slot p) = pass (The.Written (length (direct (lists slot p))))
+told (surveys hs) = pass (The.Written (length (direct (surveys hs))))
+told (refuses n c) = refuse n c
 
 -- what comes of an operation before a refusal has dropped the open plan
 abbrev pub desk_after : Desk → Outcome Effect → Desk
@@ -62,43 +55,52 @@ abbrev pub reply_to : Outcome Effect → ReplyOf
 reply_to (refuse n c) = refuses n c
 reply_to (pass e) = e.1
 
+-- the head after a record, which a refusal leaves as it was, and the reply
+abbrev pub head_after : Head → Result Work Refused → Head
+head_after h (Ok w) = w.head
+head_after h (Err f) = h
+
+abbrev pub reply_in : Result Work Refused → Result Reply Refused
+reply_in (Ok w) = Ok w.reply
+reply_in (Err f) = Err f
+
 -- A work well done: what comes of an operation on a desk is held by the head and columns that it leaves, told by its reply and, where the
 -- reply is written at once, at the front of the output.
-pub record DoneBy (d : Desk) (o : Outcome Effect) (out : List ℕ) (w : Work) (columns' out' : List ℕ) : Type 0 where
-  pub holds : HoldsDesk w.head columns'
-  pub desk : desk_of w.head columns' ≡ desk_after d o
-  pub reply : w.reply ≡ told (reply_to o)
+pub record DoneBy (d : Desk) (o : Outcome Effect) (out : List ℕ) (h : Head) (w : Result Work Refused) (columns' out' : List ℕ) : Type 0 where
+  pub holds : HoldsDesk (head_after h w) columns'
+  pub desk : desk_of (head_after h w) columns' ≡ desk_after d o
+  pub reply : outcome_of (reply_in w) ≡ told (reply_to o)
   pub output : out' ≡ written out 0 (direct (reply_to o))
 
 -- the same for a record on the desk that a head and its columns hold
-abbrev pub Done : Record → Head → List ℕ → List ℕ → Work → List ℕ → List ℕ → Type 0
-Done r h columns out w columns' out' = DoneBy (desk_of h columns) (operation (desk_of h columns) r) out w columns' out'
+abbrev pub Done : Record → Head → List ℕ → List ℕ → Result Work Refused → List ℕ → List ℕ → Type 0
+Done r h columns out w columns' out' = DoneBy (desk_of h columns) (operation (desk_of h columns) r) out h w columns' out'
 
 -- a work that only the head is needed for: it is well done whatever the columns are, and leaves them and the output as they are
-abbrev pub DoneByHead : Record → Head → Work → Type 0
+abbrev pub DoneByHead : Record → Head → Result Work Refused → Type 0
 DoneByHead r h w = (columns out : List ℕ) → HoldsDesk h columns → Done r h columns out w columns out
 
 -- a work that writes no output
-abbrev pub DoneSilently : Record → Head → List ℕ → Work → List ℕ → Type 0
+abbrev pub DoneSilently : Record → Head → List ℕ → Result Work Refused → List ℕ → Type 0
 DoneSilently r h columns w columns' = (out : List ℕ) → Done r h columns out w columns' out
 
 -- A question well answered: what comes of an operation on a desk leaves the desk as it is, and is told by a reply and, where that is
 -- written at once, at the front of the output.
-pub record ToldBy (d : Desk) (o : Outcome Effect) (out : List ℕ) (p : Reply) (out' : List ℕ) : Type 0 where
+pub record ToldBy (d : Desk) (o : Outcome Effect) (out : List ℕ) (p : Result Reply Refused) (out' : List ℕ) : Type 0 where
   pub desk : desk_after d o ≡ d
-  pub reply : p ≡ told (reply_to o)
+  pub reply : outcome_of p ≡ told (reply_to o)
   pub output : out' ≡ written out 0 (direct (reply_to o))
 
 -- the same for a record on the desk that a head and its columns hold
-abbrev pub Tells : Record → Head → List ℕ → List ℕ → Reply → List ℕ → Type 0
+abbrev pub Tells : Record → Head → List ℕ → List ℕ → Result Reply Refused → List ℕ → Type 0
 Tells r h columns out reply out' = ToldBy (desk_of h columns) (operation (desk_of h columns) r) out reply out'
 
 -- a reply that writes no output
-abbrev pub TellsSilently : Record → Head → List ℕ → Reply → Type 0
+abbrev pub TellsSilently : Record → Head → List ℕ → Result Reply Refused → Type 0
 TellsSilently r h columns reply = (out : List ℕ) → Tells r h columns out reply out
 
 -- and one that only the head is needed for
-abbrev pub TellsByHead : Record → Head → Reply → Type 0
+abbrev pub TellsByHead : Record → Head → Result Reply Refused → Type 0
 TellsByHead r h reply = (columns : List ℕ) → TellsSilently r h columns reply
 
 -- an answer about plans, and the value that tells it
@@ -110,20 +112,15 @@ pub record Makes (made : Making) (answer : Answer) : Type 0 where
 abbrev pub uses_of : List ℕ → List ℕ → List SlotUse
 uses_of reads targets = map reading reads ++ map writing targets
 
--- the tests that all records have in common, told by the number of the refusal, or 0
-abbrev pub admitted_by : ℕ → Outcome (Unit {0})
-admitted_by zero = pass tt
-admitted_by (suc n) = refuse (suc n) none
-
 -- a head of some desk in code, whatever its columns are
 abbrev pub HeadOfDesk : Head → Type 0
 HeadOfDesk h = (columns : List ℕ) × HoldsDesk h columns
 
 -- what a head says to every record of these slots, whatever the columns are
-abbrev pub AdmittedAs : Head → List ℕ → List ℕ → ℕ → Type 0
-AdmittedAs h reads targets n =
+abbrev pub AdmittedAs : Head → List ℕ → List ℕ → Result (Unit {0}) Refused → Type 0
+AdmittedAs h reads targets admitted =
     (r : Record) (change : Bool) (columns : List ℕ) → kind r ≡ of_slots (uses_of reads targets) change
-    → admission (desk_of h columns) r ≡ admitted_by n
+    → admission (desk_of h columns) r ≡ outcome_of admitted
 
 -- a record whose job is to keep an answer in a slot, behind the tests that all records have in common
 pub record ToKeep (r : Record) (d : Desk) (i : ℕ) (answer : Answer) : Type 0 where
@@ -139,13 +136,13 @@ pub record Keepable (h : Head) (columns : List ℕ) (i : ℕ) (made : Making) : 
   pub makes : Makes made answer
 
 -- whatever record asks for it
-abbrev pub DoneKeeping : Head → ℕ → Making → List ℕ → Work → List ℕ → Type 0
+abbrev pub DoneKeeping : Head → ℕ → Making → List ℕ → Result Work Refused → List ℕ → Type 0
 DoneKeeping h i made columns w columns' =
     (r : Record) (answer : Answer) → Makes made answer → ToKeep r (desk_of h columns) i answer → DoneSilently r h columns w columns'
 
 -- a reply by its form; "ok⇥12⇥1" and byte 10 are eight bytes
 told_example : map told (silent ∷ ok_number 3 ∷ ok_image (spell 12) 1 ∷ refuses 9 none ∷ refuses 7 (some Letter.T) ∷ [])
-    ≡ Silent ∷ Number 3 ∷ Written 8 ∷ Refused 9 ∷ RefusedIn 7 84 ∷ []
+    ≡ pass The.Silent ∷ pass (The.Number 3) ∷ pass (The.Written 8) ∷ refuse 9 none ∷ refuse 7 (some Letter.T) ∷ []
 unfolding reply_bytes
 told_example = refl
 

@@ -8,12 +8,12 @@ ghost use Rattle.higman.specs.Bases.{all};
 ghost use Rattle.desk.specs.Desk.{fresh_control, count_in, right_of, IsControl};
 ghost use Rattle.slots.specs.Blocks.{noted_in, named_in, given_in};
 ghost use Rattle.slots.specs.Desks.{control_of, full_in, Countable, RightAsked, RightGiven, RightsAsked, allowed_in};
-ghost use Rattle.slots.specs.Works.{HeadOfDesk, AdmittedAs, refusing};
+ghost use Rattle.slots.specs.Works.{HeadOfDesk, AdmittedAs};
 
 use operations::listing;
+use operations::refusals::Refusal;
 
 pub mod blocks;
-pub mod numbers;
 pub mod rights;
 
 // The words of a block: a column of from-words and a column of to-words.
@@ -56,13 +56,11 @@ pub struct Control {
     pub pairs: u16,
 }
 
-// What is known of a desk beside its words: the sizes of the blocks, whether a plan is open and for which slot, and what it keeps beside
-// its plans.
+// What is known of a desk beside its words: the sizes of the blocks, the slot for which a plan is open, and what it keeps beside its plans.
 #[derive(Clone, Copy)]
 pub struct Head {
     pub sizes: [Size; BLOCKS],
-    pub is_open: bool,
-    pub slot: u8,
+    pub draft: Option<u8>,
     pub control: Control,
 }
 
@@ -73,7 +71,7 @@ pub struct Desk {
     pub columns: [u64; COLUMNS],
 }
 
-// The reply to a record, by the form of its line.
+// The reply to a record that is done, by the form of its line.
 #[derive(Clone, Copy)]
 pub enum Reply {
     // "Neither replies when accepted"
@@ -84,13 +82,36 @@ pub enum Reply {
     Number(u32),
     // so many bytes stand at the front of the output already: an image, a block, a listing or a survey
     Written(usize),
-    // `no⇥` and the number
-    Refused(u8),
-    // the same, with the letter of a column
-    RefusedIn(u8, u8),
 }
 
-// What comes of a record: the head, and the reply.
+// The column of a plan that a refusal names.
+#[derive(Clone, Copy, PartialEq, Eq)]
+pub enum Column {
+    From,
+    To,
+}
+
+// Why a record is refused: `no⇥` and the number, with the letter of a column where the refusal names one.
+#[derive(Clone, Copy, PartialEq, Eq)]
+pub struct Refused {
+    pub refusal: Refusal,
+    pub column: Option<Column>,
+}
+
+impl From<Refusal> for Refused {
+    ghost use Rattle.slots.specs.Refused.{refused_for};
+
+    ghost from_gives = { λ refusal refused. refused ≡ refused_for refusal };
+
+    fn from(refusal: Refusal) -> Refused {
+        Refused {
+            refusal: refusal,
+            column: None,
+        }
+    }
+}
+
+// What comes of a record that is done: the head, and the reply.
 #[derive(Drop)]
 pub struct Work {
     pub head: Head,
@@ -208,29 +229,28 @@ fn are_slots(names: &[u8]) -> bool
     true
 }
 
-// What all records of slots have in common, by the slots that one reads and those that are its targets: 2, 8, 20. The number of the
-// refusal, or 0.
-pub fn admission(head: Head, reads: &[u8], targets: &[u8]) -> u8
+// What all records of slots have in common, by the slots that one reads and those that are its targets: 2, 8, 20.
+pub fn admission(head: Head, reads: &[u8], targets: &[u8]) -> Result<(), Refused>
     requires { HeadOfDesk head }
     ensures { AdmittedAs head reads.now targets.now result }
 {
-    if head.is_open {
-        return numbers::WRONG_STATE;
+    if head.draft.is_some() {
+        return Err(Refusal::WrongState.into());
     }
     if !are_slots(reads) {
-        return operations::numbers::SLOT_OUTSIDE;
+        return Err(Refusal::SlotOutside.into());
     }
     if !are_slots(targets) {
-        return operations::numbers::SLOT_OUTSIDE;
+        return Err(Refusal::SlotOutside.into());
     }
     let control = head.control;
     if !are_allowed(control, reads, rights::READ) {
-        return numbers::RIGHT_MISSING;
+        return Err(Refusal::RightMissing.into());
     }
     if !are_allowed(control, targets, rights::WRITE) {
-        return numbers::RIGHT_MISSING;
+        return Err(Refusal::RightMissing.into());
     }
-    0
+    Ok(())
 }
 
 // The slot that a byte names, from 0 for A.
@@ -239,14 +259,4 @@ pub fn slot_number(slot: u8) -> usize
     ensures { result ≡ slot_number slot }
 {
     (slot - b'A') as usize
-}
-
-// A record that is refused, before the refusal has dropped the open plan.
-pub fn refused(head: Head, number: u8) -> Work
-    ensures { result ≡ refusing head number }
-{
-    Work {
-        head: head,
-        reply: Reply::Refused(number),
-    }
 }
