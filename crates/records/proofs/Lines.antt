@@ -16,7 +16,7 @@ use Rattle.higman.proofs.Tests.{passes}
 use Rattle.desk.specs.Limits.{max_line}
 use Rattle.desk.specs.Records.{Record, E, T, U, H, Rule, in_front, fields, grammar, no_more, read_by, read_fields, parse}
 use Rattle.desk.specs.Replies.{Outcome, refuse, pass}
-use Rattle.records.specs.declared.Record.TheVariants.{NoRecord}
+use Rattle.std.specs.Prelude.{None}
 use Rattle.records.specs.Reading.{placed_by, read_line}
 use Rattle.records.specs.Fields.{placed_if, alone, behind_letter}
 use Rattle.records.proofs.fields.Ends.{fields_some}
@@ -50,7 +50,7 @@ module _ (b : ℕ) (not-E : b ≡ byte "E" → ⊥) (not_T : b ≡ byte "T" → 
       nothing refl (nothing refl (other not-E (nothing refl (nothing refl (nothing refl (nothing refl (nothing refl
       (nothing refl (nothing refl (other not_T (other not-U (nothing refl (nothing refl (nothing refl (other not-H no_more_fact)))))))))))))))
 
-  pub other_alone : NoRecord ≡ alone b
+  pub other_alone : None ≡ alone b
   unfolding alone
   other_alone = sym (ap placed_if (none_read no_rule_alone))
 
@@ -80,7 +80,7 @@ module _ (b : ℕ) (o : OtherLetter b) (l : Bytes) where
       (other o.not_W (other o.not_L (other o.not_C (nothing (none_taken T l) (nothing (none_taken U l)
       (other o.not_X (other o.not_Z (other o.not_G (nothing (none_taken H l) no_more_fact)))))))))))))))
 
-  pub other_behind : NoRecord ≡ behind_letter b l
+  pub other_behind : None ≡ behind_letter b l
   unfolding behind_letter
   other_behind = sym (ap placed_if (none_read no_rule_behind))
 
@@ -88,7 +88,7 @@ module _ (b : ℕ) (o : OtherLetter b) (l : Bytes) where
 judged : Bool → Option Record → Outcome Record
 judged short o = elim short [ false ↦ refuse no_record none | true ↦ elim o [ none ↦ refuse no_record none | some r ↦ pass r ] ]
 
-pub read_too_long : (line : Bytes) → max_line < length line → NoRecord ≡ read_line line
+pub read_too_long : (line : Bytes) → max_line < length line → None ≡ read_line line
 unfolding read_line judged
 read_too_long line h = ap (λ t. placed_by (judged t (parse line))) (sym (lt-leb (length line) max_line h))
 

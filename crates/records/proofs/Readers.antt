@@ -15,6 +15,7 @@ use Rattle.desk.specs.Limits.{max_numeral, max_splits_numeral, max_seed_numeral}
 use Rattle.desk.specs.Records.{Right, right_number, Record, P, M, K, W, Z, G}
 use Rattle.desk.specs.Records.{Form, slot_field, any_field, number_field, signed_field, right_numbered, right_field, exercise_fields}
 use Rattle.desk.specs.Records.{fields, field, no_more, no_tab}
+use Rattle.std.specs.Prelude.{Some}
 use Rattle.records.specs.declared.Record.TheVariants.{Pair, Route, Grant}
 use Rattle.records.specs.Reading.{placed}
 use Rattle.records.specs.Fields.{single_then, single_last, singles, first_field, placed_if}
@@ -85,7 +86,7 @@ module _ (s a : ℕ) where
   granted_above (suc (suc zero)) h = absurd (omega arith)
   granted_above (suc (suc (suc n))) h = refl
 
-  granted_placed : (n : ℕ) → n ≤ 2 → Grant s a n ≡ placed_if (granted (right_numbered n))
+  granted_placed : (n : ℕ) → n ≤ 2 → Some (Grant s a n) ≡ placed_if (granted (right_numbered n))
   unfolding granted right_number
   granted_placed zero h = refl
   granted_placed (suc zero) h = refl
@@ -145,7 +146,7 @@ module _ (line : Bytes) (t : singles 3 (drop 2 line) ≡ true) where
       pub grant_above : 50 < get_or line 6 0 → as_grant ≡ none
       grant_above h = grant_numbered ∙ granted_above (get_or line 2 0 - 48) (get_or line 4 0) (get_or line 6 0 - 48) (omega arith)
 
-      pub grant_read : get_or line 6 0 ≤ 50 → Grant (get_or line 2 0 - 48) (get_or line 4 0) (get_or line 6 0 - 48) ≡ placed_if as_grant
+      pub grant_read : get_or line 6 0 ≤ 50 → Some (Grant (get_or line 2 0 - 48) (get_or line 4 0) (get_or line 6 0 - 48)) ≡ placed_if as_grant
       grant_read h =
           granted_placed (get_or line 2 0 - 48) (get_or line 4 0) (get_or line 6 0 - 48) (omega arith) ∙ sym (ap placed_if grant_numbered)
 

@@ -9,6 +9,7 @@ use native.Mathlib.Omega.{arith}
 use lib.Dec.{T, leb}
 use lib.ListN.{length, take, drop, length-append}
 use lib.Seq.{drop_at, take-append_seam, append_snoc}
+use Rattle.std.specs.Prelude.{IfSome}
 use Rattle.higman.specs.Bases.{all}
 use Rattle.higman.specs.Refusals.{no_record}
 use Rattle.higman.specs.Text.{Bytes, byte, tab, decimal}
@@ -20,7 +21,7 @@ use Rattle.desk.specs.Records.{no_tab, numbers_fit, has_digits, signed_decimal, 
 use Rattle.desk.specs.Replies.{Outcome, refuse, pass, record_of, grant_by}
 use Rattle.desk.proofs.NumberFields.{number_exact, signed_exact}
 use Rattle.desk.proofs.Grammar.{text_exact}
-use Rattle.records.specs.Reading.{part, placed, placed_by, read_line, bytes_of, meant, Within, InBounds, ReadExact}
+use Rattle.records.specs.Reading.{part, placed, placed_by, read_line, bytes_of, meant, meant_by, Within, InBounds, ReadExact}
 use Rattle.records.proofs.fields.Numbers.{number_below, signed_below}
 
 -- a word of a line, by what stands in front of it and behind it
@@ -151,13 +152,13 @@ module _ (line : Bytes) (Q : Outcome Record → Type 0) (refused : Q (refuse no_
   holds_of_line : Q (record_of line)
   holds_of_line = holds_of_length (leb (length line) max_line)
 
-read_means : (line : Bytes) → meant line (read_line line) ≡ record_of line
+read_means : (line : Bytes) → meant_by line (read_line line) ≡ record_of line
 unfolding read_line
-read_means line = holds_of_line line (λ o. meant line (placed_by o) ≡ o) refl (λ r h e. placed_means line r e)
+read_means line = holds_of_line line (λ o. meant_by line (placed_by o) ≡ o) refl (λ r h e. placed_means line r e)
 
-read_in_bounds : (line : Bytes) → InBounds line (read_line line)
+read_in_bounds : (line : Bytes) → IfSome (read_line line) (InBounds line)
 unfolding read_line
-read_in_bounds line = holds_of_line line (λ o. InBounds line (placed_by o)) tt (placed_in_bounds line)
+read_in_bounds line = holds_of_line line (λ o. IfSome (placed_by o) (InBounds line)) tt (placed_in_bounds line)
 
 pub read_exact : ReadExact
 read_exact = record { means = read_means; in_bounds = read_in_bounds }

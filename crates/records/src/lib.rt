@@ -8,10 +8,12 @@ ghost use Rattle.higman.specs.Text.{byte};
 ghost use Rattle.records.specs.Reading.{read_line};
 ghost use Rattle.records.specs.Fields.{alone, behind_letter, behind_shape};
 
+use std::ops::Range;
+
 mod fields;
 
 // `max_line`: the most bytes of a line.
-const MAX_LINE: usize = 1100;
+pub const MAX_LINE: usize = 1100;
 
 // Where the first field starts, behind the letter and a tab.
 const FIRST: usize = 2;
@@ -23,15 +25,8 @@ const THIRD: usize = 6;
 
 const FOURTH: usize = 8;
 
-// A part of the line, up to but not including its end.
-#[derive(Drop)]
-pub struct Part {
-    pub start: usize,
-    pub end: usize,
-}
-
 // A record, by its letter. A slot is the byte that names it, a word or code the part of the line that spells it.
-#[derive(Drop)]
+#[derive(Clone, PartialEq, Eq, Debug, Drop)]
 pub enum Record {
     // P⇥slot⇥n⇥r
     Open {
@@ -41,8 +36,8 @@ pub enum Record {
     },
     // M⇥from⇥to
     Pair {
-        from: Part,
-        to: Part,
+        from: Range<usize>,
+        to: Range<usize>,
     },
     // E
     Close,
@@ -71,7 +66,7 @@ pub enum Record {
     // W⇥a⇥code
     Route {
         a: u8,
-        code: Part,
+        code: Range<usize>,
     },
     // L⇥a
     List {
@@ -105,268 +100,257 @@ pub enum Record {
     },
     // H
     Sum,
-    // no record: refusal 1
-    NoRecord,
 }
 
 // A slot and two digits.
-fn read_open(line: &[u8]) -> Record
+fn read_open(line: &[u8]) -> Option<Record>
     ensures { result ≡ behind_letter (byte "P") (drop 2 line.now) }
 {
     if !fields::singles(line, FIRST, 3) {
-        return Record::NoRecord;
+        return None;
     }
     let arity = line[SECOND];
     let roots = line[THIRD];
     if !fields::is_numeral(arity) {
-        return Record::NoRecord;
+        return None;
     }
     if !fields::is_numeral(roots) {
-        return Record::NoRecord;
+        return None;
     }
-    Record::Open {
+    Some(Record::Open {
         slot: line[FIRST],
         arity: arity - b'0',
         roots: roots - b'0',
-    }
+    })
 }
 
 // A word up to the next tab, and one up to the end of the line.
-fn read_pair(line: &[u8]) -> Record
+fn read_pair(line: &[u8]) -> Option<Record>
     ensures { result ≡ behind_letter (byte "M") (drop 2 line.now) }
 {
     let middle = fields::field_end(line, FIRST);
     if line.len() <= middle {
-        return Record::NoRecord;
+        return None;
     }
     let behind = middle + 1;
     if !fields::no_tab(line, behind) {
-        return Record::NoRecord;
+        return None;
     }
-    Record::Pair {
-        from: Part {
-            start: FIRST,
-            end: middle,
-        },
-        to: Part {
-            start: behind,
-            end: line.len(),
-        },
-    }
+    Some(Record::Pair {
+        from: FIRST..middle,
+        to: behind..line.len(),
+    })
 }
 
 // Three slots.
-fn read_follow(line: &[u8]) -> Record
+fn read_follow(line: &[u8]) -> Option<Record>
     ensures { result ≡ behind_letter (byte "F") (drop 2 line.now) }
 {
     if !fields::singles(line, FIRST, 3) {
-        return Record::NoRecord;
+        return None;
     }
-    Record::Follow {
+    Some(Record::Follow {
         a: line[FIRST],
         b: line[SECOND],
         c: line[THIRD],
-    }
+    })
 }
 
 // Two slots.
-fn read_invert(line: &[u8]) -> Record
+fn read_invert(line: &[u8]) -> Option<Record>
     ensures { result ≡ behind_letter (byte "I") (drop 2 line.now) }
 {
     if !fields::singles(line, FIRST, 2) {
-        return Record::NoRecord;
+        return None;
     }
-    Record::Invert {
+    Some(Record::Invert {
         a: line[FIRST],
         c: line[SECOND],
-    }
+    })
 }
 
 // A slot, a number up to the next tab, and a slot behind it.
-fn read_power(line: &[u8]) -> Record
+fn read_power(line: &[u8]) -> Option<Record>
     ensures { result ≡ behind_letter (byte "K") (drop 2 line.now) }
 {
     if !fields::single_then(line, FIRST) {
-        return Record::NoRecord;
+        return None;
     }
     let end = fields::field_end(line, SECOND);
     if line.len() <= end {
-        return Record::NoRecord;
+        return None;
     }
     let behind = end + 1;
     if !fields::single_last(line, behind) {
-        return Record::NoRecord;
+        return None;
     }
     let fields::Whole::Number(k) = fields::signed(&line[SECOND..end]) else {
-        return Record::NoRecord;
+        return None;
     };
-    Record::Power {
+    Some(Record::Power {
         a: line[FIRST],
         k: k,
         c: line[behind],
-    }
+    })
 }
 
 // Two slots.
-fn read_same(line: &[u8]) -> Record
+fn read_same(line: &[u8]) -> Option<Record>
     ensures { result ≡ behind_letter (byte "S") (drop 2 line.now) }
 {
     if !fields::singles(line, FIRST, 2) {
-        return Record::NoRecord;
+        return None;
     }
-    Record::Same {
+    Some(Record::Same {
         a: line[FIRST],
         b: line[SECOND],
-    }
+    })
 }
 
 // A slot, and a code up to the end of the line.
-fn read_route(line: &[u8]) -> Record
+fn read_route(line: &[u8]) -> Option<Record>
     ensures { result ≡ behind_letter (byte "W") (drop 2 line.now) }
 {
     if !fields::single_then(line, FIRST) {
-        return Record::NoRecord;
+        return None;
     }
     if !fields::no_tab(line, SECOND) {
-        return Record::NoRecord;
+        return None;
     }
-    Record::Route {
+    Some(Record::Route {
         a: line[FIRST],
-        code: Part {
-            start: SECOND,
-            end: line.len(),
-        },
-    }
+        code: SECOND..line.len(),
+    })
 }
 
 // One slot.
-fn read_list(line: &[u8]) -> Record
+fn read_list(line: &[u8]) -> Option<Record>
     ensures { result ≡ behind_letter (byte "L") (drop 2 line.now) }
 {
     if !fields::singles(line, FIRST, 1) {
-        return Record::NoRecord;
+        return None;
     }
-    Record::List { a: line[FIRST] }
+    Some(Record::List { a: line[FIRST] })
 }
 
 // One slot.
-fn read_empty(line: &[u8]) -> Record
+fn read_empty(line: &[u8]) -> Option<Record>
     ensures { result ≡ behind_letter (byte "C") (drop 2 line.now) }
 {
     if !fields::singles(line, FIRST, 1) {
-        return Record::NoRecord;
+        return None;
     }
-    Record::Empty { a: line[FIRST] }
+    Some(Record::Empty { a: line[FIRST] })
 }
 
 // X behind its r: a number up to the next tab, and one up to the end of the line. A field with a tab in it is no number.
-fn read_splits_and_seed(line: &[u8], slot: u8, arity: u8, roots: u8) -> Record
+fn read_splits_and_seed(line: &[u8], slot: u8, arity: u8, roots: u8) -> Option<Record>
     ensures { result ≡ behind_shape slot arity roots (drop 8 line.now) }
 {
     let end = fields::field_end(line, FOURTH);
     if line.len() <= end {
-        return Record::NoRecord;
+        return None;
     }
     let fields::Natural::Number(splits) = fields::number(
         &line[FOURTH..end],
         fields::MAX_SPLITS_NUMERAL,
     ) else {
-        return Record::NoRecord;
+        return None;
     };
     let behind = end + 1;
     let fields::Natural::Number(seed) = fields::number(&line[behind..], fields::MAX_SEED_NUMERAL)
     else {
-        return Record::NoRecord;
+        return None;
     };
-    Record::Exercise {
+    Some(Record::Exercise {
         slot: slot,
         arity: arity,
         roots: roots,
         splits: splits as u8,
         seed: seed,
-    }
+    })
 }
 
 // A slot and two digits, each with a field behind it, and two numbers.
-fn read_exercise(line: &[u8]) -> Record
+fn read_exercise(line: &[u8]) -> Option<Record>
     ensures { result ≡ behind_letter (byte "X") (drop 2 line.now) }
 {
     if !fields::single_then(line, FIRST) {
-        return Record::NoRecord;
+        return None;
     }
     if !fields::single_then(line, SECOND) {
-        return Record::NoRecord;
+        return None;
     }
     if !fields::single_then(line, THIRD) {
-        return Record::NoRecord;
+        return None;
     }
     let arity = line[SECOND];
     let roots = line[THIRD];
     if !fields::is_numeral(arity) {
-        return Record::NoRecord;
+        return None;
     }
     if !fields::is_numeral(roots) {
-        return Record::NoRecord;
+        return None;
     }
     read_splits_and_seed(line, line[FIRST], arity - b'0', roots - b'0')
 }
 
 // One digit.
-fn read_station(line: &[u8]) -> Record
+fn read_station(line: &[u8]) -> Option<Record>
     ensures { result ≡ behind_letter (byte "Z") (drop 2 line.now) }
 {
     if !fields::singles(line, FIRST, 1) {
-        return Record::NoRecord;
+        return None;
     }
     let station = line[FIRST];
     if !fields::is_numeral(station) {
-        return Record::NoRecord;
+        return None;
     }
-    Record::Station {
+    Some(Record::Station {
         station: station - b'0',
-    }
+    })
 }
 
 // A digit, a slot and a digit from 0 to 2.
-fn read_grant(line: &[u8]) -> Record
+fn read_grant(line: &[u8]) -> Option<Record>
     ensures { result ≡ behind_letter (byte "G") (drop 2 line.now) }
 {
     if !fields::singles(line, FIRST, 3) {
-        return Record::NoRecord;
+        return None;
     }
     let holder = line[FIRST];
     let right = line[THIRD];
     if !fields::is_numeral(holder) {
-        return Record::NoRecord;
+        return None;
     }
     if !fields::is_numeral(right) {
-        return Record::NoRecord;
+        return None;
     }
     if b'2' < right {
-        return Record::NoRecord;
+        return None;
     }
-    Record::Grant {
+    Some(Record::Grant {
         station: holder - b'0',
         slot: line[SECOND],
         right: right - b'0',
-    }
+    })
 }
 
 // A letter that no field follows.
-fn read_alone(letter: u8) -> Record
+fn read_alone(letter: u8) -> Option<Record>
     ensures { result ≡ alone letter }
 {
     match letter {
-        b'E' => Record::Close,
-        b'T' => Record::Count,
-        b'U' => Record::Survey,
-        b'H' => Record::Sum,
-        _ => Record::NoRecord,
+        b'E' => Some(Record::Close),
+        b'T' => Some(Record::Count),
+        b'U' => Some(Record::Survey),
+        b'H' => Some(Record::Sum),
+        _ => None,
     }
 }
 
 // A letter, a tab behind it, and fields.
-fn read_fields(letter: u8, line: &[u8]) -> Record
+fn read_fields(letter: u8, line: &[u8]) -> Option<Record>
     ensures { result ≡ behind_letter letter (drop 2 line.now) }
 {
     match letter {
@@ -382,25 +366,25 @@ fn read_fields(letter: u8, line: &[u8]) -> Record
         b'X' => read_exercise(line),
         b'Z' => read_station(line),
         b'G' => read_grant(line),
-        _ => Record::NoRecord,
+        _ => None,
     }
 }
 
 // The record that a line is: its length and its first two bytes decide which form is looked for, if any.
-pub fn read(line: &[u8]) -> Record
+pub fn read(line: &[u8]) -> Option<Record>
     ensures { result ≡ read_line line.now }
 {
     if line.len() == 0 {
-        return Record::NoRecord;
+        return None;
     }
     if MAX_LINE < line.len() {
-        return Record::NoRecord;
+        return None;
     }
     if line.len() == 1 {
         return read_alone(line[0]);
     }
     if line[1] != fields::TAB {
-        return Record::NoRecord;
+        return None;
     }
     read_fields(line[0], line)
 }

@@ -1,5 +1,6 @@
 -- `records::read_pair` meets its contract: a word up to the next tab and one up to the end of the line, as the rule for M reads them.
 use mathlib.Core.Path.{sym, ◌∙◌, ap}
+use Rattle.std.specs.Prelude.{Some}
 use Rattle.desk.specs.Records.{grammar}
 use Rattle.records.specs.Fields.{placed_if, behind_letter}
 use Rattle.records.proofs.Readers.{pair_no_second, pair_third, pair_read, pair_placed}
@@ -24,5 +25,5 @@ returns c =
     let line = c.args.line.now in
     let end = c.field_end-middle.result in
     let last = sym c.no_tab.ensures ∙ c.if-not-no_tab.false in
-    pair_placed line end c.field_end-middle.ensures c.if-line-middle.false
+    ap Some (pair_placed line end c.field_end-middle.ensures c.if-line-middle.false)
     ∙ sym (ap placed_if (pair_read line end c.field_end-middle.ensures c.if-line-middle.false last))

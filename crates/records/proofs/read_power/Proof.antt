@@ -10,6 +10,7 @@ use mir.Syntax.{w32}
 use mir.ValLaws.{to_z-of_z}
 use Rattle.desk.specs.Limits.{max_numeral}
 use Rattle.desk.specs.Records.{signed_field, grammar}
+use Rattle.std.specs.Prelude.{Some}
 use Rattle.records.specs.declared.Record.TheVariants.{Power}
 use Rattle.records.specs.Fields.{single_then, single_last, first_field, whole_of, placed_if, behind_letter}
 use Rattle.records.proofs.fields.Numbers.{signed_small}
@@ -92,7 +93,7 @@ returns c =
     let field = first_field (drop 4 line) in
     let k = c.in-Number.k in
     let number = whole_some (signed_field max_numeral field) k (sym (number_is s) ∙ c.in-Number.is) in
-    ap (λ j. Power (get_or line 2 0) j (get_or line (end + 1) 0)) (to_z-of_z w32 k (numeral_fits k (signed_small field k number)))
+    ap (λ j. Some (Power (get_or line 2 0) j (get_or line (end + 1) 0))) (to_z-of_z w32 k (numeral_fits k (signed_small field k number)))
     ∙ sym (ap placed_if (power_read line (slot_found f.before) end c.field_end-end.ensures c.if-line-end.false k number (target_found e)))
 
 pub read_power_spec : {M : Type 1} → statement M

@@ -4,6 +4,7 @@ use mathlib.Core.Bool.{true}
 use borrow.Author.Rules.{rules}
 use native.Mathlib.Omega.{arith}
 use lib.ListN.{get_or, drop}
+use Rattle.std.specs.Prelude.{Some}
 use Rattle.desk.specs.Records.{grammar}
 use Rattle.records.specs.Fields.{single_then, placed_if, behind_letter}
 use Rattle.records.proofs.fields.OneByte.{then_within_lem}
@@ -43,7 +44,7 @@ returns c =
     let e = n.before in
     let line = c.args.line.now in
     let last = sym c.no_tab.ensures ∙ c.if-not-no_tab.false in
-    route_placed line (slot_found e) (get_or line 2 0) (omega (arith, then_within_lem line 2 (slot_found e)))
+    ap Some (route_placed line (slot_found e) (get_or line 2 0) (omega (arith, then_within_lem line 2 (slot_found e))))
     ∙ sym (ap placed_if (route_read line (slot_found e) last))
 
 pub read_route_spec : {M : Type 1} → statement M
