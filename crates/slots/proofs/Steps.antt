@@ -5,7 +5,7 @@ use mathlib.Core.Path.{◌≡◌, refl, sym, ◌∙◌, ap, ap₂, subst}
 use mathlib.Core.Bool.{Bool, true, false, ◌&&◌, not}
 use mathlib.Core.List.{List, map, Memᴰ}
 use mathlib.Core.Option.{Option, none}
-use Rattle.std.specs.Prelude.{is_some, Result, Ok, Err}
+use Rattle.std.specs.Prelude.{is_some, Result, Ok, Err, IsErrAnd}
 use Rattle.higman.specs.Bases.{all}
 use Rattle.higman.specs.Limits.{slot_count}
 use Rattle.higman.specs.Listing.{is_slot, slot_number}
@@ -145,6 +145,11 @@ pub admitted_named : (d : Desk) (r : Record) → admission d r ≡ pass tt → (
     → is_slot u.slot ≡ true
 admitted_named d r a u m =
     so (is_slot u.slot) (all_at (λ (u : SlotUse). is_slot u.slot) (slots_named r) (passed (admitted d r) tt a).slots_named_fact u m)
+
+-- what the exit of a `?` returns
+pub returned : {A : Type 0} (w : Result A Refused) (f : Refused) → IsErrAnd w (λ e. e ≡ f) → w ≡ Err f
+returned (Ok a) f h = absurd h
+returned (Err e) f h = ap Err h
 
 -- a refusal leaves the desk as it is, whatever it is that is refused
 pub told_refusal : (d : Desk) (o : Outcome Effect) (f : Refused) → o ≡ outcome_of (Err f) → (out : List ℕ) (p : Result Reply Refused)
