@@ -1,6 +1,6 @@
 -- An operation step by step: with which of the tests around its job it ends, in the terms of a desk in code, and that a refusal changes
 -- nothing of the head and its columns.
-use Prim.Native.Nat.{ℕ, zero, suc, ◌<◌}
+use Prim.Native.Nat.{ℕ, ◌<◌}
 use mathlib.Core.Path.{◌≡◌, refl, sym, ◌∙◌, ap, ap₂, subst}
 use mathlib.Core.Bool.{Bool, true, false, ◌&&◌, not}
 use mathlib.Core.List.{List, map, Memᴰ}
@@ -16,7 +16,7 @@ use Rattle.words.proofs.Checks.{check_map, check_append}
 use Rattle.desk.specs.Desk.{Desk, IsDesk}
 use Rattle.desk.specs.Records.{Record, SlotUse, reading, writing, Kind, kind, of_slots, of_open_plan, needs_open, stations_named, slots_named}
 use Rattle.desk.specs.Records.{needed_right, is_change}
-use Rattle.desk.specs.Replies.{◌>>=◌, ◌when◌, refuses, Outcome, refuse, pass, Effect}
+use Rattle.desk.specs.Replies.{◌>>=◌, ◌when◌, Outcome, refuse, pass, Effect}
 use Rattle.desk.specs.Replies.{open_amiss, no_station, outside, may_use, denied, at_limit, job, admission, operation}
 use Rattle.desk.proofs.Outcomes.{passed, admitted}
 use Rattle.desk.proofs.Stays.{operation_stays, slot_below as below}

@@ -1,6 +1,7 @@
 -- The desk after a right was given, and with which of its tests G ends: 1, then 2, 18 and 8, and 19 of its own.
 use Prim.Native.Nat.{ℕ, zero, suc, ◌+◌, ◌≤◌, ◌<◌, zero-le}
 use native.Mathlib.Omega.{arith}
+use Rattle.std.specs.Prelude.{is_some, Result}
 use mathlib.Core.Path.{◌≡◌, refl, sym, ◌∙◌, ap, subst}
 use mathlib.Core.Bool.{Bool, true, false, ◌||◌, not}
 use mathlib.Core.List.{List, [], ◌∷◌}
@@ -15,13 +16,16 @@ use Rattle.desk.specs.Records.{Right, no_right, may_read, may_write, right_numbe
 use Rattle.desk.specs.Replies.{Outcome, refuse, pass, ◌>>=◌, ◌when◌, Effect, ok, no_station, outside, denied, job, admission, operation}
 use Rattle.desk.specs.Replies.{grant_by}
 use Rattle.slots.specs.declared.Head.{Head}
+use Rattle.operations.specs.declared.refusals.Refusal.TheVariants as The
+use Rattle.slots.specs.declared.Refused.{Refused}
 use Rattle.slots.specs.declared.Work.{Work}
 use Rattle.slots.specs.Blocks.{value_at, given_in}
 use Rattle.slots.specs.Desks.{desk_of, HoldsDesk}
-use Rattle.slots.specs.Works.{DoneBy, Done, refusing}
+use Rattle.slots.specs.Refused.{refused_for, refusing}
+use Rattle.slots.specs.Works.{DoneBy, Done}
 use Rattle.slots.proofs.Held.{control_held}
 use Rattle.slots.proofs.Rows.{given_control}
-use Rattle.slots.proofs.Steps.{amiss_closed, tested, done_by_refusal}
+use Rattle.slots.proofs.Steps.{amiss_closed, tested, done_refusal}
 use Rattle.stations.proofs.Naming.{with_control, unknown}
 
 -- a right by its number, and none above 2
@@ -51,15 +55,15 @@ module _ (h : Head) (columns : List ℕ) (H : HoldsDesk h columns) (s a x : ℕ)
   abbrev meant : Option Right → Outcome Effect
   meant o = (elim o as (λ _. _) [ none ↦ refuse no_record none | some y ↦ pass (G s a y) ]) >>= operation d
 
-  pub no_such_right : 2 < x → (w : Work) → w ≡ refusing h no_record → DoneBy d (grant_by s a x >>= operation d) out w columns out
+  pub no_such_right : 2 < x → (w : Result Work Refused) → w ≡ refusing The.NoRecord
+      → DoneBy d (grant_by s a x >>= operation d) out h w columns out
   unfolding ◌>>=◌
-  no_such_right k w q =
-      subst (λ o. DoneBy d (meant o) out w columns out) (sym (not_numbered x k)) (done_by_refusal h columns H out no_record w q)
+  no_such_right k w q = done_refusal h columns H (meant (right_numbered x)) (refused_for The.NoRecord) (ap meant (not_numbered x k)) out w q
 
-  pub as_record : (n : Numbered x) (w : Work) → Done (G s a n.right) h columns out w columns out
-      → DoneBy d (grant_by s a x >>= operation d) out w columns out
+  pub as_record : (n : Numbered x) (w : Result Work Refused) → Done (G s a n.right) h columns out w columns out
+      → DoneBy d (grant_by s a x >>= operation d) out h w columns out
   unfolding ◌>>=◌
-  as_record n w done = subst (λ o. DoneBy d (meant o) out w columns out) (sym n.by_number) done
+  as_record n w done = subst (λ o. DoneBy d (meant o) out h w columns out) (sym n.by_number) done
 
 -- the tests of G
 module _ (h : Head) (columns : List ℕ) (s a : ℕ) (y : Right) where
@@ -78,11 +82,11 @@ module _ (h : Head) (columns : List ℕ) (s a : ℕ) (y : Right) where
   not_slot true e = ap (λ b. not (elim b as (λ _. Bool) [ true ↦ true | false ↦ false ])) e
   not_slot false e = ap (λ b. not (elim b as (λ _. Bool) [ true ↦ true | false ↦ false ])) e
 
-  pub grant_open : h.is_open ≡ true → admission (desk_of h columns) r ≡ refuse wrong_state none
+  pub grant_open : is_some h.draft ≡ true → admission (desk_of h columns) r ≡ refuse wrong_state none
   unfolding kind ◌>>=◌
   grant_open o = tested h columns r (amiss_closed h columns r refl ∙ o) refl refl refl
 
-  module _ (o : h.is_open ≡ false) where
+  module _ (o : is_some h.draft ≡ false) where
     pub grant_station : 8 ≤ s → admission (desk_of h columns) r ≡ refuse station_outside none
     unfolding kind ◌>>=◌ station_count
     grant_station k =

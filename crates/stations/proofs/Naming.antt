@@ -6,6 +6,7 @@ use mathlib.Core.List.{List, [], ◌∷◌}
 use mathlib.Core.Option.{none}
 use borrow.Author.Tests.{le-leb, lt-leb}
 use native.Mathlib.Omega.{arith}
+use Rattle.std.specs.Prelude.{is_some}
 use Rattle.higman.specs.Refusals.{wrong_state, station_outside}
 use Rattle.desk.specs.Limits.{station_count}
 use Rattle.desk.specs.Desk.{IsDesk, at_station, is_station}
@@ -19,7 +20,7 @@ use Rattle.slots.proofs.Steps.{amiss_closed, tested}
 
 -- a head with another control block, and with another station named
 abbrev pub with_control : Head → Control → Head
-with_control h c = record { sizes = h.sizes; is_open = h.is_open; slot = h.slot; control = c }
+with_control h c = record { sizes = h.sizes; draft = h.draft; control = c }
 
 abbrev pub station_named : Head → ℕ → Head
 station_named h s = with_control h (named_in h.control s)
@@ -39,11 +40,11 @@ module _ (h : Head) (columns : List ℕ) (s : ℕ) where
   unknown true e = ap (λ x. not (elim x as (λ _. Bool) [ true ↦ true | false ↦ false ])) e
   unknown false e = ap (λ x. not (elim x as (λ _. Bool) [ true ↦ true | false ↦ false ])) e
 
-  pub name_open : h.is_open ≡ true → admission (desk_of h columns) (Z s) ≡ refuse wrong_state none
+  pub name_open : is_some h.draft ≡ true → admission (desk_of h columns) (Z s) ≡ refuse wrong_state none
   unfolding kind ◌>>=◌
   name_open o = tested h columns (Z s) (amiss_closed h columns (Z s) refl ∙ o) refl refl refl
 
-  module _ (o : h.is_open ≡ false) where
+  module _ (o : is_some h.draft ≡ false) where
     pub name_outside : 8 ≤ s → admission (desk_of h columns) (Z s) ≡ refuse station_outside none
     unfolding kind ◌>>=◌ station_count
     name_outside k =

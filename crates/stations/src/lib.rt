@@ -8,55 +8,56 @@ ghost use Rattle.slots.specs.Works.{DoneByHead};
 ghost use Rattle.stations.specs.Granted.{GrantedByHead};
 
 use operations::listing;
-use slots::{Head, Reply, STATIONS, Work, numbers, rights};
+use operations::refusals::Refusal;
+use slots::{Head, Refused, Reply, STATIONS, Work, rights};
 
 // Z: 2, 18.
-pub fn name(head: Head, station: u8) -> Work
+pub fn name(head: Head, station: u8) -> Result<Work, Refused>
     ensures { DoneByHead (Z station) head result }
 {
-    if head.is_open {
-        return slots::refused(head, numbers::WRONG_STATE);
+    if head.draft.is_some() {
+        return Err(Refusal::WrongState.into());
     }
     if STATIONS <= station as usize {
-        return slots::refused(head, numbers::STATION_OUTSIDE);
+        return Err(Refusal::StationOutside.into());
     }
     let control = head.control;
-    let mut h = head;
-    h.control = slots::named(control, station);
-    Work {
-        head: h,
+    let mut next = head;
+    next.control = slots::named(control, station);
+    Ok(Work {
+        head: next,
         reply: Reply::Ok,
-    }
+    })
 }
 
 // G: 1, 2, 18, 8, 19. The station, the slot and the right by their numbers and its byte; a right above 2 is 1.
-pub fn grant(head: Head, station: u8, slot: u8, right: u8) -> Work
+pub fn grant(head: Head, station: u8, slot: u8, right: u8) -> Result<Work, Refused>
     ensures { GrantedByHead station slot right head result }
 {
     if rights::WRITE < right {
-        return slots::refused(head, numbers::NO_RECORD);
+        return Err(Refusal::NoRecord.into());
     }
-    if head.is_open {
-        return slots::refused(head, numbers::WRONG_STATE);
+    if head.draft.is_some() {
+        return Err(Refusal::WrongState.into());
     }
     if STATIONS <= station as usize {
-        return slots::refused(head, numbers::STATION_OUTSIDE);
+        return Err(Refusal::StationOutside.into());
     }
     if !listing::is_slot(slot) {
-        return slots::refused(head, operations::numbers::SLOT_OUTSIDE);
+        return Err(Refusal::SlotOutside.into());
     }
     let control = head.control;
     if control.station != 0 {
-        return slots::refused(head, numbers::STATION_REFUSED);
+        return Err(Refusal::StationRefused.into());
     }
     if station == 0 {
-        return slots::refused(head, numbers::STATION_REFUSED);
+        return Err(Refusal::StationRefused.into());
     }
     let i = slots::slot_number(slot);
-    let mut h = head;
-    h.control = slots::given(control, station, i, right);
-    Work {
-        head: h,
+    let mut next = head;
+    next.control = slots::given(control, station, i, right);
+    Ok(Work {
+        head: next,
         reply: Reply::Ok,
-    }
+    })
 }
