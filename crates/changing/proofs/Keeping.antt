@@ -14,12 +14,13 @@ use Rattle.higman.specs.Words.{Word}
 use Rattle.higman.specs.Tables.{froms, tos}
 use Rattle.higman.specs.Answers as Of
 use Rattle.higman.specs.Refusals.{count_full}
+use Rattle.higman.specs.Listing.{is_slot, slot_number}
 use Rattle.higman.proofs.Tests.{T_of}
 use Rattle.higman.proofs.Columns.{basis_size}
 use Rattle.higman.proofs.KeptPlans.{in_range}
 use Rattle.desk.specs.Desk.{Desk, IsDesk, changed}
 use Rattle.desk.specs.Records.{Record, is_change}
-use Rattle.desk.specs.Replies.{◌>>=◌, refuse, pass, job, at_limit, of_answer, keep_in}
+use Rattle.desk.specs.Replies.{◌>>=◌, refuse, pass, admission, job, at_limit, of_answer, keep_in}
 use Rattle.words.specs.Packed.{pack}
 use Rattle.operations.specs.declared.Plan.{Plan}
 use Rattle.operations.specs.declared.Making.{Making}
@@ -34,9 +35,9 @@ use Rattle.slots.specs.declared.Work.{Work}
 use Rattle.slots.specs.declared.Reply.TheVariants.{Number}
 use Rattle.slots.specs.Blocks.{filled_head, put}
 use Rattle.slots.specs.Desks.{held_by, full_in, desk_of, HoldsDesk}
-use Rattle.slots.specs.Works.{refusing, Done, Makes, ToKeep}
+use Rattle.slots.specs.Works.{refusing, Done, Makes, Keepable, ToKeep}
 use Rattle.slots.proofs.Held.{filled_desk, holds_filled}
-use Rattle.slots.proofs.Steps.{refused_job, done_refused, at_limit_lem, at_end, done_passed}
+use Rattle.slots.proofs.Steps.{slot_below, refused_job, done_refused, at_limit_lem, at_end, done_passed}
 
 -- a plan that is kept has pairs: its from-words are a basis, which has at least as many words as there are belts
 some_pairs : (p : PlanOf) → Kept p → length p.rows ≡ 0 → ⊥
@@ -74,6 +75,22 @@ column_length : (c : List Word) → length c ≤ max_pairs → length (column c)
 column_length c h =
     length-append (map pack c) (replicate (max_pairs - length c) 0)
     ∙ omega (arith, length-map c pack, length-replicate {A = ℕ} (max_pairs - length c) 0)
+
+-- An answer that is to be kept in the slot that a byte names: it may be kept there, and a record whose job asks for it does so.
+module _ (a i : ℕ) (q : i ≡ slot_number a) where
+  pub keepable : (h : Head) (columns : List ℕ) → HoldsDesk h columns → is_slot a ≡ true → (made : Making) (answer : Of.Answer)
+      → Makes made answer → Keepable h columns i made
+  keepable h columns H named made answer m =
+      record { holds = H; slot = subst (λ i. i < slot_count) (sym q) (slot_below a named); answer = answer; makes = m }
+
+  pub to_keep : (d : Desk) (r : Record) (answer : Of.Answer) → admission d r ≡ pass tt → is_change r ≡ true
+      → job d r ≡ (of_answer answer >>= λ p. pass (keep_in d (slot_number a) p)) → ToKeep r d i answer
+  to_keep d r answer admitted changes keeps =
+      record {
+        admitted = admitted;
+        changes = changes;
+        keeps = keeps ∙ ap (λ n. of_answer answer >>= λ p. pass (keep_in d n p)) (sym q);
+      }
 
 module _ (made : Making) (answer : Of.Answer) (m : Makes made answer) where
   told : (making answer).answer ≡ made.answer

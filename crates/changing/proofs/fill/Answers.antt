@@ -6,9 +6,9 @@ use Rattle.slots.specs.declared.Control.{Control}
 use Rattle.slots.specs.Blocks.{size_of, filled_head}
 use Rattle.changing.proofs.fill.Goals as goal
 
-pub returns : goal.returns
+pub returns-clause-value : goal.returns-clause-value
 unfolding filled_head
-returns c =
-    let a = c.args in
-    let sizes = set a.head.sizes a.i (size_of a.plan) in
-    record { value = ap (λ (k : Control). record { sizes = sizes; is_open = false; slot = a.head.slot; control = k }) c.noted-h.ensures; columns_after = c.put.ensures }
+returns-clause-value c =
+    let h = c.args.head in
+    let sizes = set h.sizes c.args.i (size_of c.args.plan) in
+    ap (λ (k : Control). record { sizes = sizes; is_open = false; slot = h.slot; control = k }) c.noted-h.ensures

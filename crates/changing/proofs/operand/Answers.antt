@@ -21,6 +21,3 @@ returns c =
     let value = c.value.ensures ∙ ap (value_at a.head a.columns.now) c.slot_number.ensures in
     subst (ReadOf (desk_of a.head a.columns.now) a.a) (sym value)
     (read_of_slot a.head a.columns.now c.requires.holds_desk a.a c.requires.a_value)
-
-pub slot_number-requires : goal.slot_number-requires
-slot_number-requires c = c.requires.a_value
