@@ -10,7 +10,7 @@ use mathlib.Core.Option.{Option, get_or}
 use native.Mathlib.Omega.{arith}
 use lib.Dec.{ltb}
 use lib.ListN.{length, length-map}
-use borrow.Author.Tests.{ltb-true, ltb-false}
+use borrow.Author.Tests.{ltb-true, ltb-false, lt-ltb, le-ltb}
 use Rattle.higman.specs.Words.{Word, begins}
 use Rattle.higman.specs.Bases.{meets, overlap}
 use Rattle.higman.specs.Tables.{first_match}
@@ -19,7 +19,9 @@ use Rattle.higman.proofs.Matches.{FirstAt, first_place, match_found, match_nowhe
 use Rattle.words.specs.Packed.{unpack}
 use Rattle.words.proofs.Codes.{after_drop}
 use Rattle.columns.specs.Packed.{words_of, in_order, sorted}
-use Rattle.columns.specs.Columns.{word_at, PartedAt, place_in}
+use Rattle.columns.specs.Columns.{word_at, PartedAt, place_in, begun_at}
+use Rattle.std.specs.Prelude.{Some, None}
+use Rattle.std.proofs.lemmas.Option.{cond_some, none-some}
 use Rattle.columns.proofs.InOrder.{InOrder, in_order_of_test, test_of_in_order, in_order_of_begins, in_order_trans, begins_between}
 use Rattle.columns.proofs.Places.{mem_at, sorted_at}
 
@@ -128,6 +130,28 @@ pub first_of_place : (column : List ℕ) (w : Word) (r : ℕ) → r ≡ place_in
 first_of_place column w r e =
     let (k, f) = first_place unpack 0 column w in
     subst (FirstIn column w) (place_of_first column w k f ∙ sym e) f
+
+-- what `begun_at` answers where the place is known
+module _ (column : List ℕ) (w : Word) (r : ℕ) (e : r ≡ place_in (words_of column) w) where
+  pub begun_some : r < length column → begun_at (words_of column) w ≡ Some r
+  begun_some h = rw (← e, lt-ltb r (length (words_of column)) (omega (arith, length-map column unpack)))
+
+  pub begun_none : length column ≤ r → begun_at (words_of column) w ≡ None
+  begun_none h = rw (← e, le-ltb r (length (words_of column)) (omega (arith, length-map column unpack)))
+
+-- and what its answers say of the place
+module _ (column : List ℕ) (w : Word) where
+  pub first_of_begun : (k : ℕ) → begun_at (words_of column) w ≡ Some k → FirstIn column w k × (k < length column)
+  first_of_begun k e =
+      let (t, p) = cond_some (ltb (place_in (words_of column) w) (length (words_of column))) _ k e in
+      (first_of_place column w k (sym p), omega (arith, p, ltb-true _ _ t, length-map column unpack))
+
+  pub first_of_unbegun : begun_at (words_of column) w ≡ None → FirstIn column w (length column)
+  first_of_unbegun e = let (k, f) = first_place unpack 0 column w in go k f (place_of_first column w k f) (passes (ltb k (length column)))
+    where
+      go : (k : ℕ) → FirstIn column w k → k ≡ place_in (words_of column) w → (ltb k (length column) ≡ true) ⊎ (ltb k (length column) ≡ false) → FirstIn column w (length column)
+      go k f p (inl t) = absurd (none-some k (sym e ∙ begun_some column w k p (ltb-true _ _ t)))
+      go k f p (inr t) = subst (FirstIn column w) (omega (arith, f.within, ltb-false _ _ t)) f
 
 module _
     (column : List ℕ)

@@ -17,6 +17,7 @@ use Rattle.higman.specs.Normal.{before}
 use Rattle.higman.proofs.Tests.{passes, so, T_of, clash, and_left, and_right, or_cases, or_false, or_true_left, or_true_right}
 use Rattle.higman.proofs.Tests.{Digit, IsWord, word_of_test, all_at, listed_of_mem, mem_of_listed}
 use Rattle.higman.proofs.Prefixes.{tail_of_begins, begins_append, child_append, ways_right}
+use Rattle.std.specs.Prelude.{Option}
 use Rattle.words.specs.Packed.{unpack}
 use Rattle.words.specs.Bytes.{shape}
 use Rattle.words.proofs.Packing.{unpack_injective}
@@ -195,15 +196,8 @@ at_later column w r i p =
     }
 
 -- an answer on a block, said of an equal block
-pub walked_same : (column : List ℕ) (f : Word → Bool) {v w : Word} {r : ℕ} → v ≡ w → Walked column v (f v) r → Walked column w (f w) r
-walked_same column f {v} {w} {r} p h = subst (λ x. Walked column x (f x) r) p h
-
--- the two answers
-pub walked_past : {column : List ℕ} {w : Word} {c : Bool} {r : ℕ} → c ≡ true → PastBlock column w r → Walked column w c r
-walked_past e p = record { covers = λ h. (e, p); misses = λ h. absurd (omega (arith, p.within)) }
-
-pub walked_gap : {column : List ℕ} {w : Word} {c : Bool} {r : ℕ} → c ≡ false → length column < r → Walked column w c r
-walked_gap e l = record { covers = λ h. absurd (omega arith); misses = λ h. e }
+pub walked_same : (column : List ℕ) (f : Word → Bool) {v w : Word} (r : Option ℕ) → v ≡ w → Walked column v (f v) r → Walked column w (f w) r
+walked_same column f {v} {w} r p h = subst (λ x. Walked column x (f x) r) p h
 
 -- where all words stand before a block, it is not listed, nor is a part of it
 uncovered_of_before : (n d : ℕ) (c : List Word) (w : Word) → 1 ≤ n → ((u : Word) → Memᴰ u c → before u w ≡ true) → covered n c d w ≡ false

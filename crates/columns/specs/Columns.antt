@@ -1,8 +1,8 @@
 -- What a search in a sorted column finds, the place that parts its words at a word, the word of it that begins a word and the words that
 -- a word begins, and what a walk over the words of a block finds.
-use Rattle.std.specs.Prelude.{ℕ, zero, suc, ◌+◌, ◌-◌, ◌≤◌, ◌<◌, ◌≡◌, refl, ◌⊎◌, Bool, true, false, List, [], ◌∷◌, map, T, length, get_or}
+use Rattle.std.specs.Prelude.{ℕ, zero, suc, ◌+◌, ◌-◌, ◌≤◌, ◌<◌, ◌≡◌, refl, ◌⊎◌, Bool, true, false, List, [], ◌∷◌, map, T, length, get_or, ltb, Option, Some, None, if◌then◌else◌, MatchOption}
 use Rattle.std.proofs.Common.{inr, arith}
-use Rattle.std.proofs.Math.Option
+use Rattle.std.proofs.Math.Option as Match
 use Rattle.higman.specs.Words.{Word, count, is_word, begins, begins_properly, child, spell}
 use Rattle.higman.specs.Bases.{all, covered, overlap}
 use Rattle.higman.specs.Tables.{first_match}
@@ -23,7 +23,11 @@ pub record PartedAt (column : List ℕ) (w r : ℕ) : Type 0 where
 
 -- The place of the first word of a column that begins w, counted from 0, or the length of the column where no word of it does.
 unfoldable pub place_in : List Word → Word → ℕ
-place_in c w = Option.get_or (first_match (λ u. u) (λ place u tail. place) c w) (length c)
+place_in c w = Match.get_or (first_match (λ u. u) (λ place u tail. place) c w) (length c)
+
+-- The same place, or None where no word of the column begins w.
+abbrev pub begun_at : List Word → Word → Option ℕ
+begun_at c w = if ltb (place_in c w) (length c) then Some (place_in c w) else None
 
 -- The words from the place start up to the place end, which is not among them, are those that w begins and does not equal. (Where there is
 -- no such word the two places are equal, and any place is right.)
@@ -53,11 +57,10 @@ pub record PastBlock (column : List ℕ) (w : Word) (r : ℕ) : Type 0 where
   pub front : (k : ℕ) → k < r → (before (word_at column k) w ≡ true) ⊎ (begins w (word_at column k) ≡ true)
   pub back : r < length column → (before (word_at column r) w ≡ false) × (begins w (word_at column r) ≡ false)
 
--- What a walk over the words of the block w answers, where c is what it looks for: the place it came to if all is covered, and a place
--- behind the end if there is a gap.
-pub record Walked (column : List ℕ) (w : Word) (c : Bool) (r : ℕ) : Type 0 where
-  pub covers : r ≤ length column → (c ≡ true) × PastBlock column w r
-  pub misses : length column < r → c ≡ false
+-- What a walk over the words of the block w answers, where c is what it looks for: the place it came to if all is covered, and None if
+-- there is a gap.
+abbrev pub Walked : List ℕ → Word → Bool → Option ℕ → Type 0
+Walked column w c answer = MatchOption answer (c ≡ false) (λ r. (c ≡ true) × PastBlock column w r)
 
 -- "To cover the parts is to cover way 1 and then the ways after it": the ways from the i-th to the n-th, looked at d ways below them.
 abbrev pub covered_from : ℕ → List Word → ℕ → Word → ℕ → Bool
@@ -67,6 +70,10 @@ covered_from n c d w i = all (λ j. covered n c d (child w j)) (count i (n + 1 -
 place_in_example : map (place_in (spell 11 ∷ spell 12 ∷ [])) (spell 1211 ∷ spell 21 ∷ []) ≡ 1 ∷ 2 ∷ []
 unfolding place_in
 place_in_example = refl
+
+begun_at_example : map (begun_at (spell 11 ∷ spell 12 ∷ [])) (spell 1211 ∷ spell 21 ∷ []) ≡ Some 1 ∷ None ∷ []
+unfolding place_in
+begun_at_example = refl
 
 -- of 11, 111 and 12, only 111 is begun by 11 and longer
 extending_example : Extending (0x11 ∷ 0x111 ∷ 0x12 ∷ []) (spell 11) 1 2
@@ -96,13 +103,9 @@ abbrev short_column : List ℕ
 short_column = 0x11 ∷ 0x12 ∷ 0x2 ∷ []
 
 -- its first two words cover the block 1 and stand before the block 2, whose word is the third
-walked_example : Walked short_column (spell 1) (covered 2 (words_of short_column) 1 (spell 1)) 2
+walked_example : Walked short_column (spell 1) (covered 2 (words_of short_column) 1 (spell 1)) (Some 2)
 unfolding unpack unpack_in
-walked_example =
-    record {
-      covers = λ h. (refl, record { within = omega arith; front = front; back = λ k. (refl, refl) });
-      misses = λ h. absurd (omega arith);
-    }
+walked_example = (refl, record { within = omega arith; front = front; back = λ k. (refl, refl) })
   where
     front : (k : ℕ) → k < 2 → (before (word_at short_column k) (spell 1) ≡ true) ⊎ (begins (spell 1) (word_at short_column k) ≡ true)
     front zero h = inr refl
@@ -119,6 +122,6 @@ at_block_example = record { within = omega arith; front = front; back = λ h. re
     front (suc (suc k)) h = absurd (omega arith)
 
 -- the block 2 has no part 1
-gap_walked_example : Walked short_column (spell 21) (covered 2 (words_of short_column) 1 (spell 21)) 4
+gap_walked_example : Walked short_column (spell 21) (covered 2 (words_of short_column) 1 (spell 21)) None
 unfolding unpack unpack_in
-gap_walked_example = record { covers = λ h. absurd (omega arith); misses = λ h. refl }
+gap_walked_example = refl

@@ -4,35 +4,22 @@
 #![tactic(auto)]
 
 ghost use Rattle.std.specs.Prelude.{◌≡◌, true, false, ◌+◌, ◌-◌, ◌≤◌, T, length};
-ghost use Rattle.higman.specs.Words.{child, is_word};
-ghost use Rattle.higman.specs.Bases.{all, listed, covered, gap, overlap};
+ghost use Rattle.higman.specs.Words.{is_word};
+ghost use Rattle.higman.specs.Bases.{all, covered, gap, overlap};
 ghost use Rattle.higman.specs.Limits.{max_digits};
 ghost use Rattle.words.specs.Packed.{unpack};
-ghost use Rattle.words.specs.Bytes.{shape};
-ghost use Rattle.columns.specs.Packed.{words_of, in_order, sorted};
-ghost use Rattle.columns.specs.Columns.{PartedAt, place_in, Extending, Walkable, AtBlock, covered_from, Walked};
+ghost use Rattle.words.specs.Bytes.{shape_of};
+ghost use Rattle.columns.specs.Packed.{words_of, sorted};
+ghost use Rattle.columns.specs.Columns.{PartedAt, begun_at, Extending, Walkable, AtBlock, Walked};
 
 pub mod sorting;
 pub mod splits;
 
-use words::MAX_WAYS;
+use std::ops::Range;
+use words::{MAX_WAYS, Shape};
 
 // The pairs that a plan has at most: `max_pairs` of higman's Limits.antt.
 pub const MAX_PAIRS: usize = 128;
-
-// The places of a column from start on, up to end, which is not among them.
-#[derive(Drop)]
-pub struct Run {
-    pub start: usize,
-    pub end: usize,
-}
-
-// Whether one word stands before another, by the first digit that differs, or begins it.
-pub fn in_order(u: u64, v: u64) -> bool
-    ensures { result ≡ in_order (unpack u) (unpack v) }
-{
-    words::in_order(u, v)
-}
 
 // The number of words at the front of a sorted column that are in order with w.
 pub fn first_after(column: &[u64], w: u64) -> usize
@@ -43,7 +30,7 @@ pub fn first_after(column: &[u64], w: u64) -> usize
     let mut high = column.len();
     while low < high {
         let middle = low + (high - low) / 2;
-        if in_order(column[middle], w) {
+        if words::in_order(column[middle], w) {
             low = middle + 1;
         } else {
             high = middle;
@@ -52,24 +39,21 @@ pub fn first_after(column: &[u64], w: u64) -> usize
     low
 }
 
-// The place of the word that begins w, or the column's length where none does: the last of the words in order with w, if any.
-pub fn begun_by(column: &[u64], w: u64) -> usize
+// The place of the word that begins w, or None where none does: the last of the words in order with w, if any.
+pub fn begun_by(column: &[u64], w: u64) -> Option<usize>
     requires column_value { sorted (words_of column.now) ≡ true }
     requires column_value_2 { overlap (words_of column.now) ≡ false }
-    ensures { result ≡ place_in (words_of column.now) (unpack w) }
+    ensures { result ≡ begun_at (words_of column.now) (unpack w) }
 {
     let end = first_after(column, w);
-    if end == 0 {
-        return column.len();
+    if end == 0 || !words::begins(column[end - 1], w) {
+        return None;
     }
-    if words::begins(column[end - 1], w) {
-        return end - 1;
-    }
-    column.len()
+    Some(end - 1)
 }
 
 // The run of the words that w begins and does not equal. They stand right behind those in order with w.
-pub fn extending(column: &[u64], w: u64) -> Run
+pub fn extending(column: &[u64], w: u64) -> Range<usize>
     requires { sorted (words_of column.now) ≡ true }
     ensures { Extending column.now (unpack w) result.start result.end }
 {
@@ -77,11 +61,11 @@ pub fn extending(column: &[u64], w: u64) -> Run
     let mut end = start;
     while end < column.len() {
         if !words::begins(w, column[end]) {
-            return Run { start, end };
+            return start..end;
         }
         end += 1;
     }
-    Run { start, end }
+    start..end
 }
 
 // Whether one word begins or equals another. In a sorted column it then begins its right neighbour.
@@ -101,59 +85,43 @@ pub fn overlaps(column: &[u64]) -> bool
     false
 }
 
-// Where the walk over a covered block has come to, looked at `left` ways below it; where there is a gap, a place behind the column's end.
-// The words before the place at stand before the block, so that the word there is the block, lies in it, or there is a gap.
-#[cycle(covered_block_covered_ways)]
-fn covered_block(column: &[u64], arity: u8, w: u64, left: u8, at: usize) -> usize
+// Where the walk over a covered block has come to, looked at `left` ways below it; None where there is a gap. The words before the place
+// at stand before the block, so that the word there is the block, lies in it, or there is a gap. The words of a part stand behind those of
+// the parts before it, so that the walk goes on where it has come to.
+fn covered_block(column: &[u64], arity: u8, w: u64, left: u8, at: usize) -> Option<usize>
     requires walkable { Walkable arity column.now × (1 ≤ arity) × (arity ≤ 9) }
     requires in_bounds { (1 ≤ length (unpack w)) × (length (unpack w) + left ≤ max_digits) × AtBlock column.now (unpack w) at }
     ensures { Walked column.now (unpack w) (covered arity (words_of column.now) left (unpack w)) result }
 {
     if column.len() <= at {
-        return column.len() + 1;
+        return None;
     }
     if column[at] == w {
-        return at + 1;
+        return Some(at + 1);
     }
     if left == 0 {
-        return column.len() + 1;
+        return None;
     }
-    covered_ways(column, arity, w, 1, left, at)
-}
-
-// The same of the parts of a block from a way on, up to the first that is not covered. The words of a part stand behind those of the
-// parts before it, so that the walk goes on where it has come to.
-#[cycle(covered_block_covered_ways)]
-fn covered_ways(column: &[u64], arity: u8, w: u64, way: u8, left: u8, at: usize) -> usize
-    requires walkable { Walkable arity column.now × (1 ≤ arity) × (arity ≤ 9) × (listed (unpack w) (words_of column.now) ≡ false) }
-    requires le_way { (1 ≤ way) × (way ≤ arity + 1) × (1 ≤ left) × (1 ≤ length (unpack w)) × (length (unpack w) + left ≤ max_digits)
-        × AtBlock column.now (child (unpack w) way) at }
-    ensures { Walked column.now (unpack w) (covered_from arity (words_of column.now) (left - 1) (unpack w) way) result }
-{
-    if arity < way {
-        return at;
+    let mut next = at;
+    for way in 1..=arity {
+        next = covered_block(column, arity, words::child(w, way), left - 1, next)?;
     }
-    let next = covered_block(column, arity, words::child(w, way), left - 1, at);
-    if column.len() < next {
-        return next;
-    }
-    covered_ways(column, arity, w, way + 1, left, next)
+    Some(next)
 }
 
 // Whether a belt isn't covered. Deeper than the longest words of a plan there is nothing to look for.
-pub fn has_gap(column: &[u64], arity: u8, roots: u8) -> bool
+pub fn has_gap(column: &[u64], shape: Shape) -> bool
     requires column_value { (sorted (words_of column.now) ≡ true) × (overlap (words_of column.now) ≡ false) }
-    requires le_arity { (1 ≤ arity) × (arity ≤ 9) × (roots ≤ 9) × T (all (is_word (shape arity roots)) (words_of column.now)) }
-    ensures { result ≡ gap (shape arity roots) (words_of column.now) }
+    requires le_arity { (1 ≤ shape.arity) × (shape.arity ≤ 9) × (shape.roots ≤ 9) × T (all (is_word (shape_of shape)) (words_of column.now)) }
+    ensures { result ≡ gap (shape_of shape) (words_of column.now) }
 {
     let mut at = 0;
-    let mut root: u8 = 1;
-    while root <= roots {
-        at = covered_block(column, arity, words::child(0, root), MAX_WAYS, at);
-        if column.len() < at {
+    for root in 1..=shape.roots {
+        let Some(next) = covered_block(column, shape.arity, words::child(0, root), MAX_WAYS, at)
+        else {
             return true;
-        }
-        root += 1;
+        };
+        at = next;
     }
     false
 }
