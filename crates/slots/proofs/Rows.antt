@@ -7,12 +7,10 @@ use mathlib.Core.Path.{◌≡◌, refl, sym, ◌∙◌, ap, ap₂, subst}
 use mathlib.Core.List.{List, [], ◌∷◌}
 use lib.ListN.{length, get_or, set, drop, length-map, length-set}
 use lib.Pow.{shr-shr}
-use mathlib.Core.Bool.{Bool, true}
-use borrow.Author.Tests.{le-leb}
-use lib.Dec.{leb}
+use mathlib.Core.Bool.{true}
 use Rattle.higman.specs.Bases.{all}
 use Rattle.higman.specs.Limits.{slot_count}
-use Rattle.higman.specs.Listing.{is_slot, slot_number}
+use Rattle.higman.specs.Listing.{is_slot}
 use Rattle.higman.proofs.Tests.{so, T_of, all_head, all_tail}
 use Rattle.desk.specs.Limits.{station_count, max_right}
 use Rattle.desk.specs.Desk.{Rights, Control as ControlOf, right_of, IsRights, IsControl, giving}
@@ -20,7 +18,7 @@ use Rattle.slots.specs.Rights.{right_at, slot_rights, row_of, rights_of, packed_
 use Rattle.slots.specs.declared.Control.{Control}
 use Rattle.slots.specs.Blocks.{given_in}
 use Rattle.slots.proofs.Held.{slots_eight}
-use Rattle.slots.specs.Desks.{control_of, control_in, has_right, allowed_in}
+use Rattle.slots.specs.Desks.{control_of, control_in}
 
 -- a row of rights
 row_long : (n row : ℕ) → length (slot_rights n row) ≡ n
@@ -108,6 +106,18 @@ module _ (row slot right : ℕ) (k : right ≤ max_right) where
   pub next_fits : packed_row next < 65_536
   unfolding slot_count
   next_fits = subst (λ n. packed_row next < 4 ^ n) next_length (packed_below next next_rows)
+
+  -- packed from the last slot on: none of it, then one right more, and what is packed has 16 bits
+  pub packed_start : 0 ≡ packed_row (drop 8 next)
+  packed_start = sym (packed_none next 8 (omega (arith, next_length, slots_eight)))
+
+  pub packed_next : (i : ℕ) → 0 < i → i ≤ 8 → packed_row (drop (i - 1) next) ≡ get_or next (i - 1) 0 + 4 * packed_row (drop i next)
+  packed_next i more few =
+      let again : i - 1 + 1 ≡ i = omega arith in
+      packed_from next (i - 1) (omega (arith, next_length, slots_eight)) ∙ ap (λ k. get_or next (i - 1) 0 + 4 * packed_row (drop k next)) again
+
+  pub packed_fits : (i : ℕ) → packed_row (drop i next) < 65_536
+  packed_fits i = omega (arith, packed_part next i, next_fits)
 
 -- the rows of all stations
 pub row_of_station : (rows : List ℕ) (s : ℕ) → s < length rows → get_or (rights_of rows) s [] ≡ row_of (get_or rows s 0)
@@ -200,18 +210,8 @@ pub not_first : (s : ℕ) → (s ≡ 0 → ⊥) → 1 ≤ s
 not_first zero n = absurd (n refl)
 not_first (suc s) n = omega arith
 
-all_pass : (f : ℕ → Bool) → ((b : ℕ) → f b ≡ true) → (l : List ℕ) → all f l ≡ true
-all_pass f h [] = refl
-all_pass f h (b ∷ l) = rw (h b, all) (all_pass f h l)
-
-pub first_allowed : (c : Control) → c.station ≡ 0 → (right : ℕ) → right ≤ max_right → (names : List ℕ) → allowed_in c right names ≡ true
-unfolding allowed_in
-first_allowed c e right k names =
-    all_pass (has_right c right) (λ b. ap (λ s. leb right (right_of (control_of c).rights s (slot_number b))) e
-    ∙ le-leb right max_right k) names
-
 -- one of some names of slots
-pub named_at : (l : List ℕ) (i : ℕ) → i < length l → all is_slot l ≡ true → is_slot (get_or l i 0) ≡ true
-named_at [] i h e = absurd (omega arith)
-named_at (b ∷ l) zero h e = so (is_slot b) (all_head is_slot b l (T_of e))
-named_at (b ∷ l) (suc i) h e = named_at l i (omega arith) (so (all is_slot l) (all_tail is_slot b l (T_of e)))
+pub named_at : (l : List ℕ) (i d : ℕ) → i < length l → all is_slot l ≡ true → is_slot (get_or l i d) ≡ true
+named_at [] i d h e = absurd (omega arith)
+named_at (b ∷ l) zero d h e = so (is_slot b) (all_head is_slot b l (T_of e))
+named_at (b ∷ l) (suc i) d h e = named_at l i d (omega arith) (so (all is_slot l) (all_tail is_slot b l (T_of e)))

@@ -1,38 +1,16 @@
--- Blocks of the columns: a whole column by value, and what a window of the columns shows after some words were written over them.
-use Prim.Native.Nat.{ℕ, ◌+◌, ◌-◌, ◌≤◌, ◌<◌}
-use mathlib.Core.Path.{◌≡◌, refl, sym, ◌∙◌, ap, ap₂}
-use mathlib.Core.List.{List, ◌++◌, append-nil, append_assoc}
-use native.Mathlib.Numerals.{add-one}
+-- Blocks of the columns: what a window of the columns shows after some words were written over them.
+use Prim.Native.Nat.{ℕ, ◌+◌, ◌-◌, ◌≤◌}
+use mathlib.Core.Path.{◌≡◌, refl, sym, ◌∙◌, ap}
+use mathlib.Core.List.{List, ◌++◌, append_assoc}
 use native.Mathlib.Omega.{arith}
-use lib.ListN.{length, take, drop, get_or, set, replicate, length-append, length-drop, take-append-drop}
-use lib.Seq.{take_all, take-length, paste, paste-zero, paste-suc, length-take-le, take_at, drop_at, take-append-le, drop-append-le}
+use lib.ListN.{length, take, drop, length-append, length-drop, take-append-drop}
+use lib.Seq.{length-take-le, take_at, drop_at, take-append-le, drop-append-le}
 use lib.Seq.{drop-append-add, drop-drop}
 use Rattle.higman.specs.Limits.{max_pairs}
 use Rattle.higman.specs.Buffers.{written}
 use Rattle.operations.specs.declared.Plan.{Plan}
-use Rattle.operations.specs.Filled.{filling}
 use Rattle.slots.specs.Blocks.{InColumns, from_place, to_place, put}
 use Rattle.columns.proofs.Limits.{pair_limit}
-
--- a column that is full has no zeros behind it
-pub filling_full : (l : List ℕ) → length l ≡ max_pairs → filling max_pairs l ≡ l
-filling_full l e =
-    let none : max_pairs - max_pairs ≡ 0 = omega arith in
-    ap₂ (λ f k. f ++ replicate k 0) (take_all max_pairs l (omega arith)) none ∙ append-nil l
-
--- a whole column is written where all its words are pasted
-pub pasted : (l : List ℕ) (at : ℕ) (ws : List ℕ) (n : ℕ) → n ≡ length ws → paste l at ws n ≡ written l at ws
-pasted l at ws n e =
-    ap (paste l at ws) e
-    ∙ ap (λ w. (take at l ++ w) ++ drop (at + length ws) l) (take-length ws)
-    ∙ append_assoc (take at l) ws (drop (at + length ws) l)
-
-pub paste_start : (l : List ℕ) (at : ℕ) (ws : List ℕ) → l ≡ paste l at ws 0
-paste_start l at ws = paste-zero l at ws
-
-pub paste_next : (l : List ℕ) (at : ℕ) (ws : List ℕ) (i : ℕ) → at + i < length l → i < length ws
-    → set (paste l at ws i) (at + i) (get_or ws i 0) ≡ paste l at ws (i + 1)
-paste_next l at ws i h k = paste-suc l at ws i 0 h k ∙ ap (paste l at ws) (sym (add-one i))
 
 -- a window of a list that begins with p shows only p, where it stands within it
 within_front : (p q : List ℕ) (b n : ℕ) → b + n ≤ length p → take n (drop b (p ++ q)) ≡ take n (drop b p)

@@ -6,15 +6,14 @@ ghost use Rattle.higman.specs.Buffers.{written};
 ghost use Rattle.slots.specs.Blocks.{InColumns, value_at, put};
 
 use crate::{BLOCK, Head};
-use operations::{MAX_PAIRS, Plan, following};
+use operations::{MAX_PAIRS, Plan};
 
 // So many words of the columns, from a place on.
 pub fn part(columns: &[u64], at: usize, n: usize) -> &[u64]
     requires { at + n ≤ length columns.now }
     ensures { result.now ≡ take n (drop at columns.now) }
 {
-    let end = at + n;
-    &columns[at..end]
+    &columns[at..at + n]
 }
 
 // A column of a block, by value.
@@ -22,7 +21,9 @@ fn column(columns: &[u64], at: usize) -> [u64; MAX_PAIRS]
     requires { at + 128 ≤ length columns.now }
     ensures { result ≡ take max_pairs (drop at columns.now) }
 {
-    following::padded(part(columns, at, MAX_PAIRS), MAX_PAIRS)
+    let mut column = [0; MAX_PAIRS];
+    column.copy_from_slice(part(columns, at, MAX_PAIRS));
+    column
 }
 
 // What a block holds.
@@ -32,14 +33,12 @@ pub fn value(head: Head, columns: &[u64], i: usize) -> Plan
 {
     let size = head.sizes[i];
     let base = i * BLOCK;
-    let from = column(columns, base);
-    let to = column(columns, base + MAX_PAIRS);
     Plan {
         arity: size.arity,
         roots: size.roots,
         pairs: size.pairs,
-        from: from,
-        to: to,
+        from: column(columns, base),
+        to: column(columns, base + MAX_PAIRS),
     }
 }
 
@@ -48,11 +47,7 @@ fn put_column(columns: &mut [u64], at: usize, column: &[u64])
     requires { at + length column.now ≤ length columns.old }
     ensures { columns.new ≡ written columns.old at column.now }
 {
-    let mut i = 0;
-    while i < column.len() {
-        columns[at + i] = column[i];
-        i += 1;
-    }
+    columns[at..at + column.len()].copy_from_slice(column);
 }
 
 // The words of a plan put into a block.
@@ -61,8 +56,6 @@ pub fn put(columns: &mut [u64], i: usize, plan: Plan)
     ensures { columns.new ≡ put columns.old i plan }
 {
     let base = i * BLOCK;
-    let from = plan.from;
-    let to = plan.to;
-    put_column(columns, base, &from);
-    put_column(columns, base + MAX_PAIRS, &to);
+    put_column(columns, base, &plan.from);
+    put_column(columns, base + MAX_PAIRS, &plan.to);
 }

@@ -196,37 +196,21 @@ pub fn right(control: Control, slot: usize) -> u8
     rights::at(row, slot)
 }
 
-// Whether the named station has at least some right on all of some slots. Station 0 has them all.
+// Whether the named station has at least some right on all of some slots.
 fn are_allowed(control: Control, names: &[u8], needed: u8) -> bool
     requires { RightsAsked control names.now needed }
     ensures { result ≡ allowed_in control needed names.now }
 {
-    if control.station == 0 {
-        return true;
-    }
-    let mut i = 0;
-    while i < names.len() {
-        let slot = slot_number(names[i]);
-        if right(control, slot) < needed {
-            return false;
-        }
-        i += 1;
-    }
-    true
+    names
+        .iter()
+        .all(|name| needed <= right(control, slot_number(*name)))
 }
 
 // Whether all of some bytes name slots.
 fn are_slots(names: &[u8]) -> bool
     ensures { result ≡ all is_slot names.now }
 {
-    let mut i = 0;
-    while i < names.len() {
-        if !listing::is_slot(names[i]) {
-            return false;
-        }
-        i += 1;
-    }
-    true
+    names.iter().all(|name| listing::is_slot(*name))
 }
 
 // What all records of slots have in common, by the slots that one reads and those that are its targets: 2, 8, 20.
@@ -237,17 +221,11 @@ pub fn admission(head: Head, reads: &[u8], targets: &[u8]) -> Result<(), Refused
     if head.draft.is_some() {
         return Err(Refusal::WrongState.into());
     }
-    if !are_slots(reads) {
-        return Err(Refusal::SlotOutside.into());
-    }
-    if !are_slots(targets) {
+    if !are_slots(reads) || !are_slots(targets) {
         return Err(Refusal::SlotOutside.into());
     }
     let control = head.control;
-    if !are_allowed(control, reads, rights::READ) {
-        return Err(Refusal::RightMissing.into());
-    }
-    if !are_allowed(control, targets, rights::WRITE) {
+    if !are_allowed(control, reads, rights::READ) || !are_allowed(control, targets, rights::WRITE) {
         return Err(Refusal::RightMissing.into());
     }
     Ok(())

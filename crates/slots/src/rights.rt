@@ -41,9 +41,7 @@ pub fn with(row: u16, slot: usize, right: u8) -> u16
     ensures { result ≡ packed_row (set (row_of row) slot right) }
 {
     let mut next = 0u16;
-    let mut i = SLOTS;
-    while 0 < i {
-        i -= 1;
+    for i in (0..SLOTS).rev() {
         next = next * 4 + after(row, slot, right, i) as u16;
     }
     next

@@ -2,28 +2,11 @@
 -- what is lost is part of the sum, and the sum has 16 bits.
 use borrow.Author.Tests.{leb-false}
 use native.Mathlib.Omega.{arith}
-use Rattle.desk.specs.Limits.{station_count, max_changes}
+use Rattle.desk.specs.Limits.{max_changes}
 use Rattle.desk.specs.Desk.{count_in}
 use Rattle.slots.specs.Desks.{control_of}
 use Rattle.slots.proofs.noted.Goals as goal
 
-pub bounds-control-station : goal.bounds-control-station
-unfolding station_count
-bounds-control-station c = c.requires.is_control.named
-
-pub overflow_sub-pairs : goal.overflow_sub-pairs
-overflow_sub-pairs c = c.requires.held
-
-pub overflow_add-pairs : goal.overflow_add-pairs
-overflow_add-pairs c = record { fits = omega (arith, c.requires.fits) }
-
 pub overflow_add-next : goal.overflow_add-next
 unfolding max_changes
 overflow_add-next c = record { fits = omega (arith, leb-false max_changes (count_in (control_of c.args.control)) c.requires.room) }
-
-pub bounds-next-station : goal.bounds-next-station
-unfolding station_count
-bounds-next-station c = c.requires.is_control.named
-
-pub overflow_cast-next : goal.overflow_cast-next
-overflow_cast-next c = record { fits = omega (arith, c.requires.fits) }

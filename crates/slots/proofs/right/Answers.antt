@@ -1,7 +1,6 @@
 -- `slots::right` meets its contract: station 0 has 2, and the others have what is kept for them.
 use mathlib.Core.Path.{sym, ◌∙◌, ap}
-use native.Mathlib.Omega.{arith}
-use Rattle.desk.specs.Limits.{station_count, max_right}
+use Rattle.desk.specs.Limits.{max_right}
 use Rattle.desk.specs.Desk.{right_of}
 use Rattle.slots.specs.Desks.{control_of}
 use Rattle.slots.proofs.Rows.{station_right, not_first}
@@ -12,10 +11,6 @@ unfolding max_right
 returns-then-station-eq0 c =
     let a = c.args in
     sym (ap (λ s. right_of (control_of a.control).rights s a.slot) c.if-station-eq0.true)
-
-pub bounds-control-station : goal.bounds-control-station
-unfolding station_count
-bounds-control-station c = omega (arith, c.requires.is_control.named)
 
 pub returns : goal.returns
 returns c =
