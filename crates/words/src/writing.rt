@@ -30,11 +30,9 @@ pub fn write(w: u64, out: &mut [u8], at: usize) -> usize
 {
     let end = at + crate::length(w) as usize;
     let mut front = w;
-    let mut i = end;
-    while 0 < front {
-        i -= 1;
+    for i in (at..end).rev() {
         out[i] = crate::byte(crate::last(front));
-        front = front / 16;
+        front /= 16;
     }
     end
 }

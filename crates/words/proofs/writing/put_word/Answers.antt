@@ -4,6 +4,4 @@ use Rattle.words.proofs.Runs.{wrote_then}
 use Rattle.words.proofs.writing.put_word.Goals as goal
 
 pub returns : goal.returns
-returns c =
-    let p = c.before.before in
-    wrote_then (omega arith) p.before.before.before.before.put-word_at.ensures p.write.ensures
+returns c = wrote_then (omega arith) c.put-word_at.ensures c.write.ensures

@@ -1,5 +1,5 @@
 -- `words::writing::write` meets its contract. The invariant: the digits that are taken off stand in the buffer, in front of what was there
--- behind them, and the others still fit before them. The measure is what is left of the number.
+-- behind them, and the others still fit before them.
 use Prim.Native.Nat.{ℕ, ◌+◌, ◌≤◌}
 use mathlib.Core.Path.{◌≡◌}
 use mathlib.Core.List.{List, ◌++◌}
@@ -18,8 +18,5 @@ pub record Writing (w : ℕ) (buffer : List ℕ) (at end : ℕ) (out : List ℕ)
   pub behind : end ≡ at + length (unpack w)
   pub long : length out ≡ length buffer
 
-abbrev pub invariant-loop-front : goal.invariant-loop-front
-invariant-loop-front l = Writing l.w l.initial.out l.at l.end l.out l.front l.i
-
-abbrev pub decreases-loop-front : goal.decreases-loop-front
-decreases-loop-front l = l.front
+abbrev pub invariant-loop-i : goal.invariant-loop-i
+invariant-loop-i l = Writing l.w l.initial.out l.at l.end l.out l.front l.i
