@@ -1,7 +1,7 @@
 -- Words as bytes: a code read one byte at a time from the first on, and a word written one digit at a time from the last on.
 use Prim.Native.Nat.{ℕ, suc, ◌+◌, ◌*◌, ◌≤◌, ◌<◌}
 use mathlib.Core.Path.{◌≡◌, refl, sym, ◌∙◌, ap}
-use mathlib.Core.Bool.{Bool, true, false, ◌&&◌, and-true, and-false}
+use mathlib.Core.Bool.{true, false, ◌&&◌, and-true, and-false}
 use mathlib.Core.List.{List, [], ◌∷◌, ◌++◌, append_assoc}
 use native.Mathlib.Numerals.{add-one}
 use native.Mathlib.Nat.{add-zero}
@@ -9,7 +9,7 @@ use native.Mathlib.Omega.{arith}
 use lib.ListN.{length, get_or, take, drop, set, take-append-drop, length-map}
 use lib.Seq.{drop-cons, take-suc, set_at, length-take-le}
 use borrow.Author.Tests.{le-leb, lt-leb}
-use Rattle.higman.specs.Words.{Shape, Word, is_digit, is_ways, is_word, child}
+use Rattle.higman.specs.Words.{Shape, Word, is_word, child}
 use Rattle.higman.specs.Text.{digit_byte, word_bytes, digit_of, word_of}
 use Rattle.higman.specs.Limits.{max_digits, is_plan_word}
 use Rattle.words.specs.Packed.{pack_on, pack}
@@ -17,30 +17,10 @@ use Rattle.higman.specs.Buffers.{written}
 use Rattle.words.specs.Bytes.{read_word}
 use Rattle.std.specs.Prelude.{Some, None}
 
--- a first digit from 1 to m, if there is one, and then ways from 1 to n
-abbrev pub is_from : ℕ → ℕ → Word → Bool
-is_from m n [] = true
-is_from m n (a ∷ w) = is_digit m a && is_ways n w
-
-pub no_word : (s : Shape) (code : List ℕ) → length code ≡ 0 → is_word s (word_of code) ≡ false
-no_word s [] h = refl
-no_word s (b ∷ code) h = absurd (omega arith)
-
-pub word_from : (s : Shape) (w : Word) → 0 < length w → is_word s w ≡ is_from s.roots s.arity w
-word_from s [] h = absurd (omega arith)
-word_from s (a ∷ w) h = refl
-
-ways_from : (n : ℕ) (w : Word) → is_ways n w ≡ is_from n n w
-ways_from n [] = refl
-ways_from n (a ∷ w) = refl
-
 -- what is left of a code: its first byte, and what is left after it
 module _ (code : List ℕ) (i : ℕ) (h : i < length code) where
   left : word_of (drop i code) ≡ digit_of (get_or code i 0) ∷ word_of (drop (i + 1) code)
   left = ap word_of (drop-cons code i 0 h) ∙ ap (λ n. digit_of (get_or code i 0) ∷ word_of (drop n code)) (sym (add-one i))
-
-  pub from_step : (m n : ℕ) → is_from m n (word_of (drop i code)) ≡ (is_digit m (digit_of (get_or code i 0)) && is_from n n (word_of (drop (i + 1) code)))
-  from_step m n = ap (is_from m n) left ∙ ap (λ t. is_digit m (digit_of (get_or code i 0)) && t) (ways_from n (word_of (drop (i + 1) code)))
 
   pub pack_on_step : (p : ℕ) → pack_on p (word_of (drop i code)) ≡ pack_on (p * 16 + digit_of (get_or code i 0)) (word_of (drop (i + 1) code))
   unfolding pack_on
@@ -67,6 +47,9 @@ module _ (s : Shape) (code : List ℕ) where
   not_too_long h =
       ap (λ t. is_word s (word_of code) && t) (le-leb (length (word_of code)) max_digits (omega (arith, length-map code digit_of)))
       ∙ and-true (is_word s (word_of code))
+
+-- what `read` answers, at a code of any length
+pub ruleset reading = (read_some, read_none, too_long, not_too_long)
 
 -- the bytes of a word followed by a digit
 pub bytes_child : (w : Word) (i : ℕ) (s : List ℕ) → word_bytes (child w i) ++ s ≡ word_bytes w ++ digit_byte i ∷ s
