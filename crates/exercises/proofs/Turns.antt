@@ -10,8 +10,9 @@ use lib.Dec.{T}
 use lib.ListN.{length, get_or, take}
 use Rattle.higman.specs.Words.{Shape}
 use Rattle.higman.specs.Bases.{all, longest}
-use Rattle.higman.specs.Limits.{max_digits, fits, shape_in_range}
+use Rattle.higman.specs.Limits.{max_digits, fits, shape_in_range, seed_in_range}
 use Rattle.higman.specs.Exercises.{next_draw, drawn, expanded_at, grown}
+use Rattle.higman.proofs.Draws.{draws_in_range}
 use Rattle.higman.proofs.KeptPlans.{in_range, arity_of_range}
 use Rattle.higman.proofs.Splits.{grown_nonempty}
 use Rattle.columns.specs.Packed.{words_of}
@@ -26,6 +27,14 @@ pub record Growing (s : Shape) (x : ℕ) (column : List ℕ) (words last k : ℕ
   pub holds : words_of (take words column) ≡ grown s x k
   pub short : longest (grown s x k) ≤ max_digits
 
+-- What a turn of the loop may count on: there is a word, and room for one more split.
+pub record Turn (s : Shape) (words : ℕ) : Type 0 where
+  pub some_ways : 1 ≤ s.arity
+  pub few_ways : s.arity ≤ 9
+  pub some_word : 0 < words
+  pub room : words + (s.arity - 1) ≤ 128
+  pub inside : (y : ℕ) → y % words < words
+
 module _ (s : Shape) (range : T (shape_in_range s)) (x : ℕ) (column : List ℕ) (words last k : ℕ) (g : Growing s x column words last k) where
   ways : 1 ≤ s.arity
   ways = arity_of_range s range
@@ -33,17 +42,23 @@ module _ (s : Shape) (range : T (shape_in_range s)) (x : ℕ) (column : List ℕ
   belts : 1 ≤ s.roots
   belts = (in_range s range).roots_low
 
-  pub some_word : 0 < words
-  some_word = omega (arith, g.counted, grown_nonempty s ways belts x k)
-
-  pub place_below : (y : ℕ) → y % words < words
-  place_below y = mod-lt y some_word
+  some : 0 < words
+  some = omega (arith, g.counted, grown_nonempty s ways belts x k)
 
   -- there is room for the next split where there is for all
-  pub room_after_lem : (m : ℕ) → k < m → words + (s.arity - 1) ≤ length (grown s x m)
-  room_after_lem m l =
+  pub turn : (m : ℕ) → k < m → length (grown s x m) ≤ 128 → Turn s words
+  turn m l h =
       let all_of_them : suc k + (m - suc k) ≡ m = omega arith in
-      omega (arith, g.counted, next_size s ways belts x k, size_below s ways belts x (suc k) (m - suc k), ap (λ i. length (grown s x i)) all_of_them)
+      record {
+        some_ways = ways;
+        few_ways = (in_range s range).arity_high;
+        some_word = some;
+        room = omega (arith, g.counted, next_size s ways belts x k, size_below s ways belts x (suc k) (m - suc k), ap (λ i. length (grown s x i)) all_of_them);
+        inside = λ y. mod-lt y some;
+      }
+
+  pub seed_now : T (seed_in_range x) → T (seed_in_range last)
+  seed_now t = subst (λ z. T (seed_in_range z)) (sym g.draws) (draws_in_range x t k)
 
   module _ (y : ℕ) (e : y ≡ next_draw last) where
     drawn_next : y ≡ next_draw (drawn x k)
@@ -51,7 +66,7 @@ module _ (s : Shape) (range : T (shape_in_range s)) (x : ℕ) (column : List ℕ
 
     same_word_lem : get_or (grown s x k) (y % length (grown s x k)) [] ≡ word_at column (y % words)
     same_word_lem =
-        ap₂ (λ c n. get_or c (y % n) []) (sym g.holds) (sym g.counted) ∙ word_at_lem column words (y % words) (place_below y)
+        ap₂ (λ c n. get_or c (y % n) []) (sym g.holds) (sym g.counted) ∙ word_at_lem column words (y % words) (mod-lt y some)
 
     -- the word at the next place has no room
     pub outgrown_now : max_digits ≤ length (word_at column (y % words)) → (m : ℕ) → k < m → all fits (grown s x m) ≡ false

@@ -12,16 +12,15 @@ const MODULUS: u64 = 2_147_483_647;
 const MAX_SEED: u64 = MODULUS - 1;
 
 // Whether a number is a seed: 17 is given otherwise.
+#[tactic(auto, unfolding(higman::specs::Limits::seed_in_range))]
 pub fn is_seed(seed: u64) -> bool
     ensures { result ≡ seed_in_range seed }
 {
-    if seed < 1 {
-        return false;
-    }
-    seed <= MAX_SEED
+    (1..=MAX_SEED).contains(&seed)
 }
 
 // The draw that follows a seed or a draw.
+#[tactic(auto, using(higman::proofs::Draws::seed_of_test), unfolding(higman::specs::Exercises::next_draw))]
 pub fn next(last: u64) -> u64
     requires { T (seed_in_range last) }
     ensures { result ≡ next_draw last }

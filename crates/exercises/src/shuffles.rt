@@ -14,14 +14,9 @@ pub fn shuffle(column: [u64; MAX_PAIRS], count: usize, draw: u64) -> [u64; MAX_P
 {
     let mut words = column;
     let mut last = draw;
-    let mut i = count - 1;
-    while 0 < i {
+    for i in (1..count).rev() {
         last = draws::next(last);
-        let j = (last % (i as u64 + 1)) as usize;
-        let w = words[i];
-        words[i] = words[j];
-        words[j] = w;
-        i -= 1;
+        words.swap(i, (last % (i as u64 + 1)) as usize);
     }
     words
 }

@@ -25,8 +25,7 @@ pub fn grow(arity: u8, roots: u8, splits: u8, draw: u64) -> Grown
     let mut column = splits::root_words(roots);
     let mut count = roots as usize;
     let mut last = draw;
-    let mut done: u8 = 0;
-    while done < splits {
+    for _ in 0..splits {
         last = draws::next(last);
         let place = (last % count as u64) as usize;
         if MAX_DIGITS as u32 <= words::length(column[place]) {
@@ -38,7 +37,6 @@ pub fn grow(arity: u8, roots: u8, splits: u8, draw: u64) -> Grown
         }
         column = splits::split(column, count, place, arity);
         count += arity as usize - 1;
-        done += 1;
     }
     Grown {
         words: column,

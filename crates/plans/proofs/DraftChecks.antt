@@ -1,8 +1,7 @@
 -- Drafts by what they mean: the parts of the test `is_draft` as the code makes them, that they say the same as the test, and the
 -- judgement by the test.
 use Prim.Native.Nat.{ℕ, ◌≤◌}
-use mathlib.Core.Path.{◌≡◌, sym, ◌∙◌, subst}
-use mathlib.Core.Logic.{◌⊎◌, inl, inr, ⊎_elim}
+use mathlib.Core.Path.{◌≡◌, sym, subst}
 use mathlib.Core.Bool.{Bool, true, false, ◌&&◌}
 use mathlib.Core.List.Memᴰ
 use mathlib.Core.List.{List, map, Memᴰ}
@@ -14,7 +13,7 @@ use Rattle.higman.specs.Bases.{all}
 use Rattle.higman.specs.Tables.{Pair, Table, froms, tos}
 use Rattle.higman.specs.Limits.{shape_in_range, granted, max_pairs, fits, pair_fits, is_plan_word}
 use Rattle.higman.specs.Answers as Of
-use Rattle.higman.proofs.Tests.{passes, so, T_of, clash, and_left, and_right, and_intro, all_at, all_of}
+use Rattle.higman.proofs.Tests.{same_test, and_left, and_right, and_intro, all_at, all_of}
 use Rattle.higman.proofs.Statements.{TableOf, table_of, test_table}
 use Rattle.operations.specs.declared.Plan.{Plan}
 use Rattle.plans.specs.declared.Judgement.TheVariants.{NotADraft}
@@ -102,17 +101,27 @@ module _ (p : Plan) (even : length p.from ≡ length p.to) where
       let front = and_intro few_pairs from_tail (le→leb p.pairs max_pairs d.few) (and_left from_tail from_front d.from_column_lem) in
       and_intro (in_table p) (Of.is_table_of s t) (and_intro (few_pairs && from_tail) to_tail front (and_left to_tail to_front d.to_column_lem)) (test_table s t is)
 
-  pub no_draft : (Draft p → ⊥) → is_draft p ≡ false
-  no_draft h = ⊎_elim (λ t. absurd (h (draft_of_lem (T_of t)))) (λ f. f) (passes (is_draft p))
-
-  -- where all other checks pass, the last decides
-  pub draft_by_to : T (shape_in_range (shape_of p)) → p.pairs ≤ max_pairs → T (is_column (shape_of p) p.pairs p.from) → is_column (shape_of p) p.pairs p.to ≡ is_draft p
-  draft_by_to r few from = go (passes (is_column (shape_of p) p.pairs p.to))
-    where
-      go : (is_column (shape_of p) p.pairs p.to ≡ true) ⊎ (is_column (shape_of p) p.pairs p.to ≡ false) → is_column (shape_of p) p.pairs p.to ≡ is_draft p
-      go (inl t) =
-          t ∙ sym (so (is_draft p) (test_draft (record { in_range = r; few = few; from_column_lem = from; to_column_lem = T_of t })))
-      go (inr f) = f ∙ sym (no_draft (λ d. clash (so (is_column (shape_of p) p.pairs p.to) d.to_column_lem) f))
+  -- the checks, in the order in which they are made
+  pub checked : is_draft p ≡ (((leb p.pairs max_pairs && shape_in_range (shape_of p)) && is_column (shape_of p) p.pairs p.from) && is_column (shape_of p) p.pairs p.to)
+  checked =
+      let few = leb p.pairs max_pairs in
+      let range = shape_in_range (shape_of p) in
+      let from = is_column (shape_of p) p.pairs p.from in
+      let to = is_column (shape_of p) p.pairs p.to in
+      same_test (is_draft p) (((few && range) && from) && to)
+      (λ t.
+      let d = draft_of_lem t in
+      let two = and_intro few range (le→leb p.pairs max_pairs d.few) d.in_range in
+      and_intro ((few && range) && from) to (and_intro (few && range) from two d.from_column_lem) d.to_column_lem)
+      (λ t.
+      let three = and_left ((few && range) && from) to t in
+      let two = and_left (few && range) from three in
+      test_draft (record {
+        in_range = and_right few range two;
+        few = leb→le p.pairs max_pairs (and_left few range two);
+        from_column_lem = and_right (few && range) from three;
+        to_column_lem = and_right ((few && range) && from) to t;
+      }))
 
 -- the columns of a draft, as closing asks for them
 pub draft_columns : (p : Plan) → Draft p → DraftColumns (shape_of p) p.pairs p.from p.to

@@ -15,28 +15,16 @@ use operations::{MAX_PAIRS, Plan, Verdict, closing};
 pub fn are_words(column: &[u64], arity: u8, roots: u8) -> bool
     ensures { result ≡ all (is_plan_word (shape arity roots)) (words_of column.now) }
 {
-    let mut i = 0;
-    while i < column.len() {
-        if !words::is_word(column[i], arity, roots) {
-            return false;
-        }
-        i += 1;
-    }
-    true
+    column
+        .iter()
+        .all(|&word| words::is_word(word, arity, roots))
 }
 
 // Whether nothing stands in a column.
 pub fn are_zeros(column: &[u64]) -> bool
     ensures { result ≡ zeros column.now }
 {
-    let mut i = 0;
-    while i < column.len() {
-        if column[i] != 0 {
-            return false;
-        }
-        i += 1;
-    }
-    true
+    column.iter().all(|&word| word == 0)
 }
 
 // Whether the first n numbers of a column hold words that a plan of the shape may hold, with nothing behind them.
@@ -44,29 +32,17 @@ fn is_column(column: &[u64], n: usize, arity: u8, roots: u8) -> bool
     requires { n ≤ length column.now }
     ensures { result ≡ is_column (shape arity roots) n column.now }
 {
-    if !are_zeros(&column[n..]) {
-        return false;
-    }
-    are_words(&column[..n], arity, roots)
+    are_zeros(&column[n..]) && are_words(&column[..n], arity, roots)
 }
 
 // Whether a value is a draft: a shape in range, and pairs of words within the limit, with nothing behind them.
 pub fn is_draft(p: Plan) -> bool
     ensures { result ≡ is_draft p }
 {
-    let n = p.pairs;
-    let from = p.from;
-    let to = p.to;
-    if MAX_PAIRS < n {
-        return false;
-    }
-    if !operations::shapes::in_range(p.arity, p.roots) {
-        return false;
-    }
-    if !is_column(&from, n, p.arity, p.roots) {
-        return false;
-    }
-    is_column(&to, n, p.arity, p.roots)
+    p.pairs <= MAX_PAIRS
+        && operations::shapes::in_range(p.arity, p.roots)
+        && is_column(&p.from, p.pairs, p.arity, p.roots)
+        && is_column(&p.to, p.pairs, p.arity, p.roots)
 }
 
 // The judgement on a draft, by the verdict on its columns.

@@ -1,6 +1,6 @@
 -- `exercises::shuffles::shuffle` meets its contract. The invariant: what is left to swap makes of the words what all swaps make of the
--- first ones. The measure is the place.
-use Prim.Native.Nat.{◌-◌, ◌<◌}
+-- first ones.
+use Prim.Native.Nat.{◌-◌, ◌≤◌}
 use mathlib.Core.Path.{◌≡◌}
 use lib.Dec.{T}
 use lib.ListN.{take}
@@ -11,9 +11,8 @@ use Rattle.exercises.proofs.shuffles.shuffle.Given as goal
 
 abbrev pub invariant-loop-i : goal.invariant-loop-i
 invariant-loop-i l =
-    (l.i < l.count)
-    × T (seed_in_range l.last)
-    × (shuffled l.last (words_of (take l.count l.words)) l.i ≡ shuffled l.draw (words_of (take l.count l.initial.words)) (l.count - 1))
-
-abbrev pub decreases-loop-i : goal.decreases-loop-i
-decreases-loop-i l = l.i
+    record {
+      some : 1 ≤ l.i;
+      seed : T (seed_in_range l.last);
+      same : shuffled l.last (words_of (take l.count l.words)) (l.i - 1) ≡ shuffled l.draw (words_of (take l.count l.initial.words)) (l.count - 1);
+    }
