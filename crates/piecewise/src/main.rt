@@ -18,15 +18,10 @@ const ROOM: usize = 13854;
 // The bytes of a buffer.
 const LARGE: usize = 65536;
 
-// After a read: the state, and whether there may be more input.
-#[derive(Drop)]
-struct Turned {
-    pub state: State,
-    pub go_on: bool,
-}
-
 // The size of the next piece: always the same large one, or 1, 2, 4, 7, 11 and so on up to 472, and from 1 again.
-fn next(size: usize, large: bool) -> usize {
+fn next(size: usize, large: bool) -> usize
+    ensures { result ≤ 65536 }
+{
     if large {
         return LARGE;
     }
@@ -45,11 +40,9 @@ fn answer<W: Write>(state: State, piece: &[u8], out: &mut [u8], to: &mut W) -> S
     let mut at = 0;
     for _ in 0..piece.len() {
         let fed = feeding::feed(s, &piece[at..], out);
-        let used = fed.used;
-        let _ = to.write_all(&out[..used]);
-        let after = fed.state;
-        s = after;
-        at = at + fed.taken;
+        let _ = to.write_all(&out[..fed.used]);
+        at += fed.taken;
+        s = fed.state;
         if piece.len() <= at {
             return s;
         }
@@ -57,39 +50,7 @@ fn answer<W: Write>(state: State, piece: &[u8], out: &mut [u8], to: &mut W) -> S
     s
 }
 
-// Reads one piece and answers it. A read that fails ends the input.
-fn turn<R: Read, W: Write>(
-    state: State,
-    size: usize,
-    input: &mut [u8],
-    out: &mut [u8],
-    from: &mut R,
-    to: &mut W,
-) -> Turned
-    requires { HoldsState state }
-    ensures { HoldsState result.state }
-{
-    if input.len() < size {
-        return Turned {
-            state: state,
-            go_on: false,
-        };
-    }
-    let n = from.read(&mut input[..size]).unwrap_or(0);
-    if n == 0 {
-        return Turned {
-            state: state,
-            go_on: false,
-        };
-    }
-    let after = answer(state, &input[..n], out, to);
-    Turned {
-        state: after,
-        go_on: true,
-    }
-}
-
-// All of the input, in pieces.
+// All of the input, in pieces. A read that fails ends it.
 fn read_all<R: Read, W: Write>(large: bool, out: &mut [u8], from: &mut R, to: &mut W) -> State
     ensures { HoldsState result }
 {
@@ -97,13 +58,11 @@ fn read_all<R: Read, W: Write>(large: bool, out: &mut [u8], from: &mut R, to: &m
     let mut state = feeding::fresh();
     let mut size = next(0, large);
     for _ in 0..u64::MAX {
-        let t = turn(state, size, &mut input, out, from, to);
-        let go_on = t.go_on;
-        let after = t.state;
-        state = after;
-        if !go_on {
+        let n = from.read(&mut input[..size]).unwrap_or(0);
+        if n == 0 {
             return state;
         }
+        state = answer(state, &input[..n], out, to);
         size = next(size, large);
     }
     state
@@ -115,10 +74,10 @@ fn run<R: Read, W: Write>(large: bool, out: &mut [u8], from: &mut R, to: &mut W)
 {
     let state = read_all(large, out, from, to);
     let last = feeding::finish(state, out);
-    let used = last.used;
-    let _ = to.write_all(&out[..used]);
+    let _ = to.write_all(&out[..last.used]);
 }
 
+#[tactic(auto, unfolding(replies::specs::Sizes::max_reply))]
 fn main(rt: HostRuntime) {
     let mut out = [0u8; LARGE];
     let from = &mut rt.stdin();
