@@ -210,6 +210,11 @@ module _ (h : Head) (columns : List ℕ) where
           by_slot j b true e = subst (λ x. T (in_table (value_at head' columns' x))) (sym (eqb-true j i e)) (subst (λ v. T (in_table v)) (sym value_same) t)
           by_slot j b false e = subst (λ v. T (in_table v)) (sym (value_other j (eqb-false j i e))) (H.in_tables j b)
 
+-- the slot of the open plan
+pub draft_slot : (o : Opened ℕ) → is_some o ≡ true → (slot : ℕ) × (o ≡ Some slot)
+draft_slot None e = cc
+draft_slot (Some slot) e = (slot, refl)
+
 -- the open plan, and the two columns of its block
 pub draft_open : (h : Head) (columns : List ℕ) (slot : ℕ) → h.draft ≡ Some slot
     → (desk_of h columns).draft ≡ some (draft_in slot (value_at h columns draft_block))

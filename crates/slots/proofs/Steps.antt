@@ -5,7 +5,7 @@ use mathlib.Core.Path.{◌≡◌, refl, sym, ◌∙◌, ap, ap₂, subst}
 use mathlib.Core.Bool.{Bool, true, false, ◌&&◌, not}
 use mathlib.Core.List.{List, map, Memᴰ}
 use mathlib.Core.Option.{Option, none}
-use Rattle.std.specs.Prelude.{is_some, Result, Ok, Err, IsErrAnd}
+use Rattle.std.specs.Prelude.{Option as Opened, Some, None, is_some, ok_or, Result, Ok, Err, IsErrAnd}
 use Rattle.higman.specs.Bases.{all}
 use Rattle.higman.specs.Limits.{slot_count}
 use Rattle.higman.specs.Listing.{is_slot, slot_number}
@@ -21,13 +21,14 @@ use Rattle.desk.specs.Replies.{open_amiss, no_station, outside, may_use, denied,
 use Rattle.desk.proofs.Outcomes.{passed, admitted}
 use Rattle.desk.proofs.Stays.{operation_stays, slot_below as below}
 use Rattle.slots.specs.declared.Head.{Head}
+use Rattle.operations.specs.declared.refusals.Refusal.{Refusal}
 use Rattle.operations.specs.declared.refusals.Refusal.TheVariants as The
 use Rattle.operations.specs.Refusals.{number_of}
 use Rattle.slots.specs.declared.Reply.{Reply}
 use Rattle.slots.specs.declared.Refused.{Refused}
 use Rattle.slots.specs.declared.Work.{Work}
 use Rattle.slots.specs.Desks.{desk_of, HoldsDesk, allowed_in}
-use Rattle.slots.specs.Refused.{refusing, letter_of, outcome_of}
+use Rattle.slots.specs.Refused.{refused_for, refusing, letter_of, outcome_of}
 use Rattle.slots.specs.Works.{uses_of, AdmittedAs, direct, told, reply_to, reply_in, head_after, desk_after, DoneBy, Done, ToldBy, Tells}
 use Rattle.slots.proofs.Held.{open_is}
 
@@ -150,6 +151,11 @@ admitted_named d r a u m =
 pub returned : {A : Type 0} (w : Result A Refused) (f : Refused) → IsErrAnd w (λ e. e ≡ f) → w ≡ Err f
 returned (Ok a) f h = absurd h
 returned (Err e) f h = ap Err h
+
+-- and with what, where `ok_or` gave the refusal
+pub refused_with : {A : Type 0} (o : Opened A) (n m : Refusal) → ◌≡◌ {A = Result A Refusal} (Err n) (ok_or o m) → refused_for n ≡ refused_for m
+refused_with None n m e = cc
+refused_with (Some x) n m e = cc
 
 -- a refusal leaves the desk as it is, whatever it is that is refused
 pub told_refusal : (d : Desk) (o : Outcome Effect) (f : Refused) → o ≡ outcome_of (Err f) → (out : List ℕ) (p : Result Reply Refused)
