@@ -10,6 +10,7 @@ use native.Mathlib.Omega.{arith}
 use lib.Dec.{T}
 use lib.ListN.{length, take, drop, length-take, length-drop, take-append-drop}
 use borrow.Author.Tests.{not-true}
+use Rattle.std.specs.List.{list_any, range_with_len}
 use Rattle.higman.specs.Words.{Shape, Word, count, digits, child}
 use Rattle.higman.specs.Tables.{Pair, Table, froms, same_table}
 use Rattle.higman.specs.Normal.{gather, whole, parts, keep, Joinable, Reduced, ordered}
@@ -145,6 +146,14 @@ pub joins_few : (n : ℕ) (f t : List ℕ) (at : ℕ) → length f ≡ length t 
 joins_few n f t at e h k =
     few n (table (drop at f) (drop at t))
     (omega (arith, table_length (drop at f) (drop at t) (length-drop at f ∙ ap (λ l. l - at) e ∙ sym (length-drop at t)), length-drop at f))
+
+-- the pass over the places, each looked at by itself, of which there are m from a place on
+pub found_somewhere : (n : ℕ) (f t : List ℕ) → 1 ≤ n → length f ≡ length t → (at m : ℕ) → length f + 1 - n - at ≡ m
+    → list_any (λ k. joins_first n (table (drop k f) (drop k t))) (range_with_len at m) ≡ has_join n (table (drop at f) (drop at t))
+found_somewhere n f t h e at zero l = sym (joins_few n f t at e (omega arith) h)
+found_somewhere n f t h e at (suc m) l =
+    ap (λ b. joins_first n (table (drop at f) (drop at t)) || b) (found_somewhere n f t h e (at + 1) m (omega arith))
+    ∙ sym (joins_from n h f t at (omega arith) (omega arith))
 
 part_listed : (n : ℕ) (w v : Word) (i : ℕ) → Memᴰ i (digits n) → Memᴰ (pair (child w i) (child v i)) (prefixed w (parts n v))
 part_listed n w v i m =

@@ -3,13 +3,13 @@
 use Prim.Native.Nat.{ℕ, zero, suc, ◌+◌, ◌-◌, ◌≤◌, ◌<◌}
 use mathlib.Core.Path.{◌≡◌, refl, sym, ◌∙◌, ap, ap₂, subst}
 use mathlib.Core.Logic.{◌⊎◌, inl, inr}
-use mathlib.Core.Bool.{Bool, true, false, ◌&&◌, not}
+use mathlib.Core.Bool.{Bool, true, false, ◌&&◌}
 use mathlib.Core.List.{List, ◌++◌, nil≢cons, head-eq_of_cons-eq}
 use native.Mathlib.Nat.{eq-zero-or-pos}
 use native.Mathlib.Omega.{arith}
 use lib.Dec.{T, eqb}
 use lib.ListN.{length, get_or, set, length-append}
-use borrow.Author.Tests.{eqb-true, eqb-false, not-true, not-false}
+use borrow.Author.Tests.{eqb-true, eqb-false}
 use Rattle.higman.specs.Words.{Word, count, child}
 use Rattle.higman.specs.Bases.{same_word}
 use Rattle.higman.specs.Tables.{Table, same_table}
@@ -132,7 +132,7 @@ module _ {f t : List ℕ} {start end w n : ℕ} {front b : Table} (x : Laid f t 
     pub no_belt : v ≡ 0 → rows end f t ≡ front ++ prefixed (unpack w) (joined n b)
     no_belt z = unjoined (λ u c e. nil≢cons (sym unpack_zero ∙ ap unpack (sym z) ∙ above_parts u e ∙ c.2))
 
-    pub other_parts : (r : Bool) → r ≡ same_table (rows_at start n f t) (prefixed (unpack w) (parts n (unpack v))) → not r ≡ true
+    pub other_parts : (r : Bool) → r ≡ same_table (rows_at start n f t) (prefixed (unpack w) (parts n (unpack v))) → r ≡ false
         → rows end f t ≡ front ++ prefixed (unpack w) (joined n b)
     other_parts r q k =
         unjoined
@@ -142,15 +142,15 @@ module _ {f t : List ℕ} {start end w n : ℕ} {front b : Table} (x : Laid f t 
         clash
         (so (same_table (rows_at start n f t) (prefixed (unpack w) (parts n (unpack v))))
         (subst (λ l. T (same_table (rows_at start n f t) l)) same (same_table_refl (rows_at start n f t))))
-        (sym q ∙ not-true r k))
+        (sym q ∙ k))
 
     -- pairs that are the parts of v are written over by the one pair of the block
-    pub all_parts : (v ≡ 0 → ⊥) → (r : Bool) → r ≡ same_table (rows_at start n f t) (prefixed (unpack w) (parts n (unpack v))) → not r ≡ false
+    pub all_parts : (v ≡ 0 → ⊥) → (r : Bool) → r ≡ same_table (rows_at start n f t) (prefixed (unpack w) (parts n (unpack v))) → r ≡ true
         → rows (start + 1) (set f start w) (set t start v) ≡ front ++ prefixed (unpack w) (joined n b)
     all_parts k r q e =
         let same : b ≡ parts n (unpack v) =
         prefixed_injective (unpack w) b (parts n (unpack v))
-        (sym block ∙ same_table_lem (rows_at start n f t) (prefixed (unpack w) (parts n (unpack v))) (T_of (sym q ∙ not-false r e))) in
+        (sym block ∙ same_table_lem (rows_at start n f t) (prefixed (unpack w) (parts n (unpack v))) (T_of (sym q ∙ e))) in
         let one : joined n b ≡ whole (unpack v) =
         ap (joined n) same ∙ joined_parts n (unpack v) x.some_part (λ z. k (unpack_injective v 0 (z ∙ sym unpack_zero))) in
         rows_set start f t w v (omega (arith, x.some_part)) (omega (arith, x.some_part))

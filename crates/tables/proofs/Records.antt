@@ -44,11 +44,7 @@ pub listing_size : (slot : ℕ) (s : Shape) (t : Table) → length (listing slot
 listing_size slot s t = omega (arith, length-append (join_lines (pair_records t)) close_record)
 
 module _ (from to : List ℕ) (i : ℕ) where
-  -- the pair there
-  abbrev pair_here : Pair
-  pair_here = pair_of (get_or from i 0) (get_or to i 0)
-
-  -- the M record of the pair there, and those from the next place on
+  -- the M records from the next place on
   abbrev lines_behind : List ℕ
   lines_behind = pair_lines (drop (i + 1) from) (drop (i + 1) to)
 
@@ -58,25 +54,27 @@ module _ (from to : List ℕ) (i : ℕ) where
   pub block_none : (k : ℕ) → length from ≤ i → block_lines k (drop i from) (drop i to) ≡ []
   block_none k h = ap (λ f. block_lines k f (drop i to)) (drop_of_length-le from h)
 
-  module _ (h : i < length from) (e : length from ≡ length to) where
-    rows_here : table (drop i from) (drop i to) ≡ pair_here ∷ table (drop (i + 1) from) (drop (i + 1) to)
+  -- the words there
+  module _ (h : i < length from) (e : length from ≡ length to) {x y : ℕ} (here : x ≡ get_or from i 0) (here' : y ≡ get_or to i 0) where
+    rows_here : table (drop i from) (drop i to) ≡ pair_of x y ∷ table (drop (i + 1) from) (drop (i + 1) to)
     rows_here =
         ap₂ table (drop-cons from i 0 h) (drop-cons to i 0 (omega arith))
-        ∙ ap (λ n. pair_here ∷ table (drop n from) (drop n to)) (sym (add-one i))
+        ∙ ap (λ n. pair_of (get_or from i 0) (get_or to i 0) ∷ table (drop n from) (drop n to)) (sym (add-one i))
+        ∙ ap₂ (λ f t. pair_of f t ∷ table (drop (i + 1) from) (drop (i + 1) to)) (sym here) (sym here')
 
-    pub lines_step : pair_lines (drop i from) (drop i to) ≡ pair_record pair_here ++ lines_behind
+    pub lines_step : pair_lines (drop i from) (drop i to) ≡ pair_record (pair_of x y) ++ lines_behind
     lines_step = ap (λ t. join_lines (pair_records t)) rows_here
 
-    pub lines_size : length (pair_lines (drop i from) (drop i to)) ≡ length (pair_record pair_here) + length lines_behind
-    lines_size = ap length lines_step ∙ length-append (pair_record pair_here) lines_behind
+    pub lines_size : length (pair_lines (drop i from) (drop i to)) ≡ length (pair_record (pair_of x y)) + length lines_behind
+    lines_size = ap length lines_step ∙ length-append (pair_record (pair_of x y)) lines_behind
 
     -- the same of the lines of a block, where the pair there has the place k
     pub block_step : (k next : ℕ) → next ≡ suc k
         → block_lines k (drop i from) (drop i to)
-        ≡ block_line (record { place = k; pair = pair_here }) ++ block_lines next (drop (i + 1) from) (drop (i + 1) to)
+        ≡ block_line (record { place = k; pair = pair_of x y }) ++ block_lines next (drop (i + 1) from) (drop (i + 1) to)
     block_step k next n =
         ap (λ t. join_lines (map block_line (placed_from k t))) rows_here
-        ∙ ap (λ m. block_line (record { place = k; pair = pair_here }) ++ block_lines m (drop (i + 1) from) (drop (i + 1) to)) (sym n)
+        ∙ ap (λ m. block_line (record { place = k; pair = pair_of x y }) ++ block_lines m (drop (i + 1) from) (drop (i + 1) to)) (sym n)
 
 -- Lines that a loop writes one behind the other, where `lines i` are those that are left after i turns: those before are written.
 pub record LinesWritten (lines : ℕ → List ℕ) (count : ℕ) (buffer : List ℕ) (at : ℕ) (out : List ℕ) (next i : ℕ) : Type 0 where
@@ -106,12 +104,16 @@ module _ (lines : ℕ → List ℕ) (count : ℕ) (buffer : List ℕ) (at : ℕ)
           )
 
       -- and once it is written, one more is
-      pub line_written : {out' : List ℕ} {next' : ℕ} → i < count → length out' ≡ length buffer → Wrote line out next out' next'
-          → LinesWritten lines count buffer at out' next' (i + 1)
-      line_written h long w =
+      pub line_written : {out' : List ℕ} {next' : ℕ} (turns : ℕ) → turns ≡ i + 1 → i < count → length out' ≡ length buffer
+          → Wrote line out next out' next' → LinesWritten lines count buffer at out' next' turns
+      line_written turns more h long w =
           record {
             done = v.done ++ line;
-            parts = v.parts ∙ ap (λ x. v.done ++ x) step ∙ sym (append_assoc v.done line (lines (i + 1)));
+            parts =
+                v.parts
+                ∙ ap (λ x. v.done ++ x) step
+                ∙ sym (append_assoc v.done line (lines (i + 1)))
+                ∙ ap (λ k. (v.done ++ line) ++ lines k) (sym more);
             wrote = wrote_then (omega arith) v.wrote w;
             within = omega arith;
             long = long;

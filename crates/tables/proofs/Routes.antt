@@ -1,15 +1,15 @@
 -- Routing a code of any length: the word of a column that begins it begins its front, the tail behind that word is a part of the code,
 -- and the image, in bytes, is the to-word's bytes and then that part.
-use Prim.Native.Nat.{ℕ, suc, ◌+◌, ◌-◌, ◌≤◌, ◌<◌}
+use Prim.Native.Nat.{ℕ, suc, ◌+◌, ◌≤◌, ◌<◌}
 use mathlib.Core.Path.{◌≡◌, refl, sym, ◌∙◌, ap, ap₂, subst}
 use mathlib.Core.Bool.{true}
-use mathlib.Core.List.{List, ◌++◌, append-nil, append_assoc, map-append}
+use mathlib.Core.List.{List, ◌++◌, append_assoc, map-append}
 use mathlib.Core.Option.{Option, none, some, get_or}
 use native.Mathlib.Nat.{zero-add}
 use native.Mathlib.Numerals.{add-one}
 use native.Mathlib.Omega.{arith}
-use lib.ListN.{length, take, drop, length-append, length-drop, length-map, take-append-drop, drop_of_length-le}
-use lib.Seq.{take_all, take_at, drop_at, drop-drop}
+use lib.ListN.{length, take, drop, length-append, length-map, take-append-drop}
+use lib.Seq.{take_at, drop_at, drop-drop}
 use Rattle.higman.specs.Words.{Word, begins}
 use Rattle.higman.specs.Tables.{first_match, image}
 use Rattle.higman.specs.Places.{place_of}
@@ -132,27 +132,16 @@ module _
       ∙ length-append (word_bytes (word_at to k)) (drop (length (word_at from k)) code)
       ∙ ap (λ n. n + length (drop (length (word_at from k)) code)) (length-map (word_at to k) digit_byte)
 
--- bytes written to the start, and more bytes to the part behind them
-written_behind : (out s t : List ℕ) → length s ≤ length out → take (length s) (written out 0 s) ++ written (drop (length s) (written out 0 s)) 0 t ≡ written out 0 (s ++ t)
-written_behind out s t h =
+-- bytes written to the start, and more bytes copied to the place behind them
+pub written_part : (out s t whole back : List ℕ) (e n : ℕ) → Wrote s out 0 whole e → back ≡ t → n ≡ length t
+    → take e whole ++ (back ++ drop n (drop e whole)) ≡ written out 0 (s ++ t)
+written_part out s t whole back e n w b l =
     let rest = drop (0 + length s) out in
-    let n : 0 + length s + length t ≡ 0 + length (s ++ t) = omega (arith, length-append s t) in
-    let m : 0 + length t ≡ length t = omega arith in
-    ap₂ (λ a b. a ++ (t ++ drop (0 + length t) b)) (take_at s rest (length s) refl) (drop_at s rest (length s) refl)
-    ∙ ap (λ l. s ++ (t ++ l)) (ap (λ k. drop k rest) m ∙ drop-drop (length t) (0 + length s) out ∙ ap (λ k. drop k out) n)
+    let size : 0 + length s + n ≡ 0 + length (s ++ t) = omega (arith, length-append s t) in
+    ap₂ (λ k x. take k x ++ (back ++ drop n (drop k x))) (w.place ∙ zero-add (length s)) w.contents
+    ∙ ap₂ (λ x y. x ++ (back ++ drop n y)) (take_at s rest (length s) refl) (drop_at s rest (length s) refl)
+    ∙ ap₂ (λ x y. s ++ (x ++ y)) b (drop-drop n (0 + length s) out ∙ ap (λ k. drop k out) size)
     ∙ sym (append_assoc s t (drop (0 + length (s ++ t)) out))
-
--- the same where the part from e on was lent to the second writer and has come back as back
-pub written_part : (out s t whole back : List ℕ) (e : ℕ) → Wrote s out 0 whole e → length s ≤ length out
-    → back ≡ written (take (length whole - e) (drop e whole)) 0 t
-    → take e whole ++ (back ++ drop (length whole - e) (drop e whole)) ≡ written out 0 (s ++ t)
-written_part out s t whole back e w h b =
-    let part = drop e whole in
-    let rest = length-drop e whole in
-    ap (λ l. take e whole ++ (back ++ l)) (drop_of_length-le part {i = length whole - e} (omega arith))
-    ∙ ap (λ l. take e whole ++ l) (append-nil back ∙ b ∙ ap (λ l. written l 0 t) (take_all (length whole - e) part (omega arith)))
-    ∙ ap₂ (λ k l. take k l ++ written (drop k l) 0 t) (w.place ∙ zero-add (length s)) w.contents
-    ∙ written_behind out s t h
 
 -- the three answers, by the image of the code and the place of the pair
 module _ (out : List ℕ) (k : ℕ) {o : Option Word} where

@@ -27,17 +27,14 @@ pub fn are_parts(from: &[u64], to: &[u64], at: usize, w: u64, v: u64, arity: u8)
     requires { (arity ≤ 9) × (at + arity ≤ length from.now) × (at + arity ≤ length to.now) }
     ensures { result ≡ same_table (rows_at at arity from.now to.now) (prefixed (unpack w) (parts arity (unpack v))) }
 {
-    let mut k = at;
-    let mut i: u8 = 1;
-    while i <= arity {
+    for i in 1..=arity {
+        let k = at + i as usize - 1;
         if !is_part(from[k], w, i) {
             return false;
         }
         if !is_part(to[k], v, i) {
             return false;
         }
-        k += 1;
-        i += 1;
     }
     true
 }
@@ -72,13 +69,6 @@ pub fn has_join(from: &[u64], to: &[u64], arity: u8) -> bool
     requires { (1 ≤ arity) × (arity ≤ 9) × (length from.now ≡ length to.now) }
     ensures { result ≡ has_join arity (table from.now to.now) }
 {
-    let n = arity as usize;
-    let mut at = 0;
-    while at + n <= from.len() {
-        if joins_at(from, to, at, arity) {
-            return true;
-        }
-        at += 1;
-    }
-    false
+    let places = (from.len() + 1).saturating_sub(arity as usize);
+    (0..places).any(|at| joins_at(from, to, at, arity))
 }

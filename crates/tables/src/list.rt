@@ -75,10 +75,8 @@ fn pair_lines(from: &[u64], to: &[u64], out: &mut [u8], at: usize) -> usize
     ensures { Wrote (pair_lines from.now to.now) out.old at out.new result }
 {
     let mut next = at;
-    let mut i = 0;
-    while i < from.len() {
-        next = pair_line(from[i], to[i], out, next);
-        i += 1;
+    for (&f, &t) in from.iter().zip(to) {
+        next = pair_line(f, t, out, next);
     }
     next
 }
@@ -89,10 +87,8 @@ pub fn block_lines(from: &[u64], to: &[u64], first: usize, out: &mut [u8], at: u
     ensures { Wrote (block_lines first from.now to.now) out.old at out.new result }
 {
     let mut next = at;
-    let mut i = 0;
-    while i < from.len() {
-        next = block_line(from[i], to[i], (first + i) as u32, out, next);
-        i += 1;
+    for (i, &f) in from.iter().enumerate() {
+        next = block_line(f, to[i], (first + i) as u32, out, next);
     }
     next
 }
@@ -122,10 +118,8 @@ pub fn listing_length(from: &[u64], to: &[u64]) -> usize
     ensures { (slot : ℕ) (s : Shape) → result ≡ length (listing slot (record { shape = s; rows = table from.now to.now })) }
 {
     let mut sum = ENDS;
-    let mut row = 0;
-    while row < from.len() {
-        sum += pair_length(from[row], to[row]);
-        row += 1;
+    for (&f, &t) in from.iter().zip(to) {
+        sum += pair_length(f, t);
     }
     sum
 }

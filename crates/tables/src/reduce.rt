@@ -123,8 +123,8 @@ fn copy_pairs(from: &[u64], to: &[u64], out_from: &mut [u64], out_to: &mut [u64]
         ≡ table from.now to.now }
 {
     let n = from.len();
-    columns::sorting::copy(from, &mut out_from[..n]);
-    columns::sorting::copy(to, &mut out_to[..n]);
+    out_from[..n].copy_from_slice(from);
+    out_to[..n].copy_from_slice(to);
 }
 
 // Writes the reduced table of the columns from and to into the lent columns, from their first place on, and returns the number of its

@@ -73,18 +73,6 @@ pub fn unmatched<'a>(from: &[u64], code: &'a [u8], place: &mut usize) -> &'a [u8
     }
 }
 
-// Copies a tail to the start of a part of the output.
-fn copy(tail: &[u8], out: &mut [u8])
-    requires { length tail.now ≤ length out.old }
-    ensures { out.new ≡ written out.old 0 tail.now }
-{
-    let mut i = 0;
-    while i < tail.len() {
-        out[i] = tail[i];
-        i += 1;
-    }
-}
-
 // Routes a code: writes its image from the start of a buffer on, the to-word and right behind it the tail, and tells the pair's place.
 pub fn route_into(from: &[u64], to: &[u64], code: &[u8], out: &mut [u8]) -> Routed
     requires operand { Operand from.now to.now }
@@ -106,6 +94,7 @@ pub fn route_into(from: &[u64], to: &[u64], code: &[u8], out: &mut [u8]) -> Rout
         return Routed::NoRoom;
     }
     let end = words::writing::write(to[k], out, 0);
-    copy(tail, &mut out[end..]);
-    Routed::Image(end + tail.len(), k + 1)
+    let length = end + tail.len();
+    out[end..length].copy_from_slice(tail);
+    Routed::Image(length, k + 1)
 }

@@ -52,8 +52,7 @@ fn spread_beneath(
     ensures { Spreads (beneath (unpack u) (unpack v) (table from.now to.now)) n froms.old tos.old froms.new tos.new result }
 {
     let mut rows = n;
-    let mut i = columns::first_after(from, v);
-    while i < from.len() {
+    for i in columns::first_after(from, v)..from.len() {
         if !words::begins(v, from[i]) {
             return Spread::Rows(rows);
         }
@@ -62,7 +61,6 @@ fn spread_beneath(
             return Spread::TooLong;
         };
         rows = r;
-        i += 1;
     }
     Spread::Rows(rows)
 }
@@ -107,13 +105,11 @@ pub fn spread_plans(
     ensures { Spreads (spread (table a_from.now a_to.now) (table b_from.now b_to.now)) 0 froms.old tos.old froms.new tos.new result }
 {
     let mut rows = 0;
-    let mut i = 0;
-    while i < a_from.len() {
-        let Spread::Rows(r) = spread_pair(a_from[i], a_to[i], b_from, b_to, froms, tos, rows) else {
+    for (&u, &v) in a_from.iter().zip(a_to) {
+        let Spread::Rows(r) = spread_pair(u, v, b_from, b_to, froms, tos, rows) else {
             return Spread::TooLong;
         };
         rows = r;
-        i += 1;
     }
     Spread::Rows(rows)
 }

@@ -1,7 +1,6 @@
--- `tables::list::block_lines` meets its contract. The invariant: the lines of the pairs before i are written, each with its place, and
--- those of the others are left. The measure is the number of pairs that are left.
+-- `tables::list::block_lines` meets its contract: each turn writes the line of its pair, the first of those that are left.
 use Prim.Native.Nat.{ℕ, ◌+◌, ◌≤◌, ◌<◌}
-use mathlib.Core.Path.{◌≡◌, ap, subst}
+use mathlib.Core.Path.{◌≡◌, refl, ap, subst}
 use mathlib.Core.List.{List, ◌++◌}
 use native.Mathlib.Omega.{arith}
 use lib.ListN.{length, get_or}
@@ -39,7 +38,7 @@ room {first} {from} {to} f = omega (arith, f.room, ap length (from_start first f
 
 step : {first : ℕ} {from to : List ℕ} {at size : ℕ} (i : ℕ) → BlockFits first from to at size → i < length from
     → lines_from first from to i ≡ line_here first from to i ++ lines_from first from to (i + 1)
-step {first} {from} {to} i f h = block_step from to i h f.paired (first + i) (first + (i + 1)) (omega arith)
+step {first} {from} {to} i f h = block_step from to i h f.paired refl refl (first + i) (first + (i + 1)) (omega arith)
 
 pub block_line-next-requires : goal.block_line-next-requires
 block_line-next-requires c =
@@ -57,7 +56,7 @@ loop-i-preserved c =
     let to = a.to.now in
     let i = c.loop-i.i in
     line_written (lines_from a.first from to) (length from) a.out.now a.at c.loop-i.invariant (line_here a.first from to i)
-    (room c.requires) (step i c.requires (omega arith)) (omega arith) (omega arith) c.block_line-next.ensures
+    (room c.requires) (step i c.requires (omega arith)) _ refl (omega arith) (omega arith) c.block_line-next.ensures
 
 pub shape_of-out : goal.shape_of-out
 shape_of-out c = c.loop-i.invariant.long
@@ -70,4 +69,4 @@ returns c =
     let first = a.first in
     subst (λ x. Wrote x a.out.now a.at c.loop-i.out c.loop-i.next) (from_start first from to)
     (all_written (lines_from first from to) (length from) a.out.now a.at c.loop-i.invariant
-    (block_none from to c.loop-i.i (first + c.loop-i.i) c.loop-i-test.false))
+    (block_none from to c.loop-i.i (first + c.loop-i.i) (omega arith)))

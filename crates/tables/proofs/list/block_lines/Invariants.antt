@@ -1,6 +1,6 @@
--- `tables::list::block_lines` meets its contract. The invariant: the lines of the pairs before i are written, each with its place, and
--- those of the others are left. The measure is the number of pairs that are left.
-use Prim.Native.Nat.{ℕ, ◌+◌, ◌-◌}
+-- `tables::list::block_lines` meets its contract. The invariant: the lines of the pairs looked at are written, each with its place, and
+-- those of the others are left.
+use Prim.Native.Nat.{ℕ, ◌+◌}
 use mathlib.Core.List.{List}
 use lib.ListN.{length, drop}
 use Rattle.tables.specs.Lines.{block_lines}
@@ -13,6 +13,3 @@ lines_from first from to i = block_lines (first + i) (drop i from) (drop i to)
 
 abbrev pub invariant-loop-i : goal.invariant-loop-i
 invariant-loop-i l = LinesWritten (lines_from l.first l.from l.to) (length l.from) l.initial.out l.at l.out l.next l.i
-
-abbrev pub decreases-loop-i : goal.decreases-loop-i
-decreases-loop-i l = length l.from - l.i

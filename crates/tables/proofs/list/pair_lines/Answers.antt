@@ -1,15 +1,15 @@
--- `tables::list::pair_lines` meets its contract. The invariant: the M records of the pairs before i are written, and those of the others
--- are left. The measure is the number of pairs that are left.
+-- `tables::list::pair_lines` meets its contract: each turn writes the M record of its pair, the first of those that are left.
 use native.Mathlib.Omega.{arith}
-use lib.ListN.{length, get_or}
+use lib.ListN.{length, length-append}
+use Rattle.std.proofs.lemmas.Slice.Zip.{zip_turn, zip_end}
 use Rattle.higman.specs.Listing.{pair_record}
 use Rattle.columns.specs.Packed.{pair_of}
 use Rattle.tables.proofs.Records.{lines_step, lines_none, none_written, line_room, line_written, all_written}
 use Rattle.tables.proofs.list.pair_lines.Invariants.{lines_from}
 use Rattle.tables.proofs.list.pair_lines.Goals as goal
 
-pub loop-i-init : goal.loop-i-init
-loop-i-init c =
+pub loop-f-init : goal.loop-f-init
+loop-f-init c =
     let a = c.args in
     none_written (lines_from a.from.now a.to.now) (length a.from.now) a.out.now a.at
 
@@ -18,26 +18,26 @@ pair_line-next-requires c =
     let a = c.args in
     let from = a.from.now in
     let to = a.to.now in
-    let i = c.loop-i.i in
-    line_room (lines_from from to) (length from) a.out.now a.at c.loop-i.invariant (pair_record (pair_of (get_or from i 0) (get_or to i 0)))
-    (omega arith) (lines_step from to i (omega arith) (omega arith))
+    let i = length c.loop-f.yielded in
+    let (h, k, e, e') = zip_turn from to c.loop-f.yielded _ _ c.next.new.self _ (cc) (cc) c.loop-f.yielded_by _ c.in-Some.is c.next.ensures.steps in
+    line_room (lines_from from to) (length from) a.out.now a.at c.loop-f.invariant (pair_record (pair_of c.in-Some.field-0-0.now c.in-Some.field-0-1.now))
+    (omega arith) (lines_step from to i h (omega arith) (e 0) (e' 0))
 
-pub loop-i-preserved : goal.loop-i-preserved
-loop-i-preserved c =
+pub loop-f-preserved : goal.loop-f-preserved
+loop-f-preserved c =
     let a = c.args in
     let from = a.from.now in
     let to = a.to.now in
-    let i = c.loop-i.i in
-    line_written (lines_from from to) (length from) a.out.now a.at c.loop-i.invariant (pair_record (pair_of (get_or from i 0) (get_or to i 0)))
-    (omega arith) (lines_step from to i (omega arith) (omega arith)) (omega arith) (omega arith) c.pair_line-next.ensures
-
-pub shape_of-out : goal.shape_of-out
-shape_of-out c = c.loop-i.invariant.long
+    let i = length c.loop-f.yielded in
+    let (h, k, e, e') = zip_turn from to c.loop-f.yielded _ _ c.next.new.self _ (cc) (cc) c.loop-f.yielded_by _ c.in-Some.is c.next.ensures.steps in
+    line_written (lines_from from to) (length from) a.out.now a.at c.loop-f.invariant (pair_record (pair_of c.in-Some.field-0-0.now c.in-Some.field-0-1.now))
+    (omega arith) (lines_step from to i h (omega arith) (e 0) (e' 0)) _ (length-append c.loop-f.yielded _) h (omega arith) c.pair_line-next.ensures
 
 pub returns : goal.returns
 returns c =
     let a = c.args in
     let from = a.from.now in
     let to = a.to.now in
-    all_written (lines_from from to) (length from) a.out.now a.at c.loop-i.invariant
-    (lines_none from to c.loop-i.i c.loop-i-test.false)
+    all_written (lines_from from to) (length from) a.out.now a.at c.loop-f.invariant
+    (lines_none from to (length c.loop-f.yielded)
+    (omega (arith, zip_end from to c.loop-f.yielded _ _ c.next.new.self _ (cc) (cc) c.loop-f.yielded_by c.in-None.is c.next.ensures.steps)))

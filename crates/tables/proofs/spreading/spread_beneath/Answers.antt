@@ -1,0 +1,100 @@
+-- `tables::spreading::spread_beneath` meets its contract: each turn writes the pair of its place, up to the first place whose word the
+-- word v does not begin.
+use Prim.Native.Nat.{ℕ, ◌+◌, ◌<◌}
+use mathlib.Core.Path.{◌≡◌, sym, ◌∙◌, ap}
+use mathlib.Core.Bool.{false}
+use mathlib.Core.List.{List, [], ◌∷◌, ◌++◌, append-nil}
+use mathlib.Core.Option.{some}
+use native.Mathlib.Omega.{arith}
+use lib.ListN.{length, get_or}
+use Rattle.higman.specs.Words.{after, begins}
+use Rattle.higman.specs.Tables.{Table}
+use Rattle.words.specs.Packed.{unpack}
+use Rattle.words.proofs.Packing.{unpack_zero}
+use Rattle.columns.specs.Packed.{table}
+use Rattle.columns.specs.Columns.{word_at}
+use Rattle.tables.specs.Spread.{beneath}
+use Rattle.tables.specs.Spreading.{pair}
+use Rattle.tables.proofs.Lookup.{packed_at, packed_zero, packed_tail}
+use Rattle.tables.proofs.Beneath.{none_before, none_behind, beneath_skip, beneath_end, beneath_stop, beneath_take}
+use Rattle.tables.proofs.Extending.{filling_start, filling_end, filling_room, filling_broken, filling_step}
+use Rattle.tables.proofs.spreading.spread_beneath.Invariants.{left}
+use Rattle.tables.proofs.spreading.spread_beneath.Goals as goal
+
+-- the pair that a turn writes, x being what stands behind v in the word of the place i
+module _ (u v : ℕ) (from to : List ℕ) (i x : ℕ) where
+  abbrev own : Table
+  own = pair (unpack u ++ unpack x) (word_at to i ++ unpack 0) ∷ []
+
+  turn : i < length from → i < length to → after (unpack v) (word_at from i) ≡ some (unpack x)
+      → left u v from to i ≡ own ++ left u v from to (i + 1)
+  turn h k e =
+      let w = word_at to i in
+      let whole : w ≡ w ++ unpack 0 = sym (ap (λ y. w ++ y) unpack_zero ∙ append-nil w) in
+      beneath_take (unpack u) (unpack v) from to i (unpack x) h k e
+      ∙ ap (λ y. pair (unpack u ++ unpack x) y ∷ left u v from to (i + 1)) whole
+
+pub loop-i-init : goal.loop-i-init
+loop-i-init c =
+    let a = c.args in
+    let p = c.first_after-i.ensures in
+    filling_start
+    (beneath (unpack a.u) (unpack a.v) (table a.from.now a.to.now))
+    (left a.u a.v a.from.now a.to.now c.first_after-i.result)
+    a.n a.froms.now a.tos.now
+    (beneath_skip (unpack a.u) (unpack a.v) c.first_after-i.result a.from.now a.to.now c.requires.operand.plain.long
+    (none_before a.from.now a.v c.first_after-i.result p c.requires.unbegun) p.within)
+
+pub returns-then-not-begins : goal.returns-then-not-begins
+returns-then-not-begins c =
+    let a = c.args in
+    let i = c.loop-i.i in
+    let other : begins (unpack a.v) (word_at a.from.now i) ≡ false = sym c.begins.ensures ∙ c.if-not-begins.true in
+    filling_end c.loop-i.invariant
+    (beneath_stop (unpack a.u) (unpack a.v) a.from.now a.to.now i
+    (none_behind a.from.now a.v c.first_after-i.result c.first_after-i.ensures c.requires.operand.in_order i (omega arith) (omega arith) other))
+
+pub tail-tail-requires : goal.tail-tail-requires
+tail-tail-requires c = (
+  packed_at c.args.from.now c.requires.operand.plain.from_packed c.loop-i.i (omega arith),
+  sym c.begins.ensures ∙ c.if-not-begins.false,
+)
+
+pub put-requires-clause-t : goal.put-requires-clause-t
+put-requires-clause-t c =
+    let a = c.args in
+    let i = c.loop-i.i in
+    let packed = packed_at a.from.now c.requires.operand.plain.from_packed i (omega arith) in (
+      c.requires.t.0,
+      (
+        packed_tail (unpack a.v) (get_or a.from.now i 0) c.tail-tail.result packed c.tail-tail.ensures,
+        (packed_at a.to.now c.requires.operand.plain.to_packed i (omega (arith, c.requires.operand.plain.long)), packed_zero),
+      ),
+    )
+
+pub put-requires-clause-n_in_bounds : goal.put-requires-clause-n_in_bounds
+put-requires-clause-n_in_bounds c =
+    let a = c.args in
+    let i = c.loop-i.i in
+    let here = turn a.u a.v a.from.now a.to.now i c.tail-tail.result (omega arith) (omega (arith, c.requires.operand.plain.long)) c.tail-tail.ensures in
+    let room = filling_room c.loop-i.invariant (own a.u a.v a.from.now a.to.now i c.tail-tail.result) (left a.u a.v a.from.now a.to.now (i + 1)) here c.requires.room in
+    (omega arith, omega arith)
+
+pub returns-in_default : goal.returns-in_default
+returns-in_default c =
+    let a = c.args in
+    let i = c.loop-i.i in
+    let here = turn a.u a.v a.from.now a.to.now i c.tail-tail.result (omega arith) (omega (arith, c.requires.operand.plain.long)) c.tail-tail.ensures in
+    filling_broken c.loop-i.invariant (own a.u a.v a.from.now a.to.now i c.tail-tail.result) (left a.u a.v a.from.now a.to.now (i + 1)) here c.in_default.ensures
+
+pub loop-i-preserved : goal.loop-i-preserved
+loop-i-preserved c =
+    let a = c.args in
+    let i = c.loop-i.i in
+    let here = turn a.u a.v a.from.now a.to.now i c.tail-tail.result (omega arith) (omega (arith, c.requires.operand.plain.long)) c.tail-tail.ensures in
+    filling_step c.loop-i.invariant (own a.u a.v a.from.now a.to.now i c.tail-tail.result) (left a.u a.v a.from.now a.to.now (i + 1)) here c.in-Rows.ensures c.put.auto.froms c.put.auto.tos
+
+pub returns : goal.returns
+returns c =
+    let a = c.args in
+    filling_end c.loop-i.invariant (beneath_end (unpack a.u) (unpack a.v) a.from.now a.to.now c.loop-i.i (omega arith))
