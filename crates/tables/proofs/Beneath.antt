@@ -1,54 +1,45 @@
--- The words of a sorted column that a word begins stand in a row, from the first word after it on, if no word of the column begins
--- it: so a pass that stops at the first other word meets them all.
+-- The words of a column that a word begins are those that it begins and does not equal, if no word of the column begins it; and what
+-- the pairs beneath a word are, place by place.
 use Prim.Native.Nat.{ℕ, zero, suc, ◌+◌, ◌≤◌, ◌<◌}
-use mathlib.Core.Path.{◌≡◌, refl, sym, ◌∙◌, ap, subst}
+use mathlib.Core.Path.{◌≡◌, refl, ◌∙◌, ap, subst}
 use mathlib.Core.Logic.{⊎_elim}
 use mathlib.Core.Bool.{true, false}
-use mathlib.Core.List.{List, [], ◌∷◌, ◌++◌}
+use mathlib.Core.List.{List, [], ◌∷◌, ◌++◌, append-nil}
 use mathlib.Core.Option.{none, some}
 use native.Mathlib.Omega.{arith}
-use lib.ListN.{length, drop, drop_of_length-le, length-drop}
+use lib.ListN.{length, drop, length-drop}
 use lib.Seq.{get_or-drop}
-use Rattle.higman.specs.Words.{Word, after, begins}
+use Rattle.higman.specs.Words.{Word, after, begins, begins_properly}
 use Rattle.higman.specs.Tables.{Table, image}
 use Rattle.higman.proofs.Tests.{passes, clash}
 use Rattle.higman.proofs.Matches.{after_none}
 use Rattle.words.specs.Packed.{unpack}
-use Rattle.columns.specs.Packed.{words_of, table, sorted}
-use Rattle.columns.specs.Columns.{word_at, PartedAt}
+use Rattle.columns.specs.Packed.{table}
+use Rattle.columns.specs.Columns.{word_at, Extending}
 use Rattle.tables.specs.Spread.{beneath, spread_pair}
 use Rattle.tables.specs.Spreading.{pair, Unbegun}
-use Rattle.columns.proofs.InOrder.{InOrder, in_order_of_test, test_of_in_order, in_order_of_begins, in_order_antisym, begins_between}
-use Rattle.columns.proofs.WordOrder.{in_order_either_way}
-use Rattle.columns.proofs.Places.{sorted_at}
-use Rattle.columns.proofs.Search.{first_of_place}
+use Rattle.columns.proofs.Search.{first_of_unbegun}
+use Rattle.higman.proofs.Prefixes.{begins_append, tail_of_begins, proper_of_tail}
 use Rattle.tables.proofs.Lookup.{table_left}
 
-module _ (column : List ℕ) (w r : ℕ) (p : PartedAt column w r) where
-  -- before the place: a word in order with w that w begins is w itself
-  pub none_before : Unbegun column w → (k : ℕ) → k < r → begins (unpack w) (word_at column k) ≡ false
-  none_before n k h = ⊎_elim (λ t. absurd (same t)) (λ f. f) (passes (begins (unpack w) (word_at column k)))
+-- in a column of which no word begins w, a word that w begins is longer than w
+module _ (column : List ℕ) (w start end : ℕ) (x : Extending column (unpack w) start end) (n : Unbegun column w) where
+  none_at : (k : ℕ) → k < length column → begins_properly (unpack w) (word_at column k) ≡ false → begins (unpack w) (word_at column k) ≡ false
+  none_at k h e = ⊎_elim (λ t. by_tail (tail_of_begins (unpack w) (word_at column k) t)) (λ f. f) (passes (begins (unpack w) (word_at column k)))
     where
-      same : begins (unpack w) (word_at column k) ≡ true → ⊥
-      same t =
-          let u = word_at column k in
-          let e = in_order_antisym u (unpack w) (in_order_of_test u (unpack w) (p.front k h)) (in_order_of_begins (unpack w) u t) in
-          let own : begins u (unpack w) ≡ true = subst (λ x. begins x (unpack w) ≡ true) (sym e) (subst (λ x. begins (unpack w) x ≡ true) e t) in
-          clash own ((first_of_place column (unpack w) (length column) (sym n)).earlier k (omega (arith, p.within)))
+      same : word_at column k ≡ unpack w → begins (word_at column k) (unpack w) ≡ true
+      same q = subst (λ u. begins (word_at column k) u ≡ true) (append-nil (word_at column k) ∙ q) (begins_append (word_at column k) [])
 
-  -- behind a word after w that w does not begin there is none that it begins
-  pub none_behind : sorted (words_of column) ≡ true → (i : ℕ) → r ≤ i → i < length column → begins (unpack w) (word_at column i) ≡ false → (k : ℕ) → i ≤ k → k < length column → begins (unpack w) (word_at column k) ≡ false
-  none_behind s i l h f k m j = ⊎_elim (λ t. absurd (clash (between t) f)) (λ g. g) (passes (begins (unpack w) (word_at column k)))
-    where
-      later : InOrder (unpack w) (word_at column i)
-      later =
-          ⊎_elim
-          (λ o. o)
-          (λ o. absurd (clash (test_of_in_order (word_at column i) (unpack w) o) (p.back i l h)))
-          (in_order_either_way (unpack w) (word_at column i))
+      by_tail : (y : Word) × (word_at column k ≡ unpack w ++ y) → begins (unpack w) (word_at column k) ≡ false
+      by_tail ([], q) = absurd (clash (same (q ∙ append-nil (unpack w))) ((first_of_unbegun column (unpack w) n).earlier k h))
+      by_tail (i ∷ y, q) = absurd (clash (proper_of_tail (unpack w) (word_at column k) i y q) e)
 
-      between : begins (unpack w) (word_at column k) ≡ true → begins (unpack w) (word_at column i) ≡ true
-      between t = begins_between (unpack w) (word_at column i) (word_at column k) later (sorted_at column s i k m j) t
+  -- so the column has none before the words that w begins and does not equal, and none behind them
+  pub none_before : (k : ℕ) → k < start → begins (unpack w) (word_at column k) ≡ false
+  none_before k h = none_at k (omega (arith, x.forward, x.within)) (x.front k h)
+
+  pub none_behind : (k : ℕ) → end ≤ k → k < length column → begins (unpack w) (word_at column k) ≡ false
+  none_behind k h l = none_at k l (x.back k h l)
 
 module _ (p q : Word) where
   -- a pair of b that is not beneath q
@@ -69,9 +60,6 @@ module _ (p q : Word) where
       beneath_pass f t from to (h 0 (omega arith)) ∙ beneath_none from to (λ k m. h (suc k) (omega arith))
 
   module _ (from to : List ℕ) (i : ℕ) where
-    pub beneath_end : length from ≤ i → beneath p q (table (drop i from) (drop i to)) ≡ []
-    beneath_end h = ap (λ l. beneath p q (table l (drop i to))) (drop_of_length-le from h)
-
     pub beneath_stop : ((k : ℕ) → i ≤ k → k < length from → begins q (word_at from k) ≡ false) → beneath p q (table (drop i from) (drop i to)) ≡ []
     beneath_stop h =
         beneath_none

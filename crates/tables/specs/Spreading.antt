@@ -1,15 +1,13 @@
 -- What the code of "a then b" writes: pairs behind those that two columns already hold, or that a word of them is too long for a
 -- plan. Each function answers for the pairs that are its own, and the answers compose.
-use Rattle.std.specs.Prelude.{ℕ, ◌+◌, ◌≤◌, ◌≡◌, true, false, List, ◌++◌, T, length, take}
+use Rattle.std.specs.Prelude.{ℕ, ◌+◌, ◌≤◌, ◌≡◌, true, false, List, ◌++◌, T, length, take, Option, Some, None}
 use Rattle.higman.specs.Bases.{all, overlap}
 use Rattle.higman.specs.Words.{Word}
 use Rattle.higman.specs.Tables.{Pair, Table}
 use Rattle.higman.specs.Limits.{pair_fits}
 use Rattle.words.specs.Packed.{unpack, is_packed}
 use Rattle.columns.specs.Packed.{words_of, table, sorted}
-use Rattle.columns.specs.Columns.{place_in}
-use Rattle.tables.specs.declared.spreading.Spread.{Spread}
-use Rattle.tables.specs.declared.spreading.Spread.TheVariants.{Rows, TooLong}
+use Rattle.columns.specs.Columns.{begun_at}
 
 -- all words of a column are packed
 abbrev pub packed_words : List ℕ → Type 0
@@ -29,7 +27,7 @@ pub record Operand (from to : List ℕ) : Type 0 where
 
 -- no word of the column begins w
 abbrev pub Unbegun : List ℕ → ℕ → Type 0
-Unbegun column w = place_in (words_of column) (unpack w) ≡ length column
+Unbegun column w = begun_at (words_of column) (unpack w) ≡ None
 
 -- two columns with room for the pairs of t behind n others
 abbrev pub Room : ℕ → Table → List ℕ → List ℕ → Type 0
@@ -46,6 +44,6 @@ pub record Extended (t : Table) (n : ℕ) (from to from' to' : List ℕ) (r : �
   pub to_packed : packed_words (take n to) → packed_words (take r to')
 
 -- the pairs of t are written behind the first n, if a plan has room for each of their words, and otherwise one is too long
-abbrev pub Spreads : Table → ℕ → List ℕ → List ℕ → List ℕ → List ℕ → Spread → Type 0
-Spreads t n from to from' to' (Rows r) = (all pair_fits t ≡ true) × Extended t n from to from' to' r
-Spreads t n from to from' to' TooLong = all pair_fits t ≡ false
+abbrev pub Spreads : Table → ℕ → List ℕ → List ℕ → List ℕ → List ℕ → Option ℕ → Type 0
+Spreads t n from to from' to' (Some r) = (all pair_fits t ≡ true) × Extended t n from to from' to' r
+Spreads t n from to from' to' None = all pair_fits t ≡ false

@@ -2,15 +2,15 @@
 // requests E1 and E7). Each function writes its bytes from a place on and returns the place behind them; the rest of the buffer stays as it
 // was.
 ghost use Rattle.std.specs.Prelude.{◌≡◌, ℕ, ◌+◌, ◌≤◌, length};
-ghost use Rattle.higman.specs.Words.{Shape};
+ghost use Rattle.higman.specs.Words as Of;
 ghost use Rattle.higman.specs.Limits.{max_pairs};
 ghost use Rattle.higman.specs.Listing.{open_record, pair_fields, pair_record, close_record, listing};
-ghost use Rattle.words.specs.Bytes.{shape};
+ghost use Rattle.words.specs.Bytes.{shape_of};
 ghost use Rattle.words.specs.Writing.{Wrote};
 ghost use Rattle.columns.specs.Packed.{pair_of, table};
 ghost use Rattle.tables.specs.Lines.{pair_lines, placed, block_line, block_lines, BlockFits, plan_of_columns};
 
-use words::writing;
+use words::{Shape, writing};
 
 // The bytes of the P record and the E record.
 const ENDS: usize = 10;
@@ -18,12 +18,12 @@ const ENDS: usize = 10;
 const MARKS: usize = 4;
 
 // The P record.
-fn open_line(slot: u8, arity: u8, roots: u8, out: &mut [u8], at: usize) -> usize
-    requires { (arity ≤ 9) × (roots ≤ 9) × (at + 8 ≤ length out.old) }
-    ensures { Wrote (open_record slot (shape arity roots)) out.old at out.new result }
+fn open_line(slot: u8, shape: Shape, out: &mut [u8], at: usize) -> usize
+    requires { (shape.arity ≤ 9) × (shape.roots ≤ 9) × (at + 8 ≤ length out.old) }
+    ensures { Wrote (open_record slot (shape_of shape)) out.old at out.new result }
 {
-    let n = words::byte(arity);
-    let r = words::byte(roots);
+    let n = words::byte(shape.arity);
+    let r = words::byte(shape.roots);
     let slot_at = writing::put(b'P', out, at);
     let arity_at = writing::put_field(slot, out, slot_at);
     let roots_at = writing::put_field(n, out, arity_at);
@@ -94,13 +94,12 @@ pub fn block_lines(from: &[u64], to: &[u64], first: usize, out: &mut [u8], at: u
 }
 
 // Writes the listing of a plan at the front of the buffer, and returns its length.
-pub fn list_into(slot: u8, arity: u8, roots: u8, from: &[u64], to: &[u64], out: &mut [u8]) -> usize
-    requires { (arity ≤ 9) × (roots ≤ 9) × (length from.now ≡ length to.now)
-        × (length (listing slot (plan_of_columns arity roots from.now to.now)) ≤ length out.old) }
-    ensures { Wrote (listing slot (plan_of_columns arity roots from.now to.now))
-        out.old 0 out.new result }
+pub fn list_into(slot: u8, shape: Shape, from: &[u64], to: &[u64], out: &mut [u8]) -> usize
+    requires { (shape.arity ≤ 9) × (shape.roots ≤ 9) × (length from.now ≡ length to.now)
+        × (length (listing slot (plan_of_columns shape.arity shape.roots from.now to.now)) ≤ length out.old) }
+    ensures { Wrote (listing slot (plan_of_columns shape.arity shape.roots from.now to.now)) out.old 0 out.new result }
 {
-    let pairs_at = open_line(slot, arity, roots, out, 0);
+    let pairs_at = open_line(slot, shape, out, 0);
     let close_at = pair_lines(from, to, out, pairs_at);
     close_line(out, close_at)
 }
@@ -115,7 +114,7 @@ fn pair_length(from: u64, to: u64) -> usize
 // The length of the listing of a plan with these pairs, whatever its slot and its shape.
 pub fn listing_length(from: &[u64], to: &[u64]) -> usize
     requires { (length from.now ≡ length to.now) × (length from.now ≤ max_pairs) }
-    ensures { (slot : ℕ) (s : Shape) → result ≡ length (listing slot (record { shape = s; rows = table from.now to.now })) }
+    ensures { (slot : ℕ) (s : Of.Shape) → result ≡ length (listing slot (record { shape = s; rows = table from.now to.now })) }
 {
     let mut sum = ENDS;
     for (&f, &t) in from.iter().zip(to) {

@@ -8,11 +8,12 @@ ghost use Rattle.higman.specs.Tables.{Table};
 ghost use Rattle.higman.specs.Normal.{joined, keep};
 ghost use Rattle.higman.specs.Limits.{max_digits, shape_in_range};
 ghost use Rattle.words.specs.Packed.{unpack};
-ghost use Rattle.words.specs.Bytes.{shape};
+ghost use Rattle.words.specs.Bytes.{shape_of};
 ghost use Rattle.columns.specs.Packed.{table, rows};
 ghost use Rattle.tables.specs.Reduction.{prefixed, Block, Parts, state, Places, ReducesBlock, ReducesParts, Reducible};
 
 use crate::joinable;
+use words::Shape;
 
 // The places of the next pair to read and of the next pair to write.
 #[derive(Drop)]
@@ -134,15 +135,14 @@ pub fn reduce(
     to: &[u64],
     out_from: &mut [u64],
     out_to: &mut [u64],
-    arity: u8,
-    roots: u8,
+    shape: Shape,
 ) -> usize
     requires { (length from.now ≡ length to.now) × (length from.now ≤ length out_from.old) × (length from.now ≤ length out_to.old)
-        × T (shape_in_range (shape arity roots)) × Reducible (shape arity roots) (table from.now to.now) }
+        × T (shape_in_range (shape_of shape)) × Reducible (shape_of shape) (table from.now to.now) }
     ensures within { result ≤ length from.now }
-    ensures keeps { rows result out_from.new out_to.new ≡ keep (shape arity roots) (table from.now to.now) }
+    ensures keeps { rows result out_from.new out_to.new ≡ keep (shape_of shape) (table from.now to.now) }
 {
-    if !joinable::has_join(from, to, arity) {
+    if !joinable::has_join(from, to, shape.arity) {
         copy_pairs(from, to, out_from, out_to);
         return from.len();
     }
@@ -154,9 +154,9 @@ pub fn reduce(
         out_to,
         0,
         1,
-        roots,
+        shape.roots,
         words::MAX_WAYS,
-        arity,
+        shape.arity,
         start,
     );
     c.write

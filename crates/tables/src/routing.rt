@@ -8,19 +8,32 @@ ghost use Rattle.words.specs.Packed.{unpack};
 ghost use Rattle.higman.specs.Text.{word_of};
 ghost use Rattle.higman.specs.Buffers.{written};
 ghost use Rattle.columns.specs.Packed.{words_of, table};
-ghost use Rattle.columns.specs.Columns.{place_in};
+ghost use Rattle.columns.specs.Columns.{begun_at};
 ghost use Rattle.tables.specs.Spreading.{Operand};
-ghost use Rattle.tables.specs.Routing.{IsCode, Searchable, matched_digits, unmatched, further, routed_in, routed_into};
+ghost use Rattle.tables.specs.Routing.{IsCode, Searchable, matched_digits, unmatched, further, at_place, routed_in, routed_into};
 
-// What routing a code into a buffer answers.
-#[derive(Drop)]
-pub enum Routed {
-    // the number of bytes of the image, which stand in the buffer, and the place of the pair that it comes from
-    Image(usize, usize),
+// An image in a buffer: the number of its bytes, and the place of the pair that it comes from, counted from 1.
+#[derive(Clone, Copy, PartialEq, Eq)]
+pub struct Image {
+    pub length: usize,
+    pub place: usize,
+}
+
+// Why a code has no image in a buffer.
+#[derive(Clone, Copy, PartialEq, Eq)]
+pub enum RouteError {
     // no from-word begins the code
     TooShort,
     // the image has more bytes than the buffer
     NoRoom,
+}
+
+// What a column matches of a code: the unmatched tail, as a part of the code, which is what stands behind the from-word that begins it, or
+// the whole code where none does; and the place of that word, counted from 1.
+#[derive(Clone, Copy)]
+pub struct Match<'a> {
+    pub tail: &'a [u8],
+    pub place: Option<usize>,
 }
 
 // The first digits of a code, packed: as many as a plan word may have, or all where there are fewer.
@@ -35,11 +48,11 @@ pub fn front(code: &[u8]) -> u64
     }
 }
 
-// Where in the column the from-word stands that begins a code, counted from 0, or the column's length where none does.
-pub fn place_of(from: &[u64], code: &[u8]) -> usize
+// Where in the column the from-word stands that begins a code, counted from 0.
+pub fn place_of(from: &[u64], code: &[u8]) -> Option<usize>
     requires searchable { Searchable from.now }
     requires code { IsCode code.now }
-    ensures { result ≡ place_in (words_of from.now) (word_of code.now) }
+    ensures { result ≡ begun_at (words_of from.now) (word_of code.now) }
 {
     columns::begun_by(from, front(code))
 }
@@ -54,47 +67,55 @@ fn behind(w: u64, code: &[u8]) -> &[u8]
     &code[start..]
 }
 
-// The unmatched tail, as a part of the code: what stands behind the from-word that begins it, or the whole code where none does. The place
-// of that word, counted from 1, is written to `place`, and 0 where there is none.
-pub fn unmatched<'a>(from: &[u64], code: &'a [u8], place: &mut usize) -> &'a [u8]
+// Matches a code by a column of from-words.
+pub fn unmatched<'a>(from: &[u64], code: &'a [u8]) -> Match<'a>
     requires searchable { Searchable from.now }
     requires code { IsCode code.now }
-    ensures result_value { result.now ≡ unmatched (words_of from.now) code.now }
-    ensures ref_ptr_value { result.ref_ptr ≡ further (matched_digits (words_of from.now) (word_of code.now)) code.entry.ref_ptr }
-    ensures place_after { place.new ≡ place_of (words_of from.now) (word_of code.now) }
+    ensures tail { result.tail.now ≡ unmatched (words_of from.now) code.now }
+    ensures tail_ref_ptr { result.tail.ref_ptr ≡ further (matched_digits (words_of from.now) (word_of code.now)) code.entry.ref_ptr }
+    ensures place { result.place ≡ at_place (place_of (words_of from.now) (word_of code.now)) }
 {
-    let k = place_of(from, code);
-    if k < from.len() {
-        *place = k + 1;
-        behind(from[k], code)
-    } else {
-        *place = 0;
-        code
+    match place_of(from, code) {
+        Some(k) => Match {
+            tail: behind(from[k], code),
+            place: Some(k + 1),
+        },
+        None => Match {
+            tail: code,
+            place: None,
+        },
     }
 }
 
 // Routes a code: writes its image from the start of a buffer on, the to-word and right behind it the tail, and tells the pair's place.
-pub fn route_into(from: &[u64], to: &[u64], code: &[u8], out: &mut [u8]) -> Routed
+pub fn route_into(
+    from: &[u64],
+    to: &[u64],
+    code: &[u8],
+    out: &mut [u8],
+) -> Result<Image, RouteError>
     requires operand { Operand from.now to.now }
     requires code { IsCode code.now }
     ensures value { result ≡ routed_in (place_of (words_of from.now) (word_of code.now))
         (image (table from.now to.now) (word_of code.now)) (length out.old) }
     ensures out_after { out.new ≡ routed_into (image (table from.now to.now) (word_of code.now)) out.old }
 {
-    let k = place_of(from, code);
-    if from.len() <= k {
-        return Routed::TooShort;
-    }
+    let Some(k) = place_of(from, code) else {
+        return Err(RouteError::TooShort);
+    };
     let tail = behind(from[k], code);
     let head = words::length(to[k]) as usize;
     if out.len() < head {
-        return Routed::NoRoom;
+        return Err(RouteError::NoRoom);
     }
     if out.len() - head < tail.len() {
-        return Routed::NoRoom;
+        return Err(RouteError::NoRoom);
     }
     let end = words::writing::write(to[k], out, 0);
     let length = end + tail.len();
     out[end..length].copy_from_slice(tail);
-    Routed::Image(length, k + 1)
+    Ok(Image {
+        length,
+        place: k + 1,
+    })
 }

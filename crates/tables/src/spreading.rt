@@ -1,5 +1,5 @@
 // The pairs of "a then b" before reduction (document 01, "Plans"). A pair of a gives one pair where a from-word of b begins its
-// to-word, and otherwise one for each from-word of b that its to-word begins: in sorted order these stand in a row.
+// to-word, and otherwise one for each from-word of b that its to-word begins.
 ghost use Rattle.std.specs.Prelude.{[], ◌∷◌, ◌++◌, ◌<◌, T, length};
 ghost use Rattle.words.specs.Packed.{unpack, is_packed};
 ghost use Rattle.columns.specs.Packed.{table};
@@ -9,33 +9,34 @@ ghost use Rattle.tables.specs.Spreading.{pair, Plain, Operand, Unbegun, Room, Sp
 // The digits that a plan word has at most, as a number of the type of lengths.
 const MAX_DIGITS: u32 = words::MAX_DIGITS as u32;
 
-// How pairs were written behind others.
-#[derive(Drop)]
-pub enum Spread {
-    // the number of pairs that stand there now
-    Rows(usize),
-    // a word of them has more digits than a plan has room for
-    TooLong,
-}
-
-// Writes one pair behind n others, each word in two parts: u then x, and v then y.
-fn put(u: u64, x: u64, v: u64, y: u64, froms: &mut [u64], tos: &mut [u64], n: usize) -> Spread
+// Writes one pair behind n others, each word in two parts: u then x, and v then y. Like those below, it returns the number of pairs that
+// stand there now, and None where a word of its own pairs has more digits than a plan has room for.
+fn put(
+    u: u64,
+    x: u64,
+    v: u64,
+    y: u64,
+    froms: &mut [u64],
+    tos: &mut [u64],
+    n: usize,
+) -> Option<usize>
     requires t { T (is_packed u) × (T (is_packed x) × (T (is_packed v) × T (is_packed y))) }
     requires n_in_bounds { (n < length froms.old) × (n < length tos.old) }
     ensures { Spreads (pair (unpack u ++ unpack x) (unpack v ++ unpack y) ∷ []) n froms.old tos.old froms.new tos.new result }
 {
     if MAX_DIGITS < words::length(u) + words::length(x) {
-        return Spread::TooLong;
+        return None;
     }
     if MAX_DIGITS < words::length(v) + words::length(y) {
-        return Spread::TooLong;
+        return None;
     }
     froms[n] = words::append(u, x);
     tos[n] = words::append(v, y);
-    Spread::Rows(n + 1)
+    Some(n + 1)
 }
 
-// Writes, behind n others, the pairs that the pair (u, v) gives by the pairs of b beneath it: those whose from-words v begins.
+// Writes, behind n others, the pairs that the pair (u, v) gives by the pairs of b beneath it: those whose from-words v begins. In sorted
+// order these stand in a row.
 fn spread_beneath(
     u: u64,
     v: u64,
@@ -44,7 +45,7 @@ fn spread_beneath(
     froms: &mut [u64],
     tos: &mut [u64],
     n: usize,
-) -> Spread
+) -> Option<usize>
     requires t { T (is_packed u) × T (is_packed v) }
     requires operand { Operand from.now to.now }
     requires unbegun { Unbegun from.now v }
@@ -52,17 +53,12 @@ fn spread_beneath(
     ensures { Spreads (beneath (unpack u) (unpack v) (table from.now to.now)) n froms.old tos.old froms.new tos.new result }
 {
     let mut rows = n;
-    for i in columns::first_after(from, v)..from.len() {
-        if !words::begins(v, from[i]) {
-            return Spread::Rows(rows);
-        }
+    let run = columns::extending(from, v);
+    for i in run.start..run.end {
         let tail = words::tail(v, from[i]);
-        let Spread::Rows(r) = put(u, tail, to[i], 0, froms, tos, rows) else {
-            return Spread::TooLong;
-        };
-        rows = r;
+        rows = put(u, tail, to[i], 0, froms, tos, rows)?;
     }
-    Spread::Rows(rows)
+    Some(rows)
 }
 
 // Writes, behind n others, the pairs that the pair (u, v) gives.
@@ -74,19 +70,18 @@ fn spread_pair(
     froms: &mut [u64],
     tos: &mut [u64],
     n: usize,
-) -> Spread
+) -> Option<usize>
     requires t { T (is_packed u) × T (is_packed v) }
     requires operand { Operand from.now to.now }
     requires room { Room n (spread_pair (table from.now to.now) (pair (unpack u) (unpack v))) froms.old tos.old }
     ensures { Spreads (spread_pair (table from.now to.now) (pair (unpack u) (unpack v))) n froms.old tos.old froms.new tos.new result }
 {
-    let k = columns::begun_by(from, v);
-    if k < from.len() {
-        let image = to[k];
-        let tail = words::tail(from[k], v);
-        put(u, 0, image, tail, froms, tos, n)
-    } else {
-        spread_beneath(u, v, from, to, froms, tos, n)
+    match columns::begun_by(from, v) {
+        Some(k) => {
+            let tail = words::tail(from[k], v);
+            put(u, 0, to[k], tail, froms, tos, n)
+        }
+        None => spread_beneath(u, v, from, to, froms, tos, n),
     }
 }
 
@@ -98,7 +93,7 @@ pub fn spread_plans(
     b_to: &[u64],
     froms: &mut [u64],
     tos: &mut [u64],
-) -> Spread
+) -> Option<usize>
     requires plain { Plain a_from.now a_to.now }
     requires operand { Operand b_from.now b_to.now }
     requires room { Room 0 (spread (table a_from.now a_to.now) (table b_from.now b_to.now)) froms.old tos.old }
@@ -106,10 +101,7 @@ pub fn spread_plans(
 {
     let mut rows = 0;
     for (&u, &v) in a_from.iter().zip(a_to) {
-        let Spread::Rows(r) = spread_pair(u, v, b_from, b_to, froms, tos, rows) else {
-            return Spread::TooLong;
-        };
-        rows = r;
+        rows = spread_pair(u, v, b_from, b_to, froms, tos, rows)?;
     }
-    Spread::Rows(rows)
+    Some(rows)
 }

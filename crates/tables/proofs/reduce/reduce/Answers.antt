@@ -13,7 +13,7 @@ use Rattle.higman.specs.Normal.{gather, normal, keep}
 use Rattle.higman.specs.Limits.{max_digits, shape_in_range}
 use Rattle.higman.proofs.KeptPlans.{in_range, arity_of_range}
 use Rattle.words.specs.Packed.{unpack}
-use Rattle.words.specs.Bytes.{shape}
+use Rattle.words.specs.Bytes.{shape_of}
 use Rattle.words.proofs.Packing.{unpack_zero}
 use Rattle.columns.specs.Packed.{table}
 use Rattle.tables.specs.Reduction.{prefixed, Parts, Reducible}
@@ -39,13 +39,13 @@ module _ (s : Shape) (from to : List ℕ) (fit : (i : ℕ) → get_or from i 0 <
 
 pub has_join-requires : goal.has_join-requires
 has_join-requires c =
-    let r = in_range (shape c.args.arity c.args.roots) c.requires.3 in
+    let r = in_range (shape_of c.args.shape) c.requires.3 in
     (omega (arith, r.arity_low), r.arity_high, c.requires.0)
 
 pub returns-then-not-has_join-clause-keeps : goal.returns-then-not-has_join-clause-keeps
 returns-then-not-has_join-clause-keeps c =
     let a = c.args in
-    let s = shape a.arity a.roots in
+    let s = shape_of a.shape in
     let none = sym c.has_join.ensures ∙ c.if-not-has_join.true in
     c.copy_pairs.ensures ∙ sym (kept_without_join s (table a.from.now a.to.now) (arity_of_range s c.requires.3) c.requires.4 none)
 
@@ -53,7 +53,7 @@ pub reduce_ways-c-requires : goal.reduce_ways-c-requires
 unfolding max_digits
 reduce_ways-c-requires c =
     let a = c.args in
-    let s = shape a.arity a.roots in
+    let s = shape_of a.shape in
     let r = in_range s c.requires.3 in (
       record { paired = c.requires.0; from_room = c.requires.1; to_room = c.requires.2; within = omega arith; behind = omega arith },
       omega (arith, r.arity_low),
@@ -68,6 +68,6 @@ reduce_ways-c-requires c =
 pub returns-clause-keeps : goal.returns-clause-keeps
 returns-clause-keeps c =
     let a = c.args in
-    let s = shape a.arity a.roots in
+    let s = shape_of a.shape in
     (c.reduce_ways-c.ensures.reduces (blocks s a.from.now a.to.now (λ i. omega (arith, c.type_inv.from i)) c.requires.3 c.requires.4)).written
     ∙ kept s a.from.now a.to.now (λ i. omega (arith, c.type_inv.from i)) c.requires.3 c.requires.4

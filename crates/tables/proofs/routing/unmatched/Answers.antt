@@ -1,43 +1,42 @@
 -- `tables::routing::unmatched` meets its contract: the place found gives the digits that are matched, and none are where there is none.
-use mathlib.Core.Path.{◌≡◌, sym, ◌∙◌, ap}
-use native.Mathlib.Omega.{arith}
-use lib.ListN.{length, drop}
+use mathlib.Core.Path.{refl, sym, ◌∙◌, ap}
+use native.Mathlib.Numerals.{add-one}
+use Rattle.std.specs.Prelude.{Some}
+use lib.ListN.{drop}
 use Rattle.higman.specs.Text.{word_of}
 use Rattle.columns.specs.Columns.{word_at}
-use Rattle.columns.proofs.Search.{first_of_place}
-use Rattle.tables.specs.Routing.{further}
+use Rattle.columns.proofs.Search.{first_of_begun, first_of_unbegun}
+use Rattle.tables.specs.Routing.{further, at_place}
 use Rattle.tables.proofs.Routes.{here, matched_digits_lem, matched_place_lem, matched_none, matched_nowhere, begins_within}
 use Rattle.tables.proofs.routing.unmatched.Goals as goal
 
 pub behind-requires : goal.behind-requires
 behind-requires c =
     let a = c.args in
-    let first = first_of_place a.from.now (word_of a.code.now) c.place_of-k.result c.place_of-k.ensures in
-    begins_within (word_at a.from.now c.place_of-k.result) a.code.now (first.found c.if-k-from.true)
+    let (first, within) = first_of_begun a.from.now (word_of a.code.now) c.in-Some.k (sym c.in-Some.ensures) in
+    begins_within (word_at a.from.now c.in-Some.k) a.code.now (first.found within)
 
-pub returns-then-k-from : goal.returns-then-k-from
-returns-then-k-from c =
+pub returns-in-Some : goal.returns-in-Some
+returns-in-Some c =
     let a = c.args in
     let w = word_of a.code.now in
-    let k = c.place_of-k.result in
-    let first = first_of_place a.from.now w k c.place_of-k.ensures in
-    let found = sym (matched_digits_lem a.from.now w k first c.if-k-from.true) in
+    let k = c.in-Some.k in
+    let (first, within) = first_of_begun a.from.now w k (sym c.in-Some.ensures) in
+    let found = sym (matched_digits_lem a.from.now w k first within) in
     record {
-      result_value = c.behind.ensures.result_value ∙ ap (λ n. drop n a.code.now) found;
-      ref_ptr_value = c.behind.ensures.ref_ptr_value ∙ ap (λ n. further n a.code.ref_ptr) found;
-      place_after = sym (matched_place_lem a.from.now w k first c.if-k-from.true);
+      tail = c.behind.ensures.result_value ∙ ap (λ n. drop n a.code.now) found;
+      tail_ref_ptr = c.behind.ensures.ref_ptr_value ∙ ap (λ n. further n a.code.ref_ptr) found;
+      place = ap Some (add-one k) ∙ sym (ap at_place (matched_place_lem a.from.now w k first within ∙ add-one k));
     }
 
-pub returns-else-k-from : goal.returns-else-k-from
-returns-else-k-from c =
+pub returns-in-None : goal.returns-in-None
+returns-in-None c =
     let a = c.args in
     let w = word_of a.code.now in
-    let k = c.place_of-k.result in
-    let first = first_of_place a.from.now w k c.place_of-k.ensures in
-    let end : k ≡ length a.from.now = omega (arith, first.within) in
-    let none = sym (matched_none a.from.now w k first end) in
+    let first = first_of_unbegun a.from.now w (sym c.in-None.ensures) in
+    let none = sym (matched_none a.from.now w _ first refl) in
     record {
-      result_value = ap (λ n. drop n a.code.now) none;
-      ref_ptr_value = here a.code.ref_ptr ∙ ap (λ n. further n a.code.ref_ptr) none;
-      place_after = sym (matched_nowhere a.from.now w k first end);
+      tail = ap (λ n. drop n a.code.now) none;
+      tail_ref_ptr = here a.code.ref_ptr ∙ ap (λ n. further n a.code.ref_ptr) none;
+      place = ap at_place (sym (matched_nowhere a.from.now w _ first refl));
     }

@@ -1,14 +1,14 @@
--- `tables::spreading::spread_beneath` meets its contract: each turn writes the pair of its place, up to the first place whose word the
--- word v does not begin.
+-- `tables::spreading::spread_beneath` meets its contract: each turn writes the pair of its place, and outside the run there is none
+-- beneath v.
 use Prim.Native.Nat.{ℕ, ◌+◌, ◌<◌}
 use mathlib.Core.Path.{◌≡◌, sym, ◌∙◌, ap}
-use mathlib.Core.Bool.{false}
 use mathlib.Core.List.{List, [], ◌∷◌, ◌++◌, append-nil}
 use mathlib.Core.Option.{some}
 use native.Mathlib.Omega.{arith}
 use lib.ListN.{length, get_or}
-use Rattle.higman.specs.Words.{after, begins}
+use Rattle.higman.specs.Words.{after}
 use Rattle.higman.specs.Tables.{Table}
+use Rattle.higman.proofs.Prefixes.{begins_of_proper}
 use Rattle.words.specs.Packed.{unpack}
 use Rattle.words.proofs.Packing.{unpack_zero}
 use Rattle.columns.specs.Packed.{table}
@@ -16,7 +16,7 @@ use Rattle.columns.specs.Columns.{word_at}
 use Rattle.tables.specs.Spread.{beneath}
 use Rattle.tables.specs.Spreading.{pair}
 use Rattle.tables.proofs.Lookup.{packed_at, packed_zero, packed_tail}
-use Rattle.tables.proofs.Beneath.{none_before, none_behind, beneath_skip, beneath_end, beneath_stop, beneath_take}
+use Rattle.tables.proofs.Beneath.{none_before, none_behind, beneath_skip, beneath_stop, beneath_take}
 use Rattle.tables.proofs.Extending.{filling_start, filling_end, filling_room, filling_broken, filling_step}
 use Rattle.tables.proofs.spreading.spread_beneath.Invariants.{left}
 use Rattle.tables.proofs.spreading.spread_beneath.Goals as goal
@@ -37,27 +37,18 @@ module _ (u v : ℕ) (from to : List ℕ) (i x : ℕ) where
 pub loop-i-init : goal.loop-i-init
 loop-i-init c =
     let a = c.args in
-    let p = c.first_after-i.ensures in
+    let x = c.extending-run.ensures in
     filling_start
     (beneath (unpack a.u) (unpack a.v) (table a.from.now a.to.now))
-    (left a.u a.v a.from.now a.to.now c.first_after-i.result)
+    (left a.u a.v a.from.now a.to.now c.extending-run.result.start)
     a.n a.froms.now a.tos.now
-    (beneath_skip (unpack a.u) (unpack a.v) c.first_after-i.result a.from.now a.to.now c.requires.operand.plain.long
-    (none_before a.from.now a.v c.first_after-i.result p c.requires.unbegun) p.within)
-
-pub returns-then-not-begins : goal.returns-then-not-begins
-returns-then-not-begins c =
-    let a = c.args in
-    let i = c.loop-i.i in
-    let other : begins (unpack a.v) (word_at a.from.now i) ≡ false = sym c.begins.ensures ∙ c.if-not-begins.true in
-    filling_end c.loop-i.invariant
-    (beneath_stop (unpack a.u) (unpack a.v) a.from.now a.to.now i
-    (none_behind a.from.now a.v c.first_after-i.result c.first_after-i.ensures c.requires.operand.in_order i (omega arith) (omega arith) other))
+    (beneath_skip (unpack a.u) (unpack a.v) c.extending-run.result.start a.from.now a.to.now c.requires.operand.plain.long
+    (none_before a.from.now a.v c.extending-run.result.start c.extending-run.result.end x c.requires.unbegun) (omega (arith, x.forward, x.within)))
 
 pub tail-tail-requires : goal.tail-tail-requires
 tail-tail-requires c = (
   packed_at c.args.from.now c.requires.operand.plain.from_packed c.loop-i.i (omega arith),
-  sym c.begins.ensures ∙ c.if-not-begins.false,
+  begins_of_proper (unpack c.args.v) (word_at c.args.from.now c.loop-i.i) (c.extending-run.ensures.inside c.loop-i.i (omega arith) (omega arith)),
 )
 
 pub put-requires-clause-t : goal.put-requires-clause-t
@@ -80,21 +71,24 @@ put-requires-clause-n_in_bounds c =
     let room = filling_room c.loop-i.invariant (own a.u a.v a.from.now a.to.now i c.tail-tail.result) (left a.u a.v a.from.now a.to.now (i + 1)) here c.requires.room in
     (omega arith, omega arith)
 
-pub returns-in_default : goal.returns-in_default
-returns-in_default c =
+pub returns-in_err-rows : goal.returns-in_err-rows
+returns-in_err-rows c =
     let a = c.args in
     let i = c.loop-i.i in
     let here = turn a.u a.v a.from.now a.to.now i c.tail-tail.result (omega arith) (omega (arith, c.requires.operand.plain.long)) c.tail-tail.ensures in
-    filling_broken c.loop-i.invariant (own a.u a.v a.from.now a.to.now i c.tail-tail.result) (left a.u a.v a.from.now a.to.now (i + 1)) here c.in_default.ensures
+    rw c.from_residual.ensures (filling_broken c.loop-i.invariant (own a.u a.v a.from.now a.to.now i c.tail-tail.result) (left a.u a.v a.from.now a.to.now (i + 1)) here c.in_err-rows.ensures)
 
 pub loop-i-preserved : goal.loop-i-preserved
 loop-i-preserved c =
     let a = c.args in
     let i = c.loop-i.i in
     let here = turn a.u a.v a.from.now a.to.now i c.tail-tail.result (omega arith) (omega (arith, c.requires.operand.plain.long)) c.tail-tail.ensures in
-    filling_step c.loop-i.invariant (own a.u a.v a.from.now a.to.now i c.tail-tail.result) (left a.u a.v a.from.now a.to.now (i + 1)) here c.in-Rows.ensures c.put.auto.froms c.put.auto.tos
+    filling_step c.loop-i.invariant (own a.u a.v a.from.now a.to.now i c.tail-tail.result) (left a.u a.v a.from.now a.to.now (i + 1)) here c.in_ok-rows.ensures c.put.auto.froms c.put.auto.tos
 
 pub returns : goal.returns
 returns c =
     let a = c.args in
-    filling_end c.loop-i.invariant (beneath_end (unpack a.u) (unpack a.v) a.from.now a.to.now c.loop-i.i (omega arith))
+    filling_end c.loop-i.invariant
+    (beneath_stop (unpack a.u) (unpack a.v) a.from.now a.to.now c.loop-i.i
+    (λ k h l. none_behind a.from.now a.v c.extending-run.result.start c.extending-run.result.end c.extending-run.ensures c.requires.unbegun
+    k (omega arith) l))

@@ -1,7 +1,7 @@
 -- `tables::spreading::spread_pair` meets its contract: a from-word of b that begins v gives the image of v, and where none does, v has
 -- no image and the pairs beneath it are written.
 use Prim.Native.Nat.{ℕ, ◌<◌}
-use mathlib.Core.Path.{◌≡◌, sym, ◌∙◌, ap, subst}
+use mathlib.Core.Path.{◌≡◌, refl, sym, ◌∙◌, ap, subst}
 use mathlib.Core.List.{List, [], ◌∷◌, ◌++◌, append-nil}
 use mathlib.Core.Option.{some}
 use native.Mathlib.Omega.{arith}
@@ -11,7 +11,7 @@ use Rattle.words.specs.Packed.{unpack}
 use Rattle.words.proofs.Packing.{unpack_zero}
 use Rattle.columns.specs.Packed.{table}
 use Rattle.columns.specs.Columns.{word_at}
-use Rattle.columns.proofs.Search.{FirstIn, first_of_place}
+use Rattle.columns.proofs.Search.{FirstIn, first_of_begun, first_of_unbegun}
 use Rattle.tables.specs.Spread.{beneath, spread_pair}
 use Rattle.tables.specs.Spreading.{pair, Room, Spreads}
 use Rattle.tables.proofs.Lookup.{image_at_lem, image_nowhere, packed_at, packed_zero, packed_tail}
@@ -36,18 +36,19 @@ module _ (u v : ℕ) (from to : List ℕ) (long : length from ≡ length to) (k 
 pub tail-tail-requires : goal.tail-tail-requires
 tail-tail-requires c =
     let a = c.args in
-    let first = first_of_place a.from.now (unpack a.v) c.begun_by-k.result c.begun_by-k.ensures in
-    (c.requires.t.1, first.found c.if-k-from.true)
+    let (first, within) = first_of_begun a.from.now (unpack a.v) c.in-Some.k (sym c.in-Some.ensures) in
+    (c.requires.t.1, first.found within)
 
 pub put-requires-clause-t : goal.put-requires-clause-t
 put-requires-clause-t c =
     let a = c.args in
-    let k = c.begun_by-k.result in (
+    let k = c.in-Some.k in
+    let (first, within) = first_of_begun a.from.now (unpack a.v) k (sym c.in-Some.ensures) in (
       c.requires.t.0,
       (
         packed_zero,
         (
-          packed_at a.to.now c.requires.operand.plain.to_packed k (omega (arith, c.requires.operand.plain.long)),
+          packed_at a.to.now c.requires.operand.plain.to_packed k (omega (arith, within, c.requires.operand.plain.long)),
           packed_tail (word_at a.from.now k) a.v c.tail-tail.result c.requires.t.1 c.tail-tail.ensures,
         ),
       ),
@@ -56,35 +57,30 @@ put-requires-clause-t c =
 pub put-requires-clause-n_in_bounds : goal.put-requires-clause-n_in_bounds
 put-requires-clause-n_in_bounds c =
     let a = c.args in
-    let first = first_of_place a.from.now (unpack a.v) c.begun_by-k.result c.begun_by-k.ensures in
-    let one = single a.u a.v a.from.now a.to.now c.requires.operand.plain.long c.begun_by-k.result first c.if-k-from.true c.tail-tail.result c.tail-tail.ensures in
+    let k = c.in-Some.k in
+    let (first, within) = first_of_begun a.from.now (unpack a.v) k (sym c.in-Some.ensures) in
+    let one = single a.u a.v a.from.now a.to.now c.requires.operand.plain.long k first within c.tail-tail.result c.tail-tail.ensures in
     let room = subst (λ t. Room a.n t a.froms.now a.tos.now) one c.requires.room in
     (omega arith, omega arith)
-
-pub spread_beneath-requires-clause-unbegun : goal.spread_beneath-requires-clause-unbegun
-spread_beneath-requires-clause-unbegun c =
-    let a = c.args in
-    let first = first_of_place a.from.now (unpack a.v) c.begun_by-k.result c.begun_by-k.ensures in
-    sym c.begun_by-k.ensures ∙ omega (arith, first.within)
 
 pub spread_beneath-requires-clause-room : goal.spread_beneath-requires-clause-room
 spread_beneath-requires-clause-room c =
     let a = c.args in
-    let first = first_of_place a.from.now (unpack a.v) c.begun_by-k.result c.begun_by-k.ensures in
-    subst (λ t. Room a.n t a.froms.now a.tos.now)
-    (parts a.u a.v a.from.now a.to.now c.requires.operand.plain.long c.begun_by-k.result first (omega (arith, first.within))) c.requires.room
+    let first = first_of_unbegun a.from.now (unpack a.v) (sym c.in-None.ensures) in
+    subst (λ t. Room a.n t a.froms.now a.tos.now) (parts a.u a.v a.from.now a.to.now c.requires.operand.plain.long _ first refl) c.requires.room
 
-pub returns-then-k-from : goal.returns-then-k-from
-returns-then-k-from c =
+pub returns-in-Some : goal.returns-in-Some
+returns-in-Some c =
     let a = c.args in
-    let first = first_of_place a.from.now (unpack a.v) c.begun_by-k.result c.begun_by-k.ensures in
-    let one = single a.u a.v a.from.now a.to.now c.requires.operand.plain.long c.begun_by-k.result first c.if-k-from.true c.tail-tail.result c.tail-tail.ensures in
+    let k = c.in-Some.k in
+    let (first, within) = first_of_begun a.from.now (unpack a.v) k (sym c.in-Some.ensures) in
+    let one = single a.u a.v a.from.now a.to.now c.requires.operand.plain.long k first within c.tail-tail.result c.tail-tail.ensures in
     subst (λ r. Spreads r a.n a.froms.now a.tos.now c.put.new.froms c.put.new.tos c.put.result) (sym one) c.put.ensures
 
-pub returns-else-k-from : goal.returns-else-k-from
-returns-else-k-from c =
+pub returns-in-None : goal.returns-in-None
+returns-in-None c =
     let a = c.args in
-    let first = first_of_place a.from.now (unpack a.v) c.begun_by-k.result c.begun_by-k.ensures in
+    let first = first_of_unbegun a.from.now (unpack a.v) (sym c.in-None.ensures) in
     subst (λ r. Spreads r a.n a.froms.now a.tos.now c.spread_beneath.new.froms c.spread_beneath.new.tos c.spread_beneath.result)
-    (sym (parts a.u a.v a.from.now a.to.now c.requires.operand.plain.long c.begun_by-k.result first (omega (arith, first.within))))
+    (sym (parts a.u a.v a.from.now a.to.now c.requires.operand.plain.long _ first refl))
     c.spread_beneath.ensures

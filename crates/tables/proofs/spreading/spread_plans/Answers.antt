@@ -39,13 +39,13 @@ spread_pair-requires-clause-room c =
     filling_room c.loop-u.invariant (own a.b_from.now a.b_to.now c.in-Some.field-0-0.now c.in-Some.field-0-1.now)
     (left a.a_from.now a.a_to.now (table a.b_from.now a.b_to.now) (length c.loop-u.yielded + 1)) here c.requires.room
 
-pub returns-in_default : goal.returns-in_default
-returns-in_default c =
+pub returns-in_err-rows : goal.returns-in_err-rows
+returns-in_err-rows c =
     let a = c.args in
     let (h, k, e, e') = zip_turn a.a_from.now a.a_to.now c.loop-u.yielded _ _ c.next.new.self _ (cc) (cc) c.loop-u.yielded_by _ c.in-Some.is c.next.ensures.steps in
     let here = turn a.a_from.now a.a_to.now (table a.b_from.now a.b_to.now) (length c.loop-u.yielded) _ _ h k (e 0) (e' 0) in
-    filling_broken c.loop-u.invariant (own a.b_from.now a.b_to.now c.in-Some.field-0-0.now c.in-Some.field-0-1.now)
-    (left a.a_from.now a.a_to.now (table a.b_from.now a.b_to.now) (length c.loop-u.yielded + 1)) here c.in_default.ensures
+    rw c.from_residual.ensures (filling_broken c.loop-u.invariant (own a.b_from.now a.b_to.now c.in-Some.field-0-0.now c.in-Some.field-0-1.now)
+    (left a.a_from.now a.a_to.now (table a.b_from.now a.b_to.now) (length c.loop-u.yielded + 1)) here c.in_err-rows.ensures)
 
 pub loop-u-preserved : goal.loop-u-preserved
 loop-u-preserved c =
@@ -53,7 +53,7 @@ loop-u-preserved c =
     let (h, k, e, e') = zip_turn a.a_from.now a.a_to.now c.loop-u.yielded _ _ c.next.new.self _ (cc) (cc) c.loop-u.yielded_by _ c.in-Some.is c.next.ensures.steps in
     let here = turn a.a_from.now a.a_to.now (table a.b_from.now a.b_to.now) (length c.loop-u.yielded) _ _ h k (e 0) (e' 0) in
     rw length-append (filling_step c.loop-u.invariant (own a.b_from.now a.b_to.now c.in-Some.field-0-0.now c.in-Some.field-0-1.now)
-    (left a.a_from.now a.a_to.now (table a.b_from.now a.b_to.now) (length c.loop-u.yielded + 1)) here c.in-Rows.ensures c.spread_pair.auto.froms c.spread_pair.auto.tos)
+    (left a.a_from.now a.a_to.now (table a.b_from.now a.b_to.now) (length c.loop-u.yielded + 1)) here c.in_ok-rows.ensures c.spread_pair.auto.froms c.spread_pair.auto.tos)
 
 pub returns : goal.returns
 returns c =
