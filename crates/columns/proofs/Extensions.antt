@@ -3,12 +3,15 @@
 -- places that count on from there.
 use Prim.Native.Nat.{ℕ, zero, suc, ◌+◌, ◌-◌, ◌≤◌, ◌<◌}
 use mathlib.Core.Path.{◌≡◌, refl, sym, ◌∙◌, ap, subst}
-use mathlib.Core.Logic.{◌⊎◌, inl, inr, ⊎_elim}
+use mathlib.Core.Logic.{⊎_elim}
 use mathlib.Core.Bool.{true, false}
 use mathlib.Core.List.{List, [], ◌∷◌, ◌++◌, append-nil}
 use native.Mathlib.Nat.{zero-add}
 use native.Mathlib.Omega.{arith}
-use lib.ListN.{length, length-append}
+use lib.ListN.{length, get_or, drop, length-append, length-drop}
+use lib.Seq.{get_or-drop}
+use Rattle.std.specs.List.Sorted.{IsPartitionedBy, IsPartitionPoint}
+use Rattle.std.proofs.lemmas.List.{get_or_default}
 use Rattle.higman.specs.Words.{Word, begins, begins_properly}
 use Rattle.higman.specs.Places.{Placed, placed_from, extending_in, placed_block}
 use Rattle.higman.proofs.Tests.{passes, clash}
@@ -17,9 +20,9 @@ use Rattle.higman.proofs.Places.{line_taken, line_passed}
 use Rattle.words.specs.Packed.{unpack}
 use Rattle.columns.specs.Packed.{words_of, pair_of, table, rows, rows_at, in_order, sorted}
 use Rattle.columns.specs.Columns.{word_at, PartedAt, Extending}
-use Rattle.columns.proofs.InOrder.{InOrder, in_order_of_test, test_of_in_order, in_order_of_begins, in_order_refl}
+use Rattle.columns.proofs.InOrder.{in_order_of_test, test_of_in_order, in_order_of_begins, in_order_refl}
 use Rattle.columns.proofs.InOrder.{in_order_antisym, begins_between}
-use Rattle.columns.proofs.WordOrder.{three_ways, in_order_total}
+use Rattle.columns.proofs.WordOrder.{in_order_total}
 use Rattle.columns.proofs.Places.{sorted_at}
 
 module _ (w u : Word) where
@@ -44,58 +47,44 @@ module _ (w u : Word) where
   not_proper : begins w u ≡ false → begins_properly w u ≡ false
   not_proper b = ⊎_elim (λ e. absurd (clash (begins_of_proper w u e) b)) (λ e. e) (passes (begins_properly w u))
 
--- a walk from the start on has passed words that w begins
-pub record Passed (column : List ℕ) (w : Word) (start end : ℕ) : Type 0 where
-  pub forward : start ≤ end
-  pub within : end ≤ length column
-  pub inside : (k : ℕ) → start ≤ k → k < end → begins_properly w (word_at column k) ≡ true
-
 module _ (column : List ℕ) (s : sorted (words_of column) ≡ true) (w start : ℕ) (p : PartedAt column w start) where
-  pub passed_none : Passed column (unpack w) start start
-  passed_none = record { forward = omega arith; within = p.within; inside = λ k l h. absurd (omega arith) }
+  -- between the parting and a word that w begins there are only such words
+  begun_down : (j k : ℕ) → start ≤ j → j ≤ k → k < length column → begins (unpack w) (word_at column k) ≡ true → begins (unpack w) (word_at column j) ≡ true
+  begun_down j k m l h e =
+      let behind = in_order_total (word_at column j) (unpack w) (p.back j m (omega arith)) in
+      begins_between (unpack w) (word_at column j) (word_at column k) (in_order_of_test (unpack w) (word_at column j) behind) (sorted_at column s j k l h) e
 
-  module _ (end : ℕ) (d : Passed column (unpack w) start end) where
-    pub passed_next : end < length column → begins (unpack w) (word_at column end) ≡ true → Passed column (unpack w) start (end + 1)
-    passed_next l b = record { forward = omega (arith, d.forward); within = omega arith; inside = inside }
-      where
-        inside : (k : ℕ) → start ≤ k → k < end + 1 → begins_properly (unpack w) (word_at column k) ≡ true
-        inside k m h = by_place (three_ways k end)
-          where
-            by_place : (k < end) ⊎ ((k ≡ end) ⊎ (end < k)) → begins_properly (unpack w) (word_at column k) ≡ true
-            by_place (inl i) = d.inside k m i
-            by_place (inr (inl e)) =
-                subst (λ j. begins_properly (unpack w) (word_at column j) ≡ true) (sym e)
-                (proper_behind (unpack w) (word_at column end) (p.back end d.forward l) b)
-            by_place (inr (inr i)) = absurd (omega arith)
+  -- the word at a place of what stands from the parting on
+  behind_at : (k d : ℕ) → k < length (drop start column) → unpack (get_or (drop start column) k d) ≡ word_at column (start + k)
+  behind_at k d h =
+      ap unpack (get_or_default (drop start column) k d 0 h ∙ get_or-drop start column k 0)
 
-    pub passed_all : length column ≤ end → Extending column (unpack w) start end
-    passed_all l = record {
-      forward = d.forward;
-      within = d.within;
-      front = λ k h. proper_apart (unpack w) (word_at column k) (p.front k h);
-      inside = d.inside;
-      back = λ k m h. absurd (omega arith);
-    }
+  -- so that `partition_point` finds where the run ends
+  pub run_partitioned : IsPartitionedBy (λ x. begins (unpack w) (unpack x)) (drop start column)
+  run_partitioned j k d l h e =
+      ap (begins (unpack w)) (behind_at j d (omega arith))
+      ∙ begun_down (start + j) (start + k) (omega arith) (omega arith) (omega (arith, length-drop start column)) (sym (ap (begins (unpack w)) (behind_at k d h)) ∙ e)
 
-    -- behind a word that w does not begin there is none that it begins
-    pub passed_last : end < length column → begins (unpack w) (word_at column end) ≡ false → Extending column (unpack w) start end
-    passed_last l b = record {
-      forward = d.forward;
-      within = d.within;
-      front = λ k h. proper_apart (unpack w) (word_at column k) (p.front k h);
-      inside = d.inside;
-      back = back;
-    }
-      where
-        first : InOrder (unpack w) (word_at column end)
-        first =
-            in_order_of_test (unpack w) (word_at column end) (in_order_total (word_at column end) (unpack w) (p.back end d.forward l))
+  pub run_found : (n : ℕ) → n ≤ length (drop start column) → IsPartitionPoint (λ x. begins (unpack w) (unpack x) ≡ true) (λ x. begins (unpack w) (unpack x) ≡ false) (drop start column) n → Extending column (unpack w) start (start + n)
+  run_found n h (begun, others) = record {
+    forward = omega arith;
+    within = omega (arith, p.within, length-drop start column);
+    front = λ k l. proper_apart (unpack w) (word_at column k) (p.front k l);
+    inside = inside;
+    back = back;
+  }
+    where
+      there : (k : ℕ) → start ≤ k → k < length column → begins (unpack w) (word_at column k) ≡ begins (unpack w) (unpack (get_or (drop start column) (k - start) 0))
+      there k m l = let e : k ≡ start + (k - start) = omega arith in
+          ap (λ i. begins (unpack w) (word_at column i)) e ∙ sym (ap (begins (unpack w)) (behind_at (k - start) 0 (omega (arith, length-drop start column))))
 
-        back : (k : ℕ) → end ≤ k → k < length column → begins_properly (unpack w) (word_at column k) ≡ false
-        back k m h = not_proper (unpack w) (word_at column k) (⊎_elim (λ e. absurd (clash (between e) b)) (λ e. e) (passes _))
-          where
-            between : begins (unpack w) (word_at column k) ≡ true → begins (unpack w) (word_at column end) ≡ true
-            between e = begins_between (unpack w) (word_at column end) (word_at column k) first (sorted_at column s end k m h) e
+      inside : (k : ℕ) → start ≤ k → k < start + n → begins_properly (unpack w) (word_at column k) ≡ true
+      inside k m l =
+          let room : k < length column = omega (arith, length-drop start column) in
+          proper_behind (unpack w) (word_at column k) (p.back k m room) (there k m room ∙ begun (k - start) 0 (omega arith) (omega arith))
+
+      back : (k : ℕ) → start + n ≤ k → k < length column → begins_properly (unpack w) (word_at column k) ≡ false
+      back k m l = not_proper (unpack w) (word_at column k) (there k (omega arith) l ∙ others (k - start) 0 (omega arith) (omega (arith, length-drop start column)))
 
 -- the lines of a word's block under two columns, whose first pair has the place p: where no word is begun, where the first words are, and
 -- where those of a run are

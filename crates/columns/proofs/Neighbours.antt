@@ -1,13 +1,14 @@
 -- In a sorted column a word that begins another begins its right neighbour too, which stands between the two. So a pass over
 -- neighbours finds an overlap if there is one.
-use Prim.Native.Nat.{ℕ, zero, suc, ◌+◌, ◌≤◌, ◌<◌}
-use mathlib.Core.Path.{◌≡◌, refl, sym, ◌∙◌, ap, subst}
+use Prim.Native.Nat.{ℕ, zero, suc, ◌+◌, ◌<◌}
+use mathlib.Core.Path.{◌≡◌, refl, sym, ◌∙◌, ap, ap₂, subst}
 use mathlib.Core.Logic.{◌⊎◌, inl, inr}
-use mathlib.Core.Bool.{true, false, ◌||◌}
+use mathlib.Core.Bool.{Bool, true, false, ◌||◌, or-true}
 use mathlib.Core.List.{List, [], ◌∷◌, Memᴰ}
 use native.Mathlib.Numerals.{add-one}
 use native.Mathlib.Omega.{arith}
-use lib.ListN.{length, drop}
+use lib.ListN.{length}
+use Rattle.std.proofs.Common.{MatchBool}
 use Rattle.higman.specs.Words.{Word, begins}
 use Rattle.higman.specs.Bases.{meets, overlap}
 use Rattle.higman.proofs.Tests.{passes, clash, or_cases}
@@ -15,7 +16,7 @@ use Rattle.words.specs.Packed.{unpack}
 use Rattle.columns.specs.Packed.{words_of, sorted}
 use Rattle.columns.specs.Columns.{word_at}
 use Rattle.columns.proofs.InOrder.{InOrder, in_order_of_begins, in_order_antisym, begins_between}
-use Rattle.columns.proofs.Places.{sorted_first, sorted_tail, sorted_drop}
+use Rattle.columns.proofs.Places.{sorted_first, sorted_tail}
 
 -- the word of the column that a word meets
 met : (w : Word) (c : List Word) → meets w c ≡ true → (u : Word) × Memᴰ u c × ((begins w u ≡ true) ⊎ (begins u w ≡ true))
@@ -61,21 +62,32 @@ module _ (w v : Word) (c : List Word) (s : sorted (w ∷ v ∷ c) ≡ true) wher
       go (inl m) (inr b) = absurd (clash (neighbour_of_meets m) b)
       go (inr m) (inr b) = ap (λ t. t || overlap (v ∷ c)) (m ∙ sym b)
 
-neighbours_from : (column : List ℕ) (i : ℕ) → suc i < length column → sorted (words_of (drop i column)) ≡ true
-    → overlap (words_of (drop i column)) ≡ (begins (word_at column i) (word_at column (suc i)) || overlap (words_of (drop (suc i) column)))
-neighbours_from [] i h s = absurd (omega arith)
-neighbours_from (x ∷ []) i h s = absurd (omega arith)
-neighbours_from (x ∷ y ∷ column) zero h s = neighbours (unpack x) (unpack y) (words_of column) s
-neighbours_from (x ∷ y ∷ column) (suc i) h s = neighbours_from (y ∷ column) i (omega arith) s
+one_begins : (column : List ℕ) (k : ℕ) → sorted (words_of column) ≡ true → suc k < length column → begins (word_at column k) (word_at column (suc k)) ≡ true
+    → overlap (words_of column) ≡ true
+one_begins [] k s h e = absurd (omega arith)
+one_begins (x ∷ []) k s h e = absurd (omega arith)
+one_begins (x ∷ y ∷ column) zero s h e = neighbours (unpack x) (unpack y) (words_of column) s ∙ ap (λ t. t || overlap (words_of (y ∷ column))) e
+one_begins (x ∷ y ∷ column) (suc k) s h e =
+    neighbours (unpack x) (unpack y) (words_of column) s
+    ∙ ap (λ t. begins (unpack x) (unpack y) || t) (one_begins (y ∷ column) k (sorted_tail (unpack x) (words_of (y ∷ column)) s) (omega arith) e)
+    ∙ or-true (begins (unpack x) (unpack y))
 
-pub neighbours_at : (column : List ℕ) (i : ℕ) → i + 1 < length column → sorted (words_of column) ≡ true
-    → overlap (words_of (drop i column)) ≡ (begins (word_at column i) (word_at column (i + 1)) || overlap (words_of (drop (i + 1) column)))
-neighbours_at column i h s = rw add-one (neighbours_from column i (omega arith) (sorted_drop i column s))
+none_begins : (column : List ℕ) → sorted (words_of column) ≡ true → ((k : ℕ) → suc k < length column → begins (word_at column k) (word_at column (suc k)) ≡ false)
+    → overlap (words_of column) ≡ false
+none_begins [] s h = refl
+none_begins (x ∷ []) s h = refl
+none_begins (x ∷ y ∷ column) s h =
+    neighbours (unpack x) (unpack y) (words_of column) s
+    ∙ ap₂ (λ a b. a || b) (h zero (omega arith)) (none_begins (y ∷ column) (sorted_tail (unpack x) (words_of (y ∷ column)) s) (λ k p. h (suc k) (omega arith)))
 
--- a word alone overlaps with none
-pub overlap_last : (column : List ℕ) (i : ℕ) → length column ≤ i + 1 → overlap (words_of (drop i column)) ≡ false
-overlap_last [] zero h = refl
-overlap_last [] (suc i) h = refl
-overlap_last (x ∷ []) zero h = refl
-overlap_last (x ∷ y ∷ column) zero h = absurd (omega arith)
-overlap_last (x ∷ column) (suc i) h = overlap_last column i (omega arith)
+-- some word of a column begins its right neighbour, and none does
+abbrev pub SomeBegins : List ℕ → Type 0
+SomeBegins column = (k : ℕ) × (k + 1 < length column) × (begins (word_at column k) (word_at column (k + 1)) ≡ true)
+
+abbrev pub NoneBegins : List ℕ → Type 0
+NoneBegins column = (k : ℕ) → k + 1 < length column → begins (word_at column k) (word_at column (k + 1)) ≡ false
+
+-- whether a column overlaps, by what is known of its neighbours
+pub overlap_by_neighbours : (column : List ℕ) (r : Bool) → sorted (words_of column) ≡ true → MatchBool r (SomeBegins column) (NoneBegins column) → r ≡ overlap (words_of column)
+overlap_by_neighbours column true s (k, p, h) = sym (one_begins column k s (omega arith) (rw (← add-one) h))
+overlap_by_neighbours column false s h = sym (none_begins column s (λ k p. rw (← add-one) (h k (omega arith))))

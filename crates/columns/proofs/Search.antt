@@ -1,6 +1,6 @@
--- Search in a sorted column: the turns of the binary search for the place that parts the column at a word w, what `place_in` says of the
+-- Search in a sorted column: the place that parts the column at a word w, as a binary search finds it, what `place_in` says of the
 -- words of a column, and that the word before the parting begins w if a word of a column without overlap does.
-use Prim.Native.Nat.{ℕ, zero, suc, ◌+◌, ◌-◌, ◌≤◌, ◌<◌}
+use Prim.Native.Nat.{ℕ, zero, suc, ◌-◌, ◌≤◌, ◌<◌}
 use mathlib.Core.Path.{◌≡◌, sym, ◌∙◌, ap, subst}
 use mathlib.Core.Logic.{◌⊎◌, inl, inr, ⊎_elim}
 use mathlib.Core.Bool.{true, false, ◌||◌}
@@ -11,6 +11,8 @@ use native.Mathlib.Omega.{arith}
 use lib.Dec.{ltb}
 use lib.ListN.{length, length-map}
 use borrow.Author.Tests.{ltb-true, ltb-false, lt-ltb, le-ltb}
+use Rattle.std.specs.List.Sorted.{IsPartitionedBy, IsPartitionPoint}
+use Rattle.std.proofs.lemmas.List.{get_or_default}
 use Rattle.higman.specs.Words.{Word, begins}
 use Rattle.higman.specs.Bases.{meets, overlap}
 use Rattle.higman.specs.Tables.{first_match}
@@ -25,26 +27,6 @@ use Rattle.std.proofs.lemmas.Option.{cond_some, none-some}
 use Rattle.columns.proofs.InOrder.{InOrder, in_order_of_test, test_of_in_order, in_order_of_begins, in_order_trans, begins_between}
 use Rattle.columns.proofs.Places.{mem_at, sorted_at}
 
--- low and high bracket the place: all before low is in order with w, and nothing from high on
-pub record Bracket (column : List ℕ) (w low high : ℕ) : Type 0 where
-  pub ends : low ≤ high
-  pub within : high ≤ length column
-  pub front : (k : ℕ) → k < low → in_order (word_at column k) (unpack w) ≡ true
-  pub back : (k : ℕ) → high ≤ k → k < length column → in_order (word_at column k) (unpack w) ≡ false
-
-pub bracket_start : (column : List ℕ) (w : ℕ) → Bracket column w 0 (length column)
-bracket_start column w =
-    record {
-      ends = omega arith;
-      within = omega arith;
-      front = λ k l. absurd (omega arith);
-      back = λ k l h. absurd (omega arith);
-    }
-
-pub bracket_end : (column : List ℕ) (w low high : ℕ) → Bracket column w low high → high ≤ low → PartedAt column w low
-bracket_end column w low high b h =
-    record { within = omega arith; front = b.front; back = λ k l. b.back k (omega arith) }
-
 module _ (column : List ℕ) (s : sorted (words_of column) ≡ true) (w : ℕ) where
   -- what stands before a word that is in order with w is in order with w
   in_order_down : (j k : ℕ) → j ≤ k → k < length column → in_order (word_at column k) (unpack w) ≡ true → in_order (word_at column j) (unpack w) ≡ true
@@ -54,21 +36,11 @@ module _ (column : List ℕ) (s : sorted (words_of column) ≡ true) (w : ℕ) w
       (unpack w)
       (in_order_trans (word_at column j) (word_at column k) (unpack w) (sorted_at column s j k l h) (in_order_of_test (word_at column k) (unpack w) e))
 
-  module _ (low high m : ℕ) (b : Bracket column w low high) (l : low ≤ m) (h : m < high) where
-    pub bracket_up : in_order (word_at column m) (unpack w) ≡ true → Bracket column w (m + 1) high
-    bracket_up e =
-        record {
-          ends = omega arith;
-          within = b.within;
-          front = λ k p. in_order_down k m (omega arith) (omega arith) e;
-          back = b.back;
-        }
-
-    pub bracket_down : in_order (word_at column m) (unpack w) ≡ false → Bracket column w low m
-    bracket_down e = record { ends = l; within = omega arith; front = b.front; back = back }
-      where
-        back : (k : ℕ) → m ≤ k → k < length column → in_order (word_at column k) (unpack w) ≡ false
-        back k p q = ⊎_elim (λ t. absurd (clash (in_order_down m k p q t) e)) (λ f. f) (passes (in_order (word_at column k) (unpack w)))
+  -- so that the words in order with w stand at the front, and `partition_point` finds where they end
+  pub partitioned : IsPartitionedBy (λ x. in_order (unpack x) (unpack w)) column
+  partitioned j k d l h e =
+      let test = λ (x : ℕ). in_order (unpack x) (unpack w) in
+      ap test (get_or_default column j d 0 (omega arith)) ∙ in_order_down j k l h (ap test (get_or_default column k 0 d h) ∙ e)
 
   module _ (r : ℕ) (p : PartedAt column w r) where
     before_parting : (k : ℕ) → k < length column → InOrder (word_at column k) (unpack w) → k < r
@@ -81,6 +53,9 @@ module _ (column : List ℕ) (s : sorted (words_of column) ≡ true) (w : ℕ) w
     -- the word before the place has all words before it in order with it
     up_to_last : (k : ℕ) → k < r → InOrder (word_at column k) (word_at column (r - 1))
     up_to_last k h = sorted_at column s k (r - 1) (omega arith) (omega (arith, p.within))
+
+pub parted_at : (column : List ℕ) (w r : ℕ) → r ≤ length column → IsPartitionPoint (λ x. in_order (unpack x) (unpack w) ≡ true) (λ x. in_order (unpack x) (unpack w) ≡ false) column r → PartedAt column w r
+parted_at column w r h (front, back) = record { within = h; front = λ k l. front k 0 (omega arith) l; back = λ k l m. back k 0 l m }
 
 -- a word that w does not meet is not begun by w, and does not begin it
 pub unmet : (w : Word) (c : List Word) → meets w c ≡ false → (u : Word) → Memᴰ u c → (begins w u ≡ false) × (begins u w ≡ false)

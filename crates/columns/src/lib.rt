@@ -26,17 +26,7 @@ pub fn first_after(column: &[u64], w: u64) -> usize
     requires { sorted (words_of column.now) ≡ true }
     ensures { PartedAt column.now w result }
 {
-    let mut low = 0;
-    let mut high = column.len();
-    while low < high {
-        let middle = low + (high - low) / 2;
-        if words::in_order(column[middle], w) {
-            low = middle + 1;
-        } else {
-            high = middle;
-        }
-    }
-    low
+    column.partition_point(|word| words::in_order(*word, w))
 }
 
 // The place of the word that begins w, or None where none does: the last of the words in order with w, if any.
@@ -58,14 +48,8 @@ pub fn extending(column: &[u64], w: u64) -> Range<usize>
     ensures { Extending column.now (unpack w) result.start result.end }
 {
     let start = first_after(column, w);
-    let mut end = start;
-    while end < column.len() {
-        if !words::begins(w, column[end]) {
-            return start..end;
-        }
-        end += 1;
-    }
-    start..end
+    let run = column[start..].partition_point(|word| words::begins(w, *word));
+    start..start + run
 }
 
 // Whether one word begins or equals another. In a sorted column it then begins its right neighbour.
@@ -73,16 +57,9 @@ pub fn overlaps(column: &[u64]) -> bool
     requires { sorted (words_of column.now) ≡ true }
     ensures { result ≡ overlap (words_of column.now) }
 {
-    let mut i = 0;
-    while i + 1 < column.len() {
-        let word = column[i];
-        let next = column[i + 1];
-        if words::begins(word, next) {
-            return true;
-        }
-        i += 1;
-    }
-    false
+    column
+        .windows(2)
+        .any(|pair| words::begins(pair[0], pair[1]))
 }
 
 // Where the walk over a covered block has come to, looked at `left` ways below it; None where there is a gap. The words before the place

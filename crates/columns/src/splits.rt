@@ -11,45 +11,39 @@ ghost use Rattle.columns.specs.Splits.{Moved, Splittable};
 use crate::MAX_PAIRS;
 
 // The words behind a place, up to so many, moved up to another place.
+#[tactic(auto, unfolding(higman::specs::Limits::max_pairs))]
 fn move_up(column: [u64; MAX_PAIRS], behind: usize, count: usize, to: usize) -> [u64; MAX_PAIRS]
     requires { Moved behind count to }
     ensures { result ≡ paste column to (drop behind column) (count - behind) }
 {
-    let size = count - behind;
     let mut moved = column;
-    let mut i = 0;
-    while i < size {
-        moved[to + i] = column[behind + i];
-        i += 1;
-    }
+    moved[to..to + (count - behind)].copy_from_slice(&column[behind..count]);
     moved
 }
 
 // The word at a place split: its parts in its stead, and the words behind it moved up.
+#[tactic(auto, unfolding(higman::specs::Limits::max_pairs))]
 pub fn split(column: [u64; MAX_PAIRS], count: usize, place: usize, arity: u8) -> [u64; MAX_PAIRS]
     requires { Splittable column count place arity }
     ensures { words_of (take (count + (arity - 1)) result) ≡ expanded_at arity (words_of (take count column)) place }
 {
     let w = column[place];
     let mut parts = move_up(column, place + 1, count, place + arity as usize);
-    let mut i: u8 = 0;
-    while i < arity {
+    for i in 0..arity {
         parts[place + i as usize] = words::child(w, i + 1);
-        i += 1;
     }
     parts
 }
 
 // The roots, each a word of one digit, whatever the number of ways.
+#[tactic(auto, using(words::proofs::Packing::unpack_zero), unfolding(higman::specs::Limits::max_digits))]
 pub fn root_words(roots: u8) -> [u64; MAX_PAIRS]
     requires { roots ≤ 9 }
     ensures { words_of (take roots result) ≡ root_words (shape 0 roots) }
 {
     let mut column = [0u64; MAX_PAIRS];
-    let mut i: u8 = 0;
-    while i < roots {
+    for i in 0..roots {
         column[i as usize] = words::child(0, i + 1);
-        i += 1;
     }
     column
 }

@@ -1,22 +1,23 @@
--- `columns::extending` meets its contract.
-use Rattle.std.proofs.Common.{sym, ◌∙◌}
-use Rattle.columns.proofs.Extensions.{passed_none, passed_next, passed_all, passed_last}
+-- `columns::extending` meets its contract: behind the words in order with w no word that w begins stands behind one that it does not begin.
+use Rattle.std.proofs.Common.{◌≡◌, ◌-◌, ◌≤◌, ℕ, Bool, true, false, sym, subst, rules, take, drop, length, length-drop, arith}
+use Rattle.std.specs.List.Sorted.{IsPartitionedBy, IsPartitionPoint}
+use Rattle.std.proofs.lemmas.List.{take_all}
+use Rattle.std.proofs.lemmas.List.Sorted.{IsPartitionPoint-from_clause}
+use Rattle.higman.specs.Words.{begins}
+use Rattle.words.specs.Packed.{unpack}
+use Rattle.columns.proofs.Extensions.{run_partitioned, run_found}
 use Rattle.columns.proofs.extending.Goals as goal
-
-pub loop-end-init : goal.loop-end-init
-loop-end-init c = passed_none c.args.column.now c.requires c.args.w c.first_after-start.result c.first_after-start.ensures
-
-pub returns-then-not-begins : goal.returns-then-not-begins
-returns-then-not-begins c =
-    passed_last c.args.column.now c.requires c.args.w c.first_after-start.result c.first_after-start.ensures c.loop-end.end c.loop-end.invariant
-    c.loop-end-test.true (sym c.begins.ensures ∙ c.if-not-begins.true)
-
-pub loop-end-preserved : goal.loop-end-preserved
-loop-end-preserved c =
-    passed_next c.args.column.now c.requires c.args.w c.first_after-start.result c.first_after-start.ensures c.loop-end.end c.loop-end.invariant
-    c.loop-end-test.true (sym c.begins.ensures ∙ c.if-not-begins.false)
 
 pub returns : goal.returns
 returns c =
-    passed_all c.args.column.now c.requires c.args.w c.first_after-start.result c.first_after-start.ensures c.loop-end.end c.loop-end.invariant
-    c.loop-end-test.false
+    let column = c.args.column.now in
+    let w = c.args.w in
+    let start = c.first_after-start.result in
+    let parted = c.first_after-start.ensures in
+    let run = c.partition_point-run in
+    let test : ℕ → Bool = λ x. begins (unpack w) (unpack x) in
+    let rest : take (length column - start) (drop start column) ≡ drop start column = take_all (length column - start) (drop start column) (omega (arith, length-drop start column)) in
+    run_found column c.requires w start parted run.result (subst (λ xs. run.result ≤ length xs) rest run.ensures.bound)
+    (subst (λ xs. IsPartitionPoint (λ x. test x ≡ true) (λ x. test x ≡ false) xs run.result) rest
+    (IsPartitionPoint-from_clause test (take (length column - start) (drop start column)) run.result run.ensures.partitioned
+    (subst (IsPartitionedBy test) (sym rest) (run_partitioned column c.requires w start parted)) (λ a r f' k. search rules)))

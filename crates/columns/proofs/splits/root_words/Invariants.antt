@@ -1,5 +1,4 @@
 -- `columns::splits::root_words` meets its contract. The invariant: the first i places hold the first i roots.
-use Prim.Native.Nat.{◌-◌, ◌≤◌}
 use mathlib.Core.Path.{◌≡◌}
 use mathlib.Core.List.{[], ◌∷◌, map}
 use lib.ListN.{length, take}
@@ -9,7 +8,7 @@ use Rattle.columns.proofs.splits.root_words.Given as goal
 
 abbrev pub invariant-loop-i : goal.invariant-loop-i
 invariant-loop-i l =
-    (l.i ≤ l.roots) × (length l.column ≡ 128) × (words_of (take l.i l.column) ≡ map (λ a. a ∷ []) (count 1 l.i))
-
-abbrev pub decreases-loop-i : goal.decreases-loop-i
-decreases-loop-i l = l.roots - l.i
+    record {
+      long : length l.column ≡ 128;
+      first_roots : words_of (take l.i l.column) ≡ map (λ a. a ∷ []) (count 1 l.i);
+    }

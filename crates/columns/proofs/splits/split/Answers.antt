@@ -16,9 +16,6 @@ use Rattle.columns.proofs.Splitting.{split_words}
 use Rattle.columns.proofs.splits.split.Goals.{After-move_up-parts}
 use Rattle.columns.proofs.splits.split.Goals as goal
 
-pub move_up-parts-requires : goal.move_up-parts-requires
-move_up-parts-requires c = record { forward = omega arith; upward = omega arith; room = omega arith }
-
 -- the words that are moved leave the column as long as it was
 moved_long : (c : After-move_up-parts) → length c.move_up-parts.result ≡ 128
 moved_long c =
@@ -36,82 +33,41 @@ loop-i-init c =
     let r = c.move_up-parts.result in
     let place = c.args.place in
     let here : place + 0 ≡ place = omega arith in
-    (omega arith, moved_long c, ap (λ k. words_of (take k r)) here ∙ sym (append-nil (words_of (take place r))), refl)
-
-pub child-requires : goal.child-requires
-child-requires c = (c.requires.shorter, omega arith, omega arith)
+    record { long = moved_long c; front = ap (λ k. words_of (take k r)) here ∙ sym (append-nil (words_of (take place r))); back = refl }
 
 pub loop-i-preserved : goal.loop-i-preserved
 loop-i-preserved c =
-    let l = c.before.before in
     let a = c.args in
     let parts = c.loop-i.parts in
     let i = c.loop-i.i in
     let w = unpack (get_or a.column a.place 0) in
     let x = c.child.result in
-    let (few, long, front, back) = c.loop-i.invariant in
     let here : a.place + i < length parts = omega (arith, pair_limit) in
     let next : a.place + (i + 1) ≡ suc (a.place + i) = omega arith in
     let before = words_of (take a.place c.move_up-parts.result) in
-    let digit : 1 + i ≡ i + 1 = omega arith in (
-      omega arith,
-      length-set parts (a.place + i) x ∙ long,
-      ap (λ k. words_of (take k (set parts (a.place + i) x))) next
+    let digit : 1 + i ≡ i + 1 = omega arith in
+    record {
+      long = length-set parts (a.place + i) x ∙ c.loop-i.invariant.long;
+      front = ap (λ k. words_of (take k (set parts (a.place + i) x))) next
           ∙ ap words_of (take-suc-set parts (a.place + i) x here)
           ∙ map-append unpack (take (a.place + i) parts) (x ∷ [])
-          ∙ ap₂ (λ f u. f ++ (u ∷ [])) front c.child.ensures
+          ∙ ap₂ (λ f u. f ++ (u ∷ [])) c.loop-i.invariant.front c.child.ensures
           ∙ append_assoc before (map (child w) (count 1 i)) (child w (i + 1) ∷ [])
           ∙ ap (λ k. before ++ (map (child w) (count 1 i) ++ (child w k ∷ []))) (sym digit)
           ∙ ap (λ l. before ++ l) (sym (map-append (child w) (count 1 i) ((1 + i) ∷ [])))
-          ∙ ap (λ l. before ++ map (child w) l) (sym (count_next 1 i) ∙ ap (count 1) (sym (add-one i))),
-      drop-set-lt (a.place + a.arity) parts (a.place + i) x (omega arith) ∙ back,
-    )
+          ∙ ap (λ l. before ++ map (child w) l) (sym (count_next 1 i) ∙ ap (count 1) (sym (add-one i)));
+      back = drop-set-lt (a.place + a.arity) parts (a.place + i) x (omega arith) ∙ c.loop-i.invariant.back;
+    }
 
 pub returns : goal.returns
 returns c =
-    let l = c.before in
-    let m = l.before in
     let a = c.args in
-    let (few, long, front, back) = c.loop-i.invariant in
     let all : c.loop-i.i ≡ a.arity = omega arith in
     let here : a.place + c.loop-i.i ≡ a.place + a.arity = omega arith in
     let p = c.requires in
     let moved = c.move_up-parts.ensures in
     split_words a.column c.loop-i.parts a.count a.place a.arity p.listed p.some_parts (omega (arith, pair_limit))
     (ap (λ k. words_of (take k c.loop-i.parts)) (sym here)
-    ∙ front
+    ∙ c.loop-i.invariant.front
     ∙ ap₂ (λ r k. words_of (take a.place r) ++ map (child (unpack (get_or a.column a.place 0))) (count 1 k)) moved all)
-    (back ∙ ap (drop (a.place + a.arity)) moved)
-
-pub offset_bounds-column-place : goal.offset_bounds-column-place
-offset_bounds-column-place c = omega (arith, pair_limit)
-
-pub bounds-column-place : goal.bounds-column-place
-bounds-column-place c = omega (arith, pair_limit)
-
-pub overflow_add-place : goal.overflow_add-place
-overflow_add-place c = omega (arith, pair_limit)
-
-pub overflow_add-place-2 : goal.overflow_add-place-2
-overflow_add-place-2 c = omega (arith, pair_limit)
-
-pub overflow_add-i : goal.overflow_add-i
-overflow_add-i c = omega (arith, pair_limit)
-
-pub overflow_cast-parts : goal.overflow_cast-parts
-overflow_cast-parts c = omega (arith, pair_limit)
-
-pub overflow_add-parts : goal.overflow_add-parts
-overflow_add-parts c = omega (arith, pair_limit)
-
-pub offset_bounds-parts-place : goal.offset_bounds-parts-place
-offset_bounds-parts-place c = omega (arith, pair_limit)
-
-pub bounds-parts-place : goal.bounds-parts-place
-bounds-parts-place c = omega (arith, pair_limit)
-
-pub overflow_add-i-in-loop-i : goal.overflow_add-i-in-loop-i
-overflow_add-i-in-loop-i c = omega (arith, pair_limit)
-
-pub loop-i-smaller : goal.loop-i-smaller
-loop-i-smaller c = omega (arith, pair_limit)
+    (c.loop-i.invariant.back ∙ ap (drop (a.place + a.arity)) moved)
