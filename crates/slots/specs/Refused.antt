@@ -18,11 +18,14 @@ refused_for n = record { refusal = n; column = None }
 abbrev pub refusing : {A : Type 0} → Refusal → Result A Refused
 refusing n = Err (refused_for n)
 
--- the letter of the column that is named, if one is
+-- the letter of a column, and of the one that is named, if one is
+abbrev pub letter : Column → Letter
+letter From = Letter.F
+letter To = Letter.T
+
 abbrev pub letter_of : Option Column → OptionOf Letter
 letter_of None = none
-letter_of (Some From) = some Letter.F
-letter_of (Some To) = some Letter.T
+letter_of (Some c) = some (letter c)
 
 -- what a result means: a refusal by its number and its letter, or the value
 abbrev pub outcome_of : {A : Type 0} → Result A Refused → Outcome A

@@ -64,6 +64,11 @@ abbrev pub reply_in : Result Work Refused → Result Reply Refused
 reply_in (Ok w) = Ok w.reply
 reply_in (Err f) = Err f
 
+-- what comes of a record that only asks
+abbrev pub unchanged : Head → Result Reply Refused → Result Work Refused
+unchanged h (Ok p) = Ok (record { head = h; reply = p })
+unchanged h (Err f) = Err f
+
 -- A work well done: what comes of an operation on a desk is held by the head and columns that it leaves, told by its reply and, where the
 -- reply is written at once, at the front of the output.
 pub record DoneBy (d : Desk) (o : Outcome Effect) (out : List ℕ) (h : Head) (w : Result Work Refused) (columns' out' : List ℕ) : Type 0 where

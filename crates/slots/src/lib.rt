@@ -8,7 +8,7 @@ ghost use Rattle.higman.specs.Bases.{all};
 ghost use Rattle.desk.specs.Desk.{fresh_control, count_in, right_of, IsControl};
 ghost use Rattle.slots.specs.Blocks.{noted_in, named_in, given_in};
 ghost use Rattle.slots.specs.Desks.{control_of, full_in, Countable, RightAsked, RightGiven, RightsAsked, allowed_in};
-ghost use Rattle.slots.specs.Works.{HeadOfDesk, AdmittedAs};
+ghost use Rattle.slots.specs.Works.{HeadOfDesk, AdmittedAs, unchanged};
 
 use operations::listing;
 use operations::refusals::Refusal;
@@ -237,4 +237,14 @@ pub fn slot_number(slot: u8) -> usize
     ensures { result ≡ slot_number slot }
 {
     (slot - b'A') as usize
+}
+
+// What comes of a record that only asks: the head as it was, and the reply.
+pub fn unchanged(head: Head, reply: Result<Reply, Refused>) -> Result<Work, Refused>
+    ensures { result ≡ unchanged head reply }
+{
+    reply.map(|reply| Work {
+        head: head,
+        reply: reply,
+    })
 }
