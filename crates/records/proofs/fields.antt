@@ -1,8 +1,5 @@
--- The laws of fields, each file after those it leans on: the bytes of a line from a place on; what is made of a field by its form;
--- numbers, and their signs; where a field ends; and fields of one byte.
-pub mod Places
-pub mod Forms
+-- The laws of fields, each file after those it leans on: numbers, and their signs; what is read of the fields behind a field.
 pub mod Numbers
+pub mod Behind
+pub mod SoFar
 pub mod Signs
-pub mod Ends
-pub mod OneByte

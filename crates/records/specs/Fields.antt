@@ -1,99 +1,102 @@
--- What the functions below `read` promise, in the terms of desk's Records.antt: fields of one byte, where a field ends, numbers, and the
--- fields behind a letter. A reader who believes Reading.antt need not read it.
-use Rattle.std.specs.Prelude.{ℕ, zero, suc, ◌≡◌, refl, Bool, true, false, ◌&&◌, not, [], ◌∷◌, map, eqb, ℤ, negsuc, drop}
+-- What the functions below `read` promise, in the terms of desk's Records.antt: fields of one byte, a field up to the next tab, the last
+-- field, numbers, and the fields behind a letter. Each of them is read off what stands behind the field before: nothing, or a tab and the
+-- field. A reader who believes Reading.antt need not read it.
+use Rattle.std.specs.Prelude.{ℕ, zero, suc, ◌≡◌, refl, true, false, ◌&&◌, not, List, [], ◌∷◌, map, length, eqb, negsuc, drop}
+use Rattle.std.specs.Prelude.{Option, None, Some, option_map}
 use Rattle.std.proofs.Math.Option as maybe
 use Rattle.std.proofs.Math.Option.{none, some}
-use Rattle.std.specs.Prelude.{Option, None, Some}
-use Rattle.higman.specs.Text.{Bytes, tab, byte, bytes}
-use Rattle.desk.specs.Limits.{max_numeral, max_splits_numeral, max_seed_numeral}
-use Rattle.desk.specs.Records.{Record as DeskRecord, fields, number_field, signed_field, exercise_fields, grammar, read_by}
+use Rattle.higman.specs.Text.{Bytes, tab, byte, bytes, is_numeral, numeral_value}
+use Rattle.desk.specs.Limits.{max_numeral}
+use Rattle.desk.specs.Records.{Record as DeskRecord, fields, no_tab, number_field, signed_field, grammar, read_by}
 use Rattle.records.specs.declared.Record.{Record}
-use Rattle.records.specs.declared.Record.TheVariants.{Close, Same, Exercise}
-use Rattle.records.specs.declared.fields.Natural.{Natural}
-use Rattle.records.specs.declared.fields.Whole.{Whole}
+use Rattle.records.specs.declared.Record.TheVariants.{Close, Same}
 use Rattle.records.specs.Reading.{placed}
 
--- bytes whose first field is one byte, with a field behind it
-abbrev pub single_then : Bytes → Bool
-single_then [] = false
-single_then (b ∷ []) = false
-single_then (b ∷ c ∷ l) = not (eqb b tab) && eqb c tab
+-- what a form or the grammar reads
+abbrev pub given : {A : Type 0} → maybe.Option A → Option A
+given none = None
+given (some a) = Some a
 
--- bytes that are one field of one byte
-abbrev pub single_last : Bytes → Bool
-single_last [] = false
-single_last (b ∷ []) = not (eqb b tab)
-single_last (b ∷ c ∷ l) = false
+-- a field of one byte, and what stands behind it
+abbrev pub single : Bytes → Option (ℕ × Bytes)
+single [] = None
+single (t ∷ []) = None
+single (t ∷ b ∷ l) = elim (eqb t tab && not (eqb b tab)) [ true ↦ Some (b, l) | false ↦ None ]
 
--- bytes that are so many fields of one byte each
-abbrev pub singles : ℕ → Bytes → Bool
-singles zero l = false
-singles (suc zero) l = single_last l
-singles (suc (suc k)) l = single_then l && singles (suc k) (drop 2 l)
+-- so many fields of one byte each, and nothing behind them
+abbrev pub singles : ℕ → Bytes → Option Bytes
+singles zero [] = Some []
+singles zero (b ∷ l) = None
+singles (suc k) l = elim (single l) [ None ↦ None | Some p ↦ option_map (λ bs. p.0 ∷ bs) (singles k p.1) ]
 
 -- the bytes before the first tab
 abbrev pub first_field : Bytes → Bytes
 first_field [] = []
 first_field (b ∷ l) = elim (eqb b tab) [ true ↦ [] | false ↦ b ∷ first_field l ]
 
--- the number that a form reads, if it reads one
-abbrev pub natural_of : maybe.Option ℕ → Natural
-natural_of none = Natural.NoNumber
-natural_of (some n) = Natural.Number n
+-- a field up to the next tab, and what stands from there on
+abbrev pub first : Bytes → Option (Bytes × Bytes)
+first [] = None
+first (t ∷ l) = elim (eqb t tab) [ true ↦ Some (first_field l, drop (length (first_field l)) l) | false ↦ None ]
 
-abbrev pub whole_of : maybe.Option ℤ → Whole
-whole_of none = Whole.NoNumber
-whole_of (some k) = Whole.Number k
+-- a field up to the end
+abbrev pub last : Bytes → Option Bytes
+last [] = None
+last (t ∷ l) = elim (eqb t tab && no_tab l) [ true ↦ Some l | false ↦ None ]
+
+-- the digit that a byte spells
+abbrev pub digit : ℕ → Option ℕ
+digit b = elim (is_numeral b) [ true ↦ Some (numeral_value b) | false ↦ None ]
+
+-- what is read of the fields that stand behind a field, none or some
+abbrev pub behind : (List Bytes → maybe.Option DeskRecord) → Bytes → maybe.Option DeskRecord
+behind reads [] = reads []
+behind reads (t ∷ l) = elim (eqb t tab) [ true ↦ reads (fields l) | false ↦ none ]
 
 -- the record that the grammar reads, if it reads one
 abbrev pub placed_if : maybe.Option DeskRecord → Option Record
 placed_if none = None
 placed_if (some r) = Some (placed r)
 
--- what a letter is read as with no field behind it, and with the fields of some bytes
-unfoldable pub alone : ℕ → Option Record
-alone letter = placed_if (read_by grammar letter [])
-
+-- what a letter is read as with what stands behind it
 unfoldable pub behind_letter : ℕ → Bytes → Option Record
-behind_letter letter rest = placed_if (read_by grammar letter (fields rest))
+behind_letter letter rest = placed_if (behind (read_by grammar letter) rest)
 
--- what X is read as behind its slot, n and r
-unfoldable pub behind_shape : ℕ → ℕ → ℕ → Bytes → Option Record
-behind_shape a n r rest = placed_if (exercise_fields a n r (fields rest))
+single_example : map (λ l. single (bytes l)) ("\tA" ∷ "\tA\t1" ∷ "\tAB" ∷ "A" ∷ "\t" ∷ "\t\t" ∷ [])
+    ≡ Some (byte "A", []) ∷ Some (byte "A", bytes "\t1") ∷ Some (byte "A", bytes "B") ∷ None ∷ None ∷ None ∷ []
+single_example = refl
 
-single_then_example : map (λ l. single_then (bytes l)) ("A\t" ∷ "A\t1" ∷ "A" ∷ "\t\t" ∷ "AB\t" ∷ [])
-    ≡ true ∷ true ∷ false ∷ false ∷ false ∷ []
-single_then_example = refl
-
-single_last_example : map (λ l. single_last (bytes l)) ("A" ∷ "A\t" ∷ "" ∷ "\t" ∷ "AB" ∷ []) ≡ true ∷ false ∷ false ∷ false ∷ false ∷ []
-single_last_example = refl
-
-singles_example : map (λ l. singles 2 (bytes l)) ("A\tB" ∷ "A" ∷ "A\t" ∷ "A\tB\t" ∷ "A\t\t" ∷ [])
-    ≡ true ∷ false ∷ false ∷ false ∷ false ∷ []
+singles_example : map (λ l. singles 2 (bytes l)) ("\tA\tB" ∷ "\tA" ∷ "\tA\t" ∷ "\tA\tB\t" ∷ "\tAB" ∷ [])
+    ≡ Some (bytes "AB") ∷ None ∷ None ∷ None ∷ None ∷ []
 singles_example = refl
 
 first_field_example : map (λ l. first_field (bytes l)) ("11\t122\t1" ∷ "\t1" ∷ "1" ∷ []) ≡ bytes "11" ∷ [] ∷ bytes "1" ∷ []
 first_field_example = refl
 
-natural_of_example : map (λ f. natural_of (number_field max_numeral (bytes f))) ("1000" ∷ "01" ∷ [])
-    ≡ Natural.Number 1000 ∷ Natural.NoNumber ∷ []
+first_example : map (λ l. first (bytes l)) ("\t11\t122" ∷ "\t\t" ∷ "\t1" ∷ "11" ∷ [])
+    ≡ Some (bytes "11", bytes "\t122") ∷ Some ([], bytes "\t") ∷ Some (bytes "1", []) ∷ None ∷ []
+first_example = refl
+
+last_example : map (λ l. last (bytes l)) ("\t11" ∷ "\t" ∷ "\t11\t" ∷ "" ∷ "11" ∷ []) ≡ Some (bytes "11") ∷ Some [] ∷ None ∷ None ∷ None ∷ []
+last_example = refl
+
+digit_example : map digit (bytes "09/:") ≡ Some 0 ∷ Some 9 ∷ None ∷ None ∷ []
+digit_example = refl
+
+given_example : map (λ f. given (number_field max_numeral (bytes f))) ("1000" ∷ "01" ∷ []) ≡ Some 1000 ∷ None ∷ []
 unfolding max_numeral
-natural_of_example = refl
+given_example = refl
 
-whole_of_example : map (λ f. whole_of (signed_field max_numeral (bytes f))) ("-1000" ∷ "-0" ∷ [])
-    ≡ Whole.Number (negsuc 999) ∷ Whole.NoNumber ∷ []
+signed_example : map (λ f. given (signed_field max_numeral (bytes f))) ("-1000" ∷ "-0" ∷ []) ≡ Some (negsuc 999) ∷ None ∷ []
 unfolding max_numeral
-whole_of_example = refl
+signed_example = refl
 
-alone_example : map alone (byte "E" ∷ byte "S" ∷ tab ∷ []) ≡ Some Close ∷ None ∷ None ∷ []
-unfolding alone grammar
-alone_example = refl
-
-behind_letter_example : map (λ l. behind_letter (byte "S") (bytes l)) ("A\tB" ∷ "A" ∷ []) ≡ Some (Same (byte "A") (byte "B")) ∷ None ∷ []
+behind_letter_example : map (λ l. behind_letter (byte "S") (bytes l)) ("\tA\tB" ∷ "\tA" ∷ "A\tB" ∷ [])
+    ≡ Some (Same (byte "A") (byte "B")) ∷ None ∷ None ∷ []
 unfolding behind_letter grammar
 behind_letter_example = refl
 
-behind_shape_example : map (λ l. behind_shape (byte "A") 2 1 (bytes l)) ("2\t1" ∷ "2" ∷ "2\t1\t" ∷ [])
-    ≡ Some (Exercise (byte "A") 2 1 2 1) ∷ None ∷ None ∷ []
-unfolding behind_shape max_splits_numeral max_seed_numeral
-behind_shape_example = refl
+-- letters that no field follows
+alone_example : map (λ l. behind_letter l []) (byte "E" ∷ byte "S" ∷ tab ∷ []) ≡ Some Close ∷ None ∷ None ∷ []
+unfolding behind_letter grammar
+alone_example = refl

@@ -1,14 +1,16 @@
 -- What a line of bytes is read as (document 01, "Records"): the record that desk's Replies.antt gives, its numbers as they are and each
 -- word or code by the places between which it stands in the line. Behind it the way back, from what was read to the record, and what a
 -- caller has to know of both.
-use Rattle.std.specs.Prelude.{ℕ, ◌+◌, ◌-◌, ◌^◌, ◌≤◌, ◌<◌, ◌≡◌, refl, [], ◌∷◌, ◌++◌, map, negsuc, nat_abs, length, take, drop, replicate, IfSome}
+use Rattle.std.specs.Prelude.{ℕ, ◌+◌, ◌-◌, ◌^◌, ◌≤◌, ◌<◌, ◌≡◌, refl, [], ◌∷◌, ◌++◌, map, negsuc, nat_abs, length, take, drop, replicate}
+use Rattle.std.specs.Prelude.{IfSome}
 use Rattle.std.proofs.Math.Option.{none}
 use Rattle.std.specs.declared.ops.Range.{Range}
 use Rattle.std.specs.Prelude.{Option, None, Some}
 use Rattle.higman.specs.Refusals.{no_record}
 use Rattle.higman.specs.Text.{Bytes, byte, bytes}
 use Rattle.desk.specs.Limits.{max_line, max_numeral, max_splits_numeral, max_seed_numeral}
-use Rattle.desk.specs.Records.{Record as DeskRecord, P, M, E, F, I, K, S, W, L, C, T, U, X, Z, G, H, may_write, right_number, grammar, parse}
+use Rattle.desk.specs.Records.{Record as DeskRecord, P, M, E, F, I, K, S, W, L, C, T, U, X, Z, G, H, may_write, right_number, grammar}
+use Rattle.desk.specs.Records.{parse}
 use Rattle.desk.specs.Replies.{Outcome, refuse, pass, record_of, grant_by}
 use Rattle.records.specs.declared.Record.{Record}
 use Rattle.records.specs.declared.Record.TheVariants.{Open, Pair, Close, Follow, Invert, Power, Same, Route}

@@ -3,10 +3,10 @@
 // for every line of bytes; the functions below it promise the same of the fields behind a letter.
 #![tactic(auto)]
 
-ghost use Rattle.std.specs.Prelude.{◌≡◌, drop};
+ghost use Rattle.std.specs.Prelude.{◌≡◌};
 ghost use Rattle.higman.specs.Text.{byte};
 ghost use Rattle.records.specs.Reading.{read_line};
-ghost use Rattle.records.specs.Fields.{alone, behind_letter, behind_shape};
+ghost use Rattle.records.specs.Fields.{behind_letter};
 
 use std::ops::Range;
 
@@ -15,15 +15,10 @@ mod fields;
 // `max_line`: the most bytes of a line.
 pub const MAX_LINE: usize = 1100;
 
-// Where the first field starts, behind the letter and a tab.
+// Where the first field starts, behind the letter and a tab, and where the second does, behind a field of one byte.
 const FIRST: usize = 2;
 
-// Where the second, the third and the fourth start, behind fields of one byte.
 const SECOND: usize = 4;
-
-const THIRD: usize = 6;
-
-const FOURTH: usize = 8;
 
 // A record, by its letter. A slot is the byte that names it, a word or code the part of the line that spells it.
 #[derive(Clone, PartialEq, Eq, Debug, Drop)]
@@ -103,288 +98,187 @@ pub enum Record {
 }
 
 // A slot and two digits.
-fn read_open(line: &[u8]) -> Option<Record>
-    ensures { result ≡ behind_letter (byte "P") (drop 2 line.now) }
+#[tactic(auto, using(crate::proofs::Readers::open_read))]
+fn read_open(fields: &[u8]) -> Option<Record>
+    ensures { result ≡ behind_letter (byte "P") fields.now }
 {
-    if !fields::singles(line, FIRST, 3) {
-        return None;
-    }
-    let arity = line[SECOND];
-    let roots = line[THIRD];
-    if !fields::is_numeral(arity) {
-        return None;
-    }
-    if !fields::is_numeral(roots) {
-        return None;
-    }
+    let [slot, arity, roots] = fields::singles::<3>(fields)?;
     Some(Record::Open {
-        slot: line[FIRST],
-        arity: arity - b'0',
-        roots: roots - b'0',
+        slot,
+        arity: fields::digit(arity)?,
+        roots: fields::digit(roots)?,
     })
 }
 
 // A word up to the next tab, and one up to the end of the line.
-fn read_pair(line: &[u8]) -> Option<Record>
-    ensures { result ≡ behind_letter (byte "M") (drop 2 line.now) }
+#[tactic(auto, using(crate::proofs::Readers::pair_read))]
+fn read_pair(fields: &[u8]) -> Option<Record>
+    ensures { result ≡ behind_letter (byte "M") fields.now }
 {
-    let middle = fields::field_end(line, FIRST);
-    if line.len() <= middle {
-        return None;
-    }
+    let (from, rest) = fields::first(fields)?;
+    let to = fields::last(rest)?;
+    let middle = FIRST + from.len();
     let behind = middle + 1;
-    if !fields::no_tab(line, behind) {
-        return None;
-    }
     Some(Record::Pair {
         from: FIRST..middle,
-        to: behind..line.len(),
+        to: behind..behind + to.len(),
     })
 }
 
 // Three slots.
-fn read_follow(line: &[u8]) -> Option<Record>
-    ensures { result ≡ behind_letter (byte "F") (drop 2 line.now) }
+#[tactic(auto, using(crate::proofs::Readers::follow_read))]
+fn read_follow(fields: &[u8]) -> Option<Record>
+    ensures { result ≡ behind_letter (byte "F") fields.now }
 {
-    if !fields::singles(line, FIRST, 3) {
-        return None;
-    }
-    Some(Record::Follow {
-        a: line[FIRST],
-        b: line[SECOND],
-        c: line[THIRD],
-    })
+    let [a, b, c] = fields::singles::<3>(fields)?;
+    Some(Record::Follow { a, b, c })
 }
 
 // Two slots.
-fn read_invert(line: &[u8]) -> Option<Record>
-    ensures { result ≡ behind_letter (byte "I") (drop 2 line.now) }
+#[tactic(auto, using(crate::proofs::Readers::invert_read))]
+fn read_invert(fields: &[u8]) -> Option<Record>
+    ensures { result ≡ behind_letter (byte "I") fields.now }
 {
-    if !fields::singles(line, FIRST, 2) {
-        return None;
-    }
-    Some(Record::Invert {
-        a: line[FIRST],
-        c: line[SECOND],
-    })
+    let [a, c] = fields::singles::<2>(fields)?;
+    Some(Record::Invert { a, c })
 }
 
-// A slot, a number up to the next tab, and a slot behind it.
-fn read_power(line: &[u8]) -> Option<Record>
-    ensures { result ≡ behind_letter (byte "K") (drop 2 line.now) }
+// A slot, a number and a slot.
+#[tactic(auto, using(crate::proofs::Readers::power_read))]
+fn read_power(fields: &[u8]) -> Option<Record>
+    ensures { result ≡ behind_letter (byte "K") fields.now }
 {
-    if !fields::single_then(line, FIRST) {
-        return None;
-    }
-    let end = fields::field_end(line, SECOND);
-    if line.len() <= end {
-        return None;
-    }
-    let behind = end + 1;
-    if !fields::single_last(line, behind) {
-        return None;
-    }
-    let fields::Whole::Number(k) = fields::signed(&line[SECOND..end]) else {
-        return None;
-    };
-    Some(Record::Power {
-        a: line[FIRST],
-        k: k,
-        c: line[behind],
-    })
+    let (a, rest) = fields::single(fields)?;
+    let (k, rest) = fields::first(rest)?;
+    let k = fields::signed(k)?;
+    let [c] = fields::singles::<1>(rest)?;
+    Some(Record::Power { a, k, c })
 }
 
 // Two slots.
-fn read_same(line: &[u8]) -> Option<Record>
-    ensures { result ≡ behind_letter (byte "S") (drop 2 line.now) }
+#[tactic(auto, using(crate::proofs::Readers::same_read))]
+fn read_same(fields: &[u8]) -> Option<Record>
+    ensures { result ≡ behind_letter (byte "S") fields.now }
 {
-    if !fields::singles(line, FIRST, 2) {
-        return None;
-    }
-    Some(Record::Same {
-        a: line[FIRST],
-        b: line[SECOND],
-    })
+    let [a, b] = fields::singles::<2>(fields)?;
+    Some(Record::Same { a, b })
 }
 
 // A slot, and a code up to the end of the line.
-fn read_route(line: &[u8]) -> Option<Record>
-    ensures { result ≡ behind_letter (byte "W") (drop 2 line.now) }
+#[tactic(auto, using(crate::proofs::Readers::route_read))]
+fn read_route(fields: &[u8]) -> Option<Record>
+    ensures { result ≡ behind_letter (byte "W") fields.now }
 {
-    if !fields::single_then(line, FIRST) {
-        return None;
-    }
-    if !fields::no_tab(line, SECOND) {
-        return None;
-    }
+    let (a, rest) = fields::single(fields)?;
+    let code = fields::last(rest)?;
     Some(Record::Route {
-        a: line[FIRST],
-        code: SECOND..line.len(),
+        a,
+        code: SECOND..SECOND + code.len(),
     })
 }
 
 // One slot.
-fn read_list(line: &[u8]) -> Option<Record>
-    ensures { result ≡ behind_letter (byte "L") (drop 2 line.now) }
+#[tactic(auto, using(crate::proofs::Readers::list_read))]
+fn read_list(fields: &[u8]) -> Option<Record>
+    ensures { result ≡ behind_letter (byte "L") fields.now }
 {
-    if !fields::singles(line, FIRST, 1) {
-        return None;
-    }
-    Some(Record::List { a: line[FIRST] })
+    let [a] = fields::singles::<1>(fields)?;
+    Some(Record::List { a })
 }
 
 // One slot.
-fn read_empty(line: &[u8]) -> Option<Record>
-    ensures { result ≡ behind_letter (byte "C") (drop 2 line.now) }
+#[tactic(auto, using(crate::proofs::Readers::empty_read))]
+fn read_empty(fields: &[u8]) -> Option<Record>
+    ensures { result ≡ behind_letter (byte "C") fields.now }
 {
-    if !fields::singles(line, FIRST, 1) {
-        return None;
-    }
-    Some(Record::Empty { a: line[FIRST] })
+    let [a] = fields::singles::<1>(fields)?;
+    Some(Record::Empty { a })
 }
 
-// X behind its r: a number up to the next tab, and one up to the end of the line. A field with a tab in it is no number.
-fn read_splits_and_seed(line: &[u8], slot: u8, arity: u8, roots: u8) -> Option<Record>
-    ensures { result ≡ behind_shape slot arity roots (drop 8 line.now) }
+// A slot, two digits and two numbers.
+#[tactic(auto, using(crate::proofs::Readers::exercise_read))]
+fn read_exercise(fields: &[u8]) -> Option<Record>
+    ensures { result ≡ behind_letter (byte "X") fields.now }
 {
-    let end = fields::field_end(line, FOURTH);
-    if line.len() <= end {
-        return None;
-    }
-    let fields::Natural::Number(splits) = fields::number(
-        &line[FOURTH..end],
-        fields::MAX_SPLITS_NUMERAL,
-    ) else {
-        return None;
-    };
-    let behind = end + 1;
-    let fields::Natural::Number(seed) = fields::number(&line[behind..], fields::MAX_SEED_NUMERAL)
-    else {
-        return None;
-    };
+    let (slot, rest) = fields::single(fields)?;
+    let (arity, rest) = fields::single(rest)?;
+    let arity = fields::digit(arity)?;
+    let (roots, rest) = fields::single(rest)?;
+    let roots = fields::digit(roots)?;
+    let (splits, rest) = fields::first(rest)?;
+    let splits = fields::number(splits, fields::MAX_SPLITS_NUMERAL)?;
+    let seed = fields::last(rest)?;
+    let seed = fields::number(seed, fields::MAX_SEED_NUMERAL)?;
     Some(Record::Exercise {
-        slot: slot,
-        arity: arity,
-        roots: roots,
+        slot,
+        arity,
+        roots,
         splits: splits as u8,
-        seed: seed,
+        seed,
     })
-}
-
-// A slot and two digits, each with a field behind it, and two numbers.
-fn read_exercise(line: &[u8]) -> Option<Record>
-    ensures { result ≡ behind_letter (byte "X") (drop 2 line.now) }
-{
-    if !fields::single_then(line, FIRST) {
-        return None;
-    }
-    if !fields::single_then(line, SECOND) {
-        return None;
-    }
-    if !fields::single_then(line, THIRD) {
-        return None;
-    }
-    let arity = line[SECOND];
-    let roots = line[THIRD];
-    if !fields::is_numeral(arity) {
-        return None;
-    }
-    if !fields::is_numeral(roots) {
-        return None;
-    }
-    read_splits_and_seed(line, line[FIRST], arity - b'0', roots - b'0')
 }
 
 // One digit.
-fn read_station(line: &[u8]) -> Option<Record>
-    ensures { result ≡ behind_letter (byte "Z") (drop 2 line.now) }
+#[tactic(auto, using(crate::proofs::Readers::station_read))]
+fn read_station(fields: &[u8]) -> Option<Record>
+    ensures { result ≡ behind_letter (byte "Z") fields.now }
 {
-    if !fields::singles(line, FIRST, 1) {
-        return None;
-    }
-    let station = line[FIRST];
-    if !fields::is_numeral(station) {
-        return None;
-    }
+    let [station] = fields::singles::<1>(fields)?;
     Some(Record::Station {
-        station: station - b'0',
+        station: fields::digit(station)?,
     })
 }
 
 // A digit, a slot and a digit from 0 to 2.
-fn read_grant(line: &[u8]) -> Option<Record>
-    ensures { result ≡ behind_letter (byte "G") (drop 2 line.now) }
+#[tactic(auto, using(crate::proofs::Readers::grant_read))]
+fn read_grant(fields: &[u8]) -> Option<Record>
+    ensures { result ≡ behind_letter (byte "G") fields.now }
 {
-    if !fields::singles(line, FIRST, 3) {
-        return None;
-    }
-    let holder = line[FIRST];
-    let right = line[THIRD];
-    if !fields::is_numeral(holder) {
-        return None;
-    }
-    if !fields::is_numeral(right) {
-        return None;
-    }
-    if b'2' < right {
+    let [station, slot, right] = fields::singles::<3>(fields)?;
+    let station = fields::digit(station)?;
+    let right = fields::digit(right)?;
+    if 2 < right {
         return None;
     }
     Some(Record::Grant {
-        station: holder - b'0',
-        slot: line[SECOND],
-        right: right - b'0',
+        station,
+        slot,
+        right,
     })
 }
 
-// A letter that no field follows.
-fn read_alone(letter: u8) -> Option<Record>
-    ensures { result ≡ alone letter }
+// A letter, and the fields behind it, with a tab in front of each.
+#[tactic(auto, using(crate::proofs::Readers::letters_alone))]
+fn read_fields(letter: u8, fields: &[u8]) -> Option<Record>
+    ensures { result ≡ behind_letter letter fields.now }
 {
     match letter {
-        b'E' => Some(Record::Close),
-        b'T' => Some(Record::Count),
-        b'U' => Some(Record::Survey),
-        b'H' => Some(Record::Sum),
+        b'P' => read_open(fields),
+        b'M' => read_pair(fields),
+        b'E' if fields.is_empty() => Some(Record::Close),
+        b'F' => read_follow(fields),
+        b'I' => read_invert(fields),
+        b'K' => read_power(fields),
+        b'S' => read_same(fields),
+        b'W' => read_route(fields),
+        b'L' => read_list(fields),
+        b'C' => read_empty(fields),
+        b'T' if fields.is_empty() => Some(Record::Count),
+        b'U' if fields.is_empty() => Some(Record::Survey),
+        b'X' => read_exercise(fields),
+        b'Z' => read_station(fields),
+        b'G' => read_grant(fields),
+        b'H' if fields.is_empty() => Some(Record::Sum),
         _ => None,
     }
 }
 
-// A letter, a tab behind it, and fields.
-fn read_fields(letter: u8, line: &[u8]) -> Option<Record>
-    ensures { result ≡ behind_letter letter (drop 2 line.now) }
-{
-    match letter {
-        b'P' => read_open(line),
-        b'M' => read_pair(line),
-        b'F' => read_follow(line),
-        b'I' => read_invert(line),
-        b'K' => read_power(line),
-        b'S' => read_same(line),
-        b'W' => read_route(line),
-        b'L' => read_list(line),
-        b'C' => read_empty(line),
-        b'X' => read_exercise(line),
-        b'Z' => read_station(line),
-        b'G' => read_grant(line),
-        _ => None,
-    }
-}
-
-// The record that a line is: its length and its first two bytes decide which form is looked for, if any.
+// The record that a line is: its letter decides which form is looked for behind it.
 pub fn read(line: &[u8]) -> Option<Record>
     ensures { result ≡ read_line line.now }
 {
-    if line.len() == 0 {
-        return None;
+    match line {
+        [letter, fields @ ..] if line.len() <= MAX_LINE => read_fields(*letter, fields),
+        _ => None,
     }
-    if MAX_LINE < line.len() {
-        return None;
-    }
-    if line.len() == 1 {
-        return read_alone(line[0]);
-    }
-    if line[1] != fields::TAB {
-        return None;
-    }
-    read_fields(line[0], line)
 }

@@ -1,7 +1,6 @@
 -- Number fields, by the tests that the code makes one after the other, and how large what they spell is.
 use Prim.Native.Nat.{ℕ, zero, suc, ◌+◌, ◌*◌, ◌^◌, ◌≤◌, ◌<◌}
-use native.Mathlib.Nat.{pow-suc, pow-succ', pow-le-pow_right, one-mul, mul-one, mul_assoc}
-use native.Mathlib.Numerals.{add-one}
+use native.Mathlib.Nat.{pow-succ', pow-le-pow_right, one-mul, mul-one, mul_assoc}
 use native.Mathlib.Omega.{arith}
 use mathlib.Core.Path.{◌≡◌, refl, sym, ◌∙◌, ap, subst}
 use mathlib.Core.Logic.{◌⊎◌, inl, inr}
@@ -10,17 +9,13 @@ use mathlib.Core.List.{[], ◌∷◌}
 use mathlib.Core.Option.{Option, none, some, none-ne-some, some-injective}
 use lib.Dec.{T, leb, eqb}
 use lib.IntN.{ℤ, pos, negsuc, nat_abs}
-use lib.ListN.{length, get_or, drop, drop_of_length-le}
-use lib.Seq.{drop-cons}
+use lib.ListN.{length, drop}
 use borrow.Author.Tests.{le-leb, lt-leb, leb-true}
-use Rattle.higman.specs.Words.{spelled}
 use Rattle.higman.specs.Bases.{all}
-use Rattle.higman.specs.Text.{Bytes, byte, is_numeral, numeral_value, spelled_out, no_leading_zero, decimal}
+use Rattle.higman.specs.Text.{Bytes, byte, is_numeral, numeral_value, spelled_out, no_leading_zero}
 use Rattle.higman.proofs.Tests.{passes, so, T_of, and_left, and_right, all_head, all_tail}
-use Rattle.desk.specs.Limits.{max_numeral, max_splits_numeral}
-use Rattle.desk.specs.Records.{number_field, signed_field, positive, negative, no_tab}
-use Rattle.desk.proofs.Fields.{word_no_tab}
-use Rattle.desk.proofs.NumberFields.{number_exact}
+use Rattle.desk.specs.Limits.{max_numeral}
+use Rattle.desk.specs.Records.{number_field, signed_field, positive, negative}
 
 module _ (m : ℕ) (f : Bytes) where
   abbrev is_number : Bool
@@ -43,23 +38,12 @@ module _ (m : ℕ) (f : Bytes) where
   pub number_spelled : length f ≤ m → no_leading_zero f ≡ true → all is_numeral f ≡ true → number_field m f ≡ some (spelled_out 0 f)
   number_spelled h z a = rw (a, le-leb (length f) m h, z, number_field)
 
--- a number is its digits, and no digit is a tab
-pub number_no_tab : (m : ℕ) (f : Bytes) (n : ℕ) → number_field m f ≡ some n → no_tab f ≡ true
-number_no_tab m f n e = ap no_tab ((number_exact m).only f n e).own_text ∙ so (no_tab (decimal n)) (word_no_tab (spelled (suc n) n))
-
--- `MAX_NUMERAL` and `MAX_SPLITS_NUMERAL` of the code
+-- `MAX_NUMERAL` of the code
 numeral_limit : max_numeral ≡ 4
 unfolding max_numeral
 numeral_limit = refl
 
-splits_limit : max_splits_numeral ≡ 2
-unfolding max_splits_numeral
-splits_limit = refl
-
 -- a digit's value
-pub numeral_from : (b : ℕ) → is_numeral b ≡ true → 48 ≤ b
-numeral_from b e = leb-true 48 b (so (leb 48 b) (and_left (leb 48 b) (leb b 57) (T_of e)))
-
 pub value_below : (b : ℕ) → is_numeral b ≡ true → numeral_value b < 10
 value_below b e = omega (arith, leb-true b 57 (so (leb b 57) (and_right (leb 48 b) (leb b 57) (T_of e))))
 
@@ -87,9 +71,6 @@ number_below m f n e = by_test (passes (is_number m f))
 pub numeral_below : (f : Bytes) (n : ℕ) → number_field max_numeral f ≡ some n → n < 10_000
 numeral_below f n e = subst (λ m. n < 10 ^ m) numeral_limit (number_below max_numeral f n e)
 
-pub splits_below : (f : Bytes) (n : ℕ) → number_field max_splits_numeral f ≡ some n → n < 100
-splits_below f n e = subst (λ m. n < 10 ^ m) splits_limit (number_below max_splits_numeral f n e)
-
 -- "k an optional minus and one to four digits"
 pub signed_below : (m : ℕ) (f : Bytes) (k : ℤ) → signed_field m f ≡ some k → nat_abs k < 10 ^ m
 signed_below m [] k e = absurd (none-ne-some k e)
@@ -109,45 +90,9 @@ signed_below m (b ∷ f) k e = by_sign (passes (eqb b (byte "-")))
     by_sign (inl t) = with_minus (number_field m f) refl (rw (t, signed_field) at e)
     by_sign (inr t) = without (number_field m (b ∷ f)) refl (rw (t, signed_field) at e)
 
-pub signed_small : (f : Bytes) (k : ℤ) → signed_field max_numeral f ≡ some k → nat_abs k < 10_000
-signed_small f k e = subst (λ m. nat_abs k < 10 ^ m) numeral_limit (signed_below max_numeral f k e)
-
 -- The loop over the digits: n is what the first i of them spell, and the others are still to be looked at.
 pub record Spelling (f : Bytes) (n i : ℕ) : Type 0 where
   pub within : i ≤ length f
   pub numerals_left : all is_numeral f ≡ all is_numeral (drop i f)
   pub value_left : spelled_out 0 f ≡ spelled_out n (drop i f)
   pub small : n < 10 ^ i
-
-module _ (f : Bytes) where
-  pub spelling_begins : Spelling f 0 0
-  spelling_begins = record { within = omega arith; numerals_left = refl; value_left = refl; small = omega arith }
-
-  module _ {n i : ℕ} (s : Spelling f n i) where
-    digits_from : i < length f → drop i f ≡ get_or f i 0 ∷ drop (i + 1) f
-    digits_from h = drop-cons f i 0 h ∙ ap (λ j. get_or f i 0 ∷ drop j f) (sym (add-one i))
-
-    pub spelling_goes_on : i < length f → is_numeral (get_or f i 0) ≡ true → Spelling f (n * 10 + numeral_value (get_or f i 0)) (i + 1)
-    spelling_goes_on h e =
-        record {
-          within = omega arith;
-          numerals_left = s.numerals_left ∙ rw (digits_from h, e, all);
-          value_left = s.value_left ∙ rw (digits_from h, spelled_out);
-          small = omega (arith, s.small, value_below (get_or f i 0) e, ap (λ j. 10 ^ j) (add-one i) ∙ pow-suc 10 i);
-        }
-
-    pub spelling_breaks : i < length f → is_numeral (get_or f i 0) ≡ false → all is_numeral f ≡ false
-    spelling_breaks h e = s.numerals_left ∙ rw (digits_from h, e, all)
-
-    pub spelling_fits : i < 10 → n < 1_000_000_000
-    spelling_fits h =
-        let few : i ≤ 9 = omega arith in
-        let most : 10 ^ i ≤ 10 ^ 9 = pow-le-pow_right (omega arith) few in
-        omega (arith, s.small)
-
-    module _ (h : length f ≤ i) where
-      pub spelling_numerals : all is_numeral f ≡ true
-      spelling_numerals = s.numerals_left ∙ ap (all is_numeral) (drop_of_length-le f h)
-
-      pub spelling_value : spelled_out 0 f ≡ n
-      spelling_value = s.value_left ∙ ap (spelled_out n) (drop_of_length-le f h)
