@@ -1,7 +1,7 @@
 -- The steps of the reduction, from state to state: a listed block is copied; the parts of any other are reduced one after the other
 -- and then joined.
 use Prim.Native.Nat.{ℕ, suc, ◌+◌, ◌-◌, ◌≤◌, ◌<◌}
-use mathlib.Core.Path.{◌≡◌, refl, sym, ◌∙◌, ap}
+use mathlib.Core.Path.{◌≡◌, refl, sym, ◌∙◌, ap, subst}
 use mathlib.Core.List.{List, ◌++◌, append-nil, append_assoc}
 use native.Mathlib.Omega.{arith}
 use lib.ListN.{length, get_or, set, length-append, length-set}
@@ -53,12 +53,12 @@ module _ (s : State) (p : Places s) (n d w : ℕ) (h : 1 ≤ n) where
       }
 
   -- any other is cut into its parts
-  pub divided : (get_or s.from s.read 0 ≡ w → ⊥) → (b : Block n d (unpack w) (ahead s)) → Split n d (unpack w) s h p.paired b (d - 1) (n + 1 - 1)
+  pub divided : (get_or s.from s.read 0 ≡ w → ⊥) → (b : Block n d (unpack w) (ahead s)) → Split n d (unpack w) s h p.paired b (d - 1) n
   divided other b =
-      split_block n d (unpack w) s h p.paired b (λ e. other (unpack_injective (get_or s.from s.read 0) w e)) (d - 1) (n + 1 - 1) refl (omega arith)
+      split_block n d (unpack w) s h p.paired b (λ e. other (unpack_injective (get_or s.from s.read 0) w e)) (d - 1) n refl refl
 
   -- and its reduced parts are joined
-  pub rejoined : (get_or s.from s.read 0 ≡ w → ⊥) → (s₁ s₂ : State) → ReducesParts n (d - 1) (unpack w) 1 (n + 1 - 1) s s₁
+  pub rejoined : (get_or s.from s.read 0 ≡ w → ⊥) → (s₁ s₂ : State) → ReducesParts n (d - 1) (unpack w) 1 n s s₁
       → ((front b : Table) → done s₁ ≡ front ++ prefixed (unpack w) b → length front ≡ s.write → done s₂ ≡ front ++ prefixed (unpack w) (joined n b))
       → ahead s₂ ≡ ahead s₁ → ReducesBlock n d (unpack w) s s₂
   rejoined other s₁ s₂ reduces joins same b =
@@ -67,7 +67,7 @@ module _ (s : State) (p : Places s) (n d w : ℕ) (h : 1 ≤ n) where
       record {
         remains = same ∙ y.remains ∙ x.rest;
         written =
-            joins (done s) (gather (count 1 (n + 1 - 1)) (λ i. normal n (d - 1) (image (x.parts.pairs i)))) y.written (done_length s p)
+            joins (done s) (gather (count 1 n) (λ i. normal n (d - 1) (image (x.parts.pairs i)))) y.written (done_length s p)
             ∙ ap (λ l. done s ++ prefixed (unpack w) l) (sym x.reduced);
       }
 
@@ -112,3 +112,37 @@ module _ (n d : ℕ) (w : Word) (a last : ℕ) where
             ∙ append_assoc (done s) (prefixed u (g a)) (prefixed w (gather (count (a + 1) (last + 1 - (a + 1))) g))
             ∙ ap (λ l. done s ++ l) (sym (part_step h u e (ahead s) b g));
       }
+
+-- The turns of a loop over the parts of w, from the state s₀ on: what is left is the parts from the a-th on, and with them all are reduced.
+pub record Reducing (n d : ℕ) (w : Word) (last a : ℕ) (s₀ s : State) : Type 0 where
+  pub places : Places s
+  pub parts : Parts n d w a (last + 1 - a) (ahead s)
+  pub whole : (s' : State) → ReducesParts n d w a (last + 1 - a) s s' → ReducesParts n d w 1 last s₀ s'
+
+module _ (n d : ℕ) (w : Word) (last : ℕ) (s₀ : State) where
+  pub reducing_start : Places s₀ → Parts n d w 1 last (ahead s₀) → Reducing n d w last 1 s₀ s₀
+  reducing_start p b =
+      let all : last ≡ last + 1 - 1 = omega arith in
+      record {
+        places = p;
+        parts = subst (λ m. Parts n d w 1 m (ahead s₀)) all b;
+        whole = λ s' r. subst (λ m. ReducesParts n d w 1 m s₀ s') (sym all) r;
+      }
+
+  module _ (a : ℕ) (s : State) (x : Reducing n d w last a s₀ s) where
+    -- the block of a turn, and the turn
+    module _ (h : a ≤ last) (u : Word) (e : u ≡ child w a) where
+      abbrev pub reducing_block : Block n d u (ahead s)
+      reducing_block = part n d w a last h u e (ahead s) x.parts
+
+      pub reducing_step : (s₁ : State) → Places s₁ → ReducesBlock n d u s s₁ → Reducing n d w last (a + 1) s₀ s₁
+      reducing_step s₁ p r =
+          record {
+            places = p;
+            parts = behind n d w a last h u e (ahead s) x.parts (ahead s₁) (r reducing_block).remains;
+            whole = λ s' others. x.whole s' (followed n d w a last h u e s s₁ s' r others);
+          }
+
+    -- and the end
+    pub reducing_end : last < a → ReducesParts n d w 1 last s₀ s
+    reducing_end h = x.whole s (passed n d w a last s h)

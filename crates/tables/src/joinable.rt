@@ -16,10 +16,7 @@ fn is_part(x: u64, w: u64, i: u8) -> bool
     requires { 1 ≤ i }
     ensures { result ≡ same_word (unpack x) (child (unpack w) i) }
 {
-    if words::last(x) != i {
-        return false;
-    }
-    words::parent(x) == w
+    words::last(x) == i && words::parent(x) == w
 }
 
 // Whether the pairs from the place at on are the n parts of w with the n parts of v, in the same order.

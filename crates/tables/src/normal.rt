@@ -12,8 +12,5 @@ pub fn is_normal(from: &[u64], to: &[u64], arity: u8) -> bool
     requires { (1 ≤ arity) × (arity ≤ 9) × (length from.now ≡ length to.now) × (overlap (words_of from.now) ≡ false) }
     ensures { result ≡ is_normal arity (table from.now to.now) }
 {
-    if !columns::sorting::is_sorted(from) {
-        return false;
-    }
-    !joinable::has_join(from, to, arity)
+    columns::sorting::is_sorted(from) && !joinable::has_join(from, to, arity)
 }

@@ -2,7 +2,7 @@
 // order. Where no pairs join the table is reduced as it is. Else a recursion over the blocks in digit order, with a cursor into the
 // input: a block is listed, or its parts follow one another. "The joins inside a block come before the join of the block itself"; a
 // joined pair is written over the pairs it joins.
-ghost use Rattle.std.specs.Prelude.{◌≡◌, ◌++◌, ◌+◌, ◌-◌, ◌≤◌, ◌<◌, T, length, drop};
+ghost use Rattle.std.specs.Prelude.{◌≡◌, ◌++◌, ◌+◌, ◌≤◌, ◌<◌, T, length, drop};
 ghost use Rattle.higman.specs.Words.{child};
 ghost use Rattle.higman.specs.Tables.{Table};
 ghost use Rattle.higman.specs.Normal.{joined, keep};
@@ -16,10 +16,10 @@ use crate::joinable;
 use words::Shape;
 
 // The places of the next pair to read and of the next pair to write.
-#[derive(Drop)]
-pub struct Cursor {
-    pub read: usize,
-    pub write: usize,
+#[derive(Clone, Copy)]
+struct Cursor {
+    read: usize,
+    write: usize,
 }
 
 // Joins the pairs from the place start up to end into the one pair of the block w, if they are its parts with the parts of a word
@@ -64,29 +64,24 @@ fn reduce_block(
         (state from.now to.now out_from.old out_to.old at.read at.write)
         (state from.now to.now out_from.new out_to.new result.read result.write) }
 {
-    let read = at.read;
-    let write = at.write;
+    let Cursor { read, write } = at;
     if from[read] == w {
         out_from[write] = w;
         out_to[write] = to[read];
-        let next = read + 1;
-        let end = write + 1;
         return Cursor {
-            read: next,
-            write: end,
+            read: read + 1,
+            write: write + 1,
         };
     }
-    let c = reduce_ways(from, to, out_from, out_to, w, 1, arity, left - 1, arity, at);
-    let next = c.read;
-    let end = c.write;
-    let joined = join(out_from, out_to, write, end, w, arity);
+    let end = reduce_ways(from, to, out_from, out_to, w, arity, left - 1, arity, at);
+    let joined = join(out_from, out_to, write, end.write, w, arity);
     Cursor {
-        read: next,
+        read: end.read,
         write: joined,
     }
 }
 
-// Reduces the parts of w from the i-th to the last, one after the other, each cut into parts at most `left` ways below.
+// Reduces the parts of w from the first to the last, one after the other, each cut into parts at most `left` ways below.
 #[cycle(reduce_block_reduce_ways)]
 fn reduce_ways(
     from: &[u64],
@@ -94,26 +89,33 @@ fn reduce_ways(
     out_from: &mut [u64],
     out_to: &mut [u64],
     w: u64,
-    i: u8,
     last: u8,
     left: u8,
     arity: u8,
     at: Cursor,
 ) -> Cursor
     requires { Places (state from.now to.now out_from.old out_to.old at.read at.write) × (1 ≤ arity) × (arity ≤ 9)
-        × (length (unpack w) + left < max_digits) × (1 ≤ i) × (i ≤ last + 1) × (last ≤ 9)
-        × Parts arity left (unpack w) i (last + 1 - i) (drop at.read (table from.now to.now)) }
+        × (length (unpack w) + left < max_digits) × (last ≤ 9)
+        × Parts arity left (unpack w) 1 last (drop at.read (table from.now to.now)) }
     ensures places { Places (state from.now to.now out_from.new out_to.new result.read result.write) }
-    ensures reduces { ReducesParts arity left (unpack w) i (last + 1 - i)
+    ensures reduces { ReducesParts arity left (unpack w) 1 last
         (state from.now to.now out_from.old out_to.old at.read at.write)
         (state from.now to.now out_from.new out_to.new result.read result.write) }
 {
-    if last < i {
-        return at;
+    let mut next = at;
+    for i in 1..=last {
+        next = reduce_block(
+            from,
+            to,
+            out_from,
+            out_to,
+            words::child(w, i),
+            left,
+            arity,
+            next,
+        );
     }
-    let part = words::child(w, i);
-    let c = reduce_block(from, to, out_from, out_to, part, left, arity, at);
-    reduce_ways(from, to, out_from, out_to, w, i + 1, last, left, arity, c)
+    next
 }
 
 // Writes the pairs of the columns from and to into the lent columns, from their first place on.
@@ -147,17 +149,16 @@ pub fn reduce(
         return from.len();
     }
     let start = Cursor { read: 0, write: 0 };
-    let c = reduce_ways(
+    let end = reduce_ways(
         from,
         to,
         out_from,
         out_to,
         0,
-        1,
         shape.roots,
         words::MAX_WAYS,
         shape.arity,
         start,
     );
-    c.write
+    end.write
 }

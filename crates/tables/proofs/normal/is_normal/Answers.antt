@@ -6,14 +6,14 @@ use Rattle.columns.proofs.WordOrder.{sorted_is_ordered}
 use Rattle.tables.proofs.Joining.{normal_unordered, normal_ordered}
 use Rattle.tables.proofs.normal.is_normal.Goals as goal
 
-pub returns-then-not-is_sorted : goal.returns-then-not-is_sorted
-returns-then-not-is_sorted c =
+pub returns-else-is_sorted : goal.returns-else-is_sorted
+returns-else-is_sorted c =
     let a = c.args in
     let order = sym (c.is_sorted.ensures ∙ sorted_is_ordered (words_of a.from.now) c.requires.3) in
-    sym (normal_unordered a.arity a.from.now a.to.now c.requires.2 (order ∙ c.if-not-is_sorted.true))
+    c.if-is_sorted.false ∙ sym (normal_unordered a.arity a.from.now a.to.now c.requires.2 (order ∙ c.if-is_sorted.false))
 
-pub returns : goal.returns
-returns c =
+pub returns-then-is_sorted : goal.returns-then-is_sorted
+returns-then-is_sorted c =
     let a = c.args in
     let order = sym (c.is_sorted.ensures ∙ sorted_is_ordered (words_of a.from.now) c.requires.3) in
-    ap not c.has_join.ensures ∙ sym (normal_ordered a.arity a.from.now a.to.now c.requires.2 (order ∙ c.if-not-is_sorted.false))
+    ap not c.has_join.ensures ∙ sym (normal_ordered a.arity a.from.now a.to.now c.requires.2 (order ∙ c.if-is_sorted.true))

@@ -1,13 +1,14 @@
 -- The proof of the cycle of `reduce_block` and `reduce_ways`: a listed block is copied, and any other is cut into its parts, which are
 -- reduced one after the other and joined.
+use Prim.Native.Nat.{◌+◌}
 use mathlib.Core.Path.{refl, ap}
 use native.Mathlib.Omega.{arith}
 use lib.ListN.{length}
 use Rattle.words.specs.Packed.{unpack}
 use Rattle.words.proofs.Sizes.{length_child}
-use Rattle.tables.specs.Reduction.{state, ahead}
+use Rattle.tables.specs.Reduction.{state}
 use Rattle.tables.proofs.Cuts.{block_place}
-use Rattle.tables.proofs.Steps.{write_grows, copy_places, join_places, copied, divided, rejoined, passed, part, behind, followed}
+use Rattle.tables.proofs.Steps.{write_grows, copy_places, join_places, copied, divided, rejoined, reducing_start, reducing_block, reducing_step, reducing_end}
 use Rattle.tables.proofs.reduce.+reduce_block_reduce_ways.Goals as goal
 
 pub reduce_block-bounds-from-read : goal.reduce_block-bounds-from-read
@@ -56,13 +57,13 @@ reduce_block-overflow_sub-left t c =
     let d = divided s p.0 a.arity a.left a.w p.1 c.if-from-read.false p.4 in
     omega (arith, d.deeper)
 
-pub reduce_block-reduce_ways-c-requires : goal.reduce_block-reduce_ways-c-requires
-reduce_block-reduce_ways-c-requires t c =
+pub reduce_block-reduce_ways-end-requires : goal.reduce_block-reduce_ways-end-requires
+reduce_block-reduce_ways-end-requires t c =
     let a = c.args in
     let p = c.requires in
     let s = state a.from.now a.to.now a.out_from.now a.out_to.now a.at.read a.at.write in
     let d = divided s p.0 a.arity a.left a.w p.1 c.if-from-read.false p.4 in
-    (omega (arith, d.deeper, c.decreases, p.2), (p.0, p.1, p.2, omega (arith, d.deeper, p.3), omega arith, omega arith, p.2, d.parts))
+    (omega (arith, d.deeper, c.decreases, p.2), (p.0, p.1, p.2, omega (arith, d.deeper, p.3), p.2, d.parts))
 
 pub reduce_block-join-joined-requires : goal.reduce_block-join-joined-requires
 reduce_block-join-joined-requires t c =
@@ -70,7 +71,7 @@ reduce_block-join-joined-requires t c =
     let p = c.requires in
     let s = state a.from.now a.to.now a.out_from.now a.out_to.now a.at.read a.at.write in
     let d = divided s p.0 a.arity a.left a.w p.1 c.if-from-read.false p.4 in
-    let r = c.reduce_ways-c in
+    let r = c.reduce_ways-end in
     let q = r.ensures.places in
     let w = state a.from.now a.to.now r.new.out_from r.new.out_to r.result.read r.result.write in
     let g = write_grows s w _ _ p.0 q (r.ensures.reduces d.parts) in
@@ -81,7 +82,7 @@ reduce_block-returns t c =
     let a = c.args in
     let p = c.requires in
     let s = state a.from.now a.to.now a.out_from.now a.out_to.now a.at.read a.at.write in
-    let r = c.reduce_ways-c in
+    let r = c.reduce_ways-end in
     let w = state a.from.now a.to.now r.new.out_from r.new.out_to r.result.read r.result.write in
     let n = c.join-joined in
     record {
@@ -91,55 +92,40 @@ reduce_block-returns t c =
           w (state a.from.now a.to.now n.new.from n.new.to r.result.read n.result) r.ensures.reduces n.ensures.joins refl;
     }
 
-pub reduce_ways-returns-then-last-i : goal.reduce_ways-returns-then-last-i
-reduce_ways-returns-then-last-i t c =
-    let a = c.args in
-    let s = state a.from.now a.to.now a.out_from.now a.out_to.now a.at.read a.at.write in
-    record { places = c.requires.0; reduces = passed a.arity a.left (unpack a.w) a.i a.last s c.if-last-i.true }
-
-pub reduce_ways-reduce_block-c-requires : goal.reduce_ways-reduce_block-c-requires
-reduce_ways-reduce_block-c-requires t c =
+pub reduce_ways-loop-i-init : goal.reduce_ways-loop-i-init
+reduce_ways-loop-i-init t c =
     let a = c.args in
     let p = c.requires in
-    let s = state a.from.now a.to.now a.out_from.now a.out_to.now a.at.read a.at.write in
-    let k = c.child-part in
-    let first = part a.arity a.left (unpack a.w) a.i a.last c.if-last-i.false (unpack k.result) k.ensures (ahead s) p.7 in
-    (omega arith, (p.0, p.1, p.2, omega (arith, p.3, ap length k.ensures, length_child (unpack a.w) a.i), first))
+    reducing_start a.arity a.left (unpack a.w) a.last (state a.from.now a.to.now a.out_from.now a.out_to.now a.at.read a.at.write) p.0 p.5
 
-pub reduce_ways-reduce_ways-requires : goal.reduce_ways-reduce_ways-requires
-reduce_ways-reduce_ways-requires t c =
+pub reduce_ways-reduce_block-next-requires : goal.reduce_ways-reduce_block-next-requires
+reduce_ways-reduce_block-next-requires t c =
     let a = c.args in
     let p = c.requires in
-    let s = state a.from.now a.to.now a.out_from.now a.out_to.now a.at.read a.at.write in
-    let k = c.child-part in
-    let h = c.if-last-i.false in
-    let first = part a.arity a.left (unpack a.w) a.i a.last h (unpack k.result) k.ensures (ahead s) p.7 in
-    let b = c.reduce_block-c in (
-      omega (arith, h),
-      (
-        b.ensures.places,
-        p.1,
-        p.2,
-        p.3,
-        omega arith,
-        omega (arith, h),
-        p.6,
-        behind a.arity a.left (unpack a.w) a.i a.last h (unpack k.result) k.ensures (ahead s) p.7 _ (b.ensures.reduces first).remains,
-      ),
-    )
+    let l = c.loop-i in
+    let k = c.child in
+    let block = reducing_block a.arity a.left (unpack a.w) a.last _ l.i _ l.invariant c.loop-i-test.true (unpack k.result) k.ensures in
+    (omega arith, (l.invariant.places, p.1, p.2, omega (arith, p.3, ap length k.ensures, length_child (unpack a.w) l.i), block))
+
+pub reduce_ways-loop-i-preserved : goal.reduce_ways-loop-i-preserved
+reduce_ways-loop-i-preserved t c =
+    let a = c.args in
+    let l = c.loop-i in
+    let k = c.child in
+    reducing_step a.arity a.left (unpack a.w) a.last _ l.i _ l.invariant c.loop-i-test.true (unpack k.result) k.ensures _ c.reduce_block-next.ensures.places
+    c.reduce_block-next.ensures.reduces
 
 pub reduce_ways-returns : goal.reduce_ways-returns
 reduce_ways-returns t c =
     let a = c.args in
-    let s = state a.from.now a.to.now a.out_from.now a.out_to.now a.at.read a.at.write in
-    let k = c.child-part in
-    let b = c.reduce_block-c in
-    let w = c.reduce_ways in
-    record {
-      places = w.ensures.places;
-      reduces =
-          followed a.arity a.left (unpack a.w) a.i a.last c.if-last-i.false (unpack k.result) k.ensures s
-          (state a.from.now a.to.now b.new.out_from b.new.out_to b.result.read b.result.write)
-          (state a.from.now a.to.now w.new.out_from w.new.out_to w.result.read w.result.write)
-          b.ensures.reduces w.ensures.reduces;
-    }
+    let l = c.loop-i in
+    record { places = l.invariant.places; reduces = reducing_end a.arity a.left (unpack a.w) a.last _ l.i _ l.invariant c.loop-i-test.false }
+
+pub reduce_ways-returns-2 : goal.reduce_ways-returns-2
+reduce_ways-returns-2 t c =
+    let a = c.args in
+    let l = c.loop-i in
+    let k = c.child in
+    let b = c.reduce_block-next.ensures in
+    let x = reducing_step a.arity a.left (unpack a.w) a.last _ l.i _ l.invariant c.loop-i-test.true (unpack k.result) k.ensures _ b.places b.reduces in
+    record { places = b.places; reduces = reducing_end a.arity a.left (unpack a.w) a.last _ (l.i + 1) _ x (omega arith) }

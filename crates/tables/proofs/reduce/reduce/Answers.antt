@@ -1,7 +1,7 @@
 -- `tables::reduce::reduce` meets its contract. A table without a join is kept as it is; else the parts of the empty word are the blocks of
 -- the roots, and a word that 64 bits hold has at most MAX_WAYS ways.
-use Prim.Native.Nat.{ℕ, suc, ◌+◌, ◌-◌, ◌^◌, ◌≤◌, ◌<◌}
-use mathlib.Core.Path.{◌≡◌, sym, ◌∙◌, ap}
+use Prim.Native.Nat.{ℕ, suc, ◌^◌, ◌≤◌, ◌<◌}
+use mathlib.Core.Path.{◌≡◌, refl, sym, ◌∙◌, ap}
 use mathlib.Core.List.{List}
 use native.Mathlib.Omega.{arith}
 use lib.Dec.{T}
@@ -27,15 +27,12 @@ module _ (s : Shape) (from to : List ℕ) (fit : (i : ℕ) → get_or from i 0 <
   unfolding max_digits
   deep = longest_fits from to fit
 
-  all : s.roots + 1 - 1 ≡ s.roots
-  all = omega arith
+  blocks : Parts s.arity 15 (unpack 0) 1 s.roots (table from to)
+  blocks = root_parts s (table from to) (arity_of_range s range) r 15 deep (unpack 0) s.roots unpack_zero refl
 
-  blocks : Parts s.arity 15 (unpack 0) 1 (s.roots + 1 - 1) (table from to)
-  blocks = root_parts s (table from to) (arity_of_range s range) r 15 deep (unpack 0) (s.roots + 1 - 1) unpack_zero all
-
-  kept : prefixed (unpack 0) (gather (count 1 (s.roots + 1 - 1)) (λ i. normal s.arity 15 (image (blocks.pairs i)))) ≡ keep s (table from to)
+  kept : prefixed (unpack 0) (gather (count 1 s.roots) (λ i. normal s.arity 15 (image (blocks.pairs i)))) ≡ keep s (table from to)
   unfolding blocks
-  kept = keep_of_roots s (table from to) (arity_of_range s range) r 15 deep (unpack 0) (s.roots + 1 - 1) unpack_zero all
+  kept = keep_of_roots s (table from to) (arity_of_range s range) r 15 deep (unpack 0) s.roots unpack_zero refl
 
 pub has_join-requires : goal.has_join-requires
 has_join-requires c =
@@ -49,9 +46,9 @@ returns-then-not-has_join-clause-keeps c =
     let none = sym c.has_join.ensures ∙ c.if-not-has_join.true in
     c.copy_pairs.ensures ∙ sym (kept_without_join s (table a.from.now a.to.now) (arity_of_range s c.requires.3) c.requires.4 none)
 
-pub reduce_ways-c-requires : goal.reduce_ways-c-requires
+pub reduce_ways-end-requires : goal.reduce_ways-end-requires
 unfolding max_digits
-reduce_ways-c-requires c =
+reduce_ways-end-requires c =
     let a = c.args in
     let s = shape_of a.shape in
     let r = in_range s c.requires.3 in (
@@ -59,8 +56,6 @@ reduce_ways-c-requires c =
       omega (arith, r.arity_low),
       r.arity_high,
       omega (arith, ap length unpack_zero),
-      omega arith,
-      omega arith,
       r.roots_high,
       blocks s a.from.now a.to.now (λ i. omega (arith, c.type_inv.from i)) c.requires.3 c.requires.4,
     )
@@ -69,5 +64,5 @@ pub returns-clause-keeps : goal.returns-clause-keeps
 returns-clause-keeps c =
     let a = c.args in
     let s = shape_of a.shape in
-    (c.reduce_ways-c.ensures.reduces (blocks s a.from.now a.to.now (λ i. omega (arith, c.type_inv.from i)) c.requires.3 c.requires.4)).written
+    (c.reduce_ways-end.ensures.reduces (blocks s a.from.now a.to.now (λ i. omega (arith, c.type_inv.from i)) c.requires.3 c.requires.4)).written
     ∙ kept s a.from.now a.to.now (λ i. omega (arith, c.type_inv.from i)) c.requires.3 c.requires.4
