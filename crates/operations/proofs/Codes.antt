@@ -12,26 +12,27 @@ use Rattle.higman.specs.Words.{Shape, Word, is_word}
 use Rattle.higman.specs.Tables.{image}
 use Rattle.higman.specs.Places.{place_of}
 use Rattle.higman.specs.Limits.{shape_in_range, is_code, max_code}
-use Rattle.higman.specs.Refusals.{bad_word, buffer_too_short}
 use Rattle.higman.specs.Answers as Of
 use Rattle.higman.specs.Answers.{routed}
 use Rattle.higman.specs.Text.{word_bytes, digit_of, word_of}
 use Rattle.higman.proofs.Tests.{T_of, and_left, word_of_test, test_of_ways}
 use Rattle.higman.proofs.KeptPlans.{in_range}
 use Rattle.higman.proofs.PlanWords.{ways_of_word}
-use Rattle.words.specs.Bytes.{shape}
 use Rattle.columns.specs.Packed.{words_of, table}
 use Rattle.columns.proofs.Rearranged.{froms_table}
-use Rattle.tables.specs.Lines.{plan_of_columns}
 use Rattle.tables.specs.Routing.{IsCode, Searchable, matched_digits, further, routed_in, routed_into}
-use Rattle.tables.specs.declared.routing.Routed.{Routed}
-use Rattle.tables.specs.declared.routing.Routed.TheVariants as Table
+use Rattle.tables.specs.declared.routing.Image.{Image}
+use Rattle.tables.specs.declared.routing.RouteError.{RouteError}
+use Rattle.tables.specs.declared.routing.RouteError.TheVariants.{NoRoom}
 use Rattle.tables.proofs.Routes.{here}
-use Rattle.operations.specs.declared.Route.{Route}
-use Rattle.operations.specs.declared.Route.TheVariants.{Image, TooShort, Refused}
-use Rattle.operations.specs.Plans.{LentPlan}
-use Rattle.operations.specs.Routing.{matched_in, matched_place_in, routing_in, routing_by, image_into}
-use Rattle.operations.proofs.KeptValues.{lent_operand}
+use Rattle.std.specs.Prelude.{Result, Ok, Err}
+use Rattle.std.specs.Result.{result_map_both}
+use Rattle.operations.specs.declared.refusals.Refusal.{Refusal}
+use Rattle.operations.specs.declared.refusals.Refusal.TheVariants.{BadWord, BufferTooShort}
+use Rattle.operations.specs.declared.lent.Lent.{Lent}
+use Rattle.operations.specs.Plans.{lent_plan}
+use Rattle.operations.specs.Routing.{matched_in, matched_place_in, unrouted, routing_in, routing_by, image_into}
+use Rattle.operations.proofs.KeptValues.{lent_kept, lent_operand}
 
 pub code_limit : max_code ≡ 1024
 unfolding max_code
@@ -60,10 +61,8 @@ module _ (s : Shape) (code : List ℕ) where
       test_of_ways 9 w (ways_of_word s w range.arity_high range.roots_high (word_of_test s w (and_left (is_word s w) (leb (length w) max_code) (T_of h))))
 
 -- the reply to what was found in the columns
-abbrev pub replied : Routed → Route
-replied (Table.Image n k) = Image n k
-replied Table.TooShort = TooShort
-replied Table.NoRoom = Refused buffer_too_short
+abbrev pub replied : Result Image RouteError → Result Image Refusal
+replied r = result_map_both (λ i. i) unrouted r
 
 abbrev found : Option Word → Of.Route
 found o = elim o [ some v ↦ Of.Image v | none ↦ Of.TooShort ]
@@ -72,8 +71,8 @@ replied_is : (k : ℕ) (o : Option Word) (room : ℕ) → replied (routed_in k o
 replied_is k none room = refl
 replied_is k (some v) room = by_room (leb (length (word_bytes v)) room)
   where
-    by_room : (b : Bool) → replied (elim b [ true ↦ Table.Image (length (word_bytes v)) k | false ↦ Table.NoRoom ])
-        ≡ elim b [ true ↦ Image (length (word_bytes v)) k | false ↦ Refused buffer_too_short ]
+    by_room : (b : Bool) → replied (elim b [ true ↦ Ok (record { length = length (word_bytes v); place = k }) | false ↦ Err NoRoom ])
+        ≡ elim b [ true ↦ Ok (record { length = length (word_bytes v); place = k }) | false ↦ Err BufferTooShort ]
     by_room true = refl
     by_room false = refl
 
@@ -92,38 +91,47 @@ module _ (s : Shape) (from : List Word) (code : List ℕ) where
   pub matched_code : is_code s (word_of code) ≡ true → matched_digits from (word_of code) ≡ matched_in s from code
   matched_code k = sym (rw (k, matched_in))
 
-  pub place_no_code : is_code s (word_of code) ≡ false → 0 ≡ matched_place_in s from code
-  place_no_code k = sym (rw (k, matched_place_in))
+  pub place_no_code : is_code s (word_of code) ≡ false → matched_place_in s from code ≡ 0
+  place_no_code k = rw (k, matched_place_in)
 
   pub place_code : is_code s (word_of code) ≡ true → place_of from (word_of code) ≡ matched_place_in s from code
   place_code k = sym (rw (k, matched_place_in))
 
-module _ (arity roots : ℕ) (from to : List ℕ) (lent : LentPlan arity roots from to) (code : List ℕ) where
+module _ (lent : Lent) (code : List ℕ) where
   abbrev answer : Of.Route
-  answer = routed (plan_of_columns arity roots from to) (word_of code)
+  answer = routed (lent_plan lent) (word_of code)
+
+  abbrev s : Shape
+  s = (lent_plan lent).shape
+
+  abbrev from : List ℕ
+  from = lent.from.now
+
+  abbrev to : List ℕ
+  to = lent.to.now
 
   pub searchable : Searchable from
   searchable =
-      let o = lent_operand arity roots from to lent in
+      let o = lent_operand lent in
       record { packed = o.plain.from_packed; in_order = o.in_order; apart = o.apart }
 
-  abbrev reply : ℕ → Route
-  reply room = routing_by (plan_of_columns arity roots from to) (word_of code) room
+  abbrev reply : ℕ → Result Image Refusal
+  reply room = routing_by (lent_plan lent) (word_of code) room
 
-  pub route_no_code : (out : List ℕ) → is_code (shape arity roots) (word_of code) ≡ false
-      → (Refused bad_word ≡ reply (length out)) × (out ≡ image_into answer out)
+  pub route_no_code : (out : List ℕ) → is_code s (word_of code) ≡ false
+      → (Err BadWord ≡ reply (length out)) × (out ≡ image_into answer out)
   unfolding routed
   route_no_code out k = (sym (rw (k, routed)), sym (rw (k, routed)))
 
-  module _ (k : is_code (shape arity roots) (word_of code) ≡ true) where
+  module _ (k : is_code s (word_of code) ≡ true) where
     pub code_digits : IsCode code
-    code_digits = digits_of_code (shape arity roots) code lent.kept.in_range k
+    code_digits = digits_of_code s code (lent_kept lent).in_range k
 
     routed_is : answer ≡ found (image (table from to) (word_of code))
     unfolding routed
     routed_is = rw (k, routed)
 
-    pub route_found : (out : List ℕ) (r : Routed) (out' : List ℕ)
+    pub route_found : (out : List ℕ) (r : Result Image RouteError) (out' : List ℕ)
         → r ≡ routed_in (place_of (words_of from) (word_of code)) (image (table from to) (word_of code)) (length out)
         → out' ≡ routed_into (image (table from to) (word_of code)) out
         → (replied r ≡ reply (length out)) × (out' ≡ image_into answer out)

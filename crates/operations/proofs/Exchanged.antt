@@ -11,10 +11,11 @@ use Rattle.higman.specs.Answers.{inverted}
 use Rattle.higman.proofs.Elements.{element_swapped}
 use Rattle.higman.proofs.KeptPlans.{arity_of_range, element_of_bases, bases_of_element}
 use Rattle.words.specs.Packed.{unpack}
-use Rattle.columns.specs.Packed.{table, rows}
+use Rattle.columns.specs.Packed.{table}
 use Rattle.operations.specs.declared.Plan.{Plan}
 use Rattle.operations.specs.Plans.{shape_of, rows_of, plan_of, is_plan, packed}
-use Rattle.operations.specs.Answers.{granting, making}
+use Rattle.std.specs.Prelude.{Ok}
+use Rattle.operations.specs.Answers.{making}
 use Rattle.operations.proofs.KeptValues.{kept}
 
 -- the table of two columns exchanged
@@ -24,12 +25,15 @@ table_swapped [] (y ∷ t) = refl
 table_swapped (x ∷ f) [] = refl
 table_swapped (x ∷ f) (y ∷ t) = ap (λ l. record { from = unpack y; to = unpack x } ∷ l) (table_swapped f t)
 
--- the columns of a plan, exchanged
+-- a plan with its columns exchanged
+abbrev pub turned : Plan → Plan
+turned a = record { arity = a.arity; roots = a.roots; pairs = a.pairs; from = a.to; to = a.from }
+
 module _ (a : Plan) where
-  exchanged : rows a.pairs a.to a.from ≡ swapped (rows_of a)
+  exchanged : rows_of (turned a) ≡ swapped (rows_of a)
   exchanged = table_swapped (take a.pairs a.from) (take a.pairs a.to)
 
-  pub exchanged_bases : is_plan a ≡ true → Bases (shape_of a) (rows a.pairs a.to a.from)
+  pub exchanged_bases : is_plan a ≡ true → Bases (shape_of a) (rows_of (turned a))
   exchanged_bases e =
       let s = shape_of a in
       let K = kept a e in
@@ -37,7 +41,7 @@ module _ (a : Plan) where
       let E = element_of_bases s (rows_of a) n K.bases in
       subst (Bases s) (sym exchanged) (bases_of_element s (swapped (rows_of a)) n (element_swapped s (rows_of a) E))
 
-  pub inverse_kept : (q : Plan) → q ≡ packed (record { shape = shape_of a; rows = keep (shape_of a) (rows a.pairs a.to a.from) })
-      → granting q ≡ making (inverted (plan_of a))
+  pub inverse_kept : (q : Plan) → q ≡ packed (record { shape = shape_of a; rows = keep (shape_of a) (rows_of (turned a)) })
+      → Ok q ≡ making (inverted (plan_of a))
   unfolding inverted inverse
-  inverse_kept q h = ap granting (h ∙ ap (λ u. packed (record { shape = shape_of a; rows = keep (shape_of a) u })) exchanged)
+  inverse_kept q h = ap Ok (h ∙ ap (λ u. packed (record { shape = shape_of a; rows = keep (shape_of a) u })) exchanged)

@@ -1,12 +1,11 @@
 -- Plans made of the first pairs of two columns: how a column is filled place by place, and that such a plan is the packed plan of the
 -- words that its numbers hold.
-use Prim.Native.Nat.{ℕ, suc, ◌+◌, ◌-◌, ◌≤◌, ◌<◌}
-use mathlib.Core.Path.{◌≡◌, refl, sym, ◌∙◌, ap, ap₂}
+use Prim.Native.Nat.{ℕ, ◌-◌, ◌≤◌}
+use mathlib.Core.Path.{◌≡◌, sym, ◌∙◌, ap, ap₂}
 use mathlib.Core.List.{List, ◌++◌}
-use native.Mathlib.Numerals.{add-one}
-use native.Mathlib.Omega.{arith}
-use lib.ListN.{length, get_or, take, set, replicate, length-map}
-use lib.Seq.{length-take-le, take-suc, set_at, append_snoc}
+use lib.ListN.{length, take, drop, replicate, length-map}
+use Rattle.std.proofs.lemmas.List.{drop-replicate}
+use lib.Seq.{length-take-le}
 use Rattle.higman.specs.Limits.{max_pairs}
 use Rattle.words.specs.Packed.{unpack}
 use Rattle.words.specs.Bytes.{shape}
@@ -17,20 +16,9 @@ use Rattle.operations.specs.Plans.{column, packed}
 use Rattle.operations.specs.Filled.{filling, filled_plan}
 use Rattle.operations.proofs.Values.{packed_words_lem}
 
-pub filling_start : (l : List ℕ) → replicate 128 0 ≡ filling 0 l
+pub filling_is : (n : ℕ) (l : List ℕ) → n ≤ max_pairs → n ≤ length l → take n l ++ drop n (replicate 128 0) ≡ filling n l
 unfolding max_pairs
-filling_start l = refl
-
-pub filling_suc : (l : List ℕ) (i : ℕ) → i < max_pairs → i < length l → set (filling i l) i (get_or l i 0) ≡ filling (i + 1) l
-unfolding max_pairs
-filling_suc l i h k =
-    let one : 128 - i ≡ suc (127 - i) = omega arith in
-    let less : 127 - i ≡ 128 - suc i = omega arith in
-    ap (λ m. set (take i l ++ replicate m 0) i (get_or l i 0)) one
-    ∙ set_at (take i l) 0 (replicate (127 - i) 0) (get_or l i 0) i (length-take-le i l (omega arith))
-    ∙ sym (append_snoc (take i l) (get_or l i 0) (replicate (127 - i) 0))
-    ∙ ap₂ (λ f m. f ++ replicate m 0) (sym (take-suc l i 0 k)) less
-    ∙ ap (λ j. filling j l) (sym (add-one i))
+filling_is n l h k = ap (λ r. take n l ++ r) (drop-replicate n 128 0)
 
 -- a column of the words that n numbers hold
 column_of : (l : List ℕ) (n : ℕ) → length l ≡ n → column (words_of l) ≡ l ++ replicate (max_pairs - n) 0

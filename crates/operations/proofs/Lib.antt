@@ -1,4 +1,5 @@
 -- The laws of what is done with plans, each file after those it leans on; the proofs of the functions cite them, and so may other crates.
+pub mod Exits
 pub mod Sizes
 pub mod Unordered
 pub mod Verdicts

@@ -1,33 +1,28 @@
 -- What a power is answered with, case by case: 12, and then the repetition of the plan or, below zero, of its inverse.
-use Prim.Native.Nat.{suc, ◌≤◌, ◌<◌}
+use Prim.Native.Nat.{suc}
 use mathlib.Core.Path.{◌≡◌, refl, sym, ◌∙◌, ap}
 use mathlib.Core.Bool.{true, false}
 use mathlib.Core.Option.{Option, none, some}
-use borrow.Author.Tests.{le-leb, lt-leb}
 use native.Mathlib.Omega.{arith}
-use lib.Dec.{T, leb, ltb→lt}
+use lib.Dec.{ltb→lt}
 use lib.IntN.{ℤ, pos, negsuc, nat_abs}
-use lib.Signed.{non_neg, ◌<ℤ◌}
+use lib.Signed.{◌<ℤ◌, ◌≤ℤ◌}
 use Rattle.higman.specs.Words.{Shape}
 use Rattle.higman.specs.Tables.{Table}
 use Rattle.higman.specs.Normal.{inverse}
-use Rattle.higman.specs.Limits.{Kept, max_power, Plan as PlanOf}
-use Rattle.higman.specs.Refusals.{power_outside}
+use Rattle.higman.specs.Limits.{Kept, power_in_range, Plan as PlanOf}
 use Rattle.higman.specs.Answers as Of
 use Rattle.higman.specs.Answers.{raised, powered, inverted, repeatable}
 use Rattle.higman.proofs.Group.{inverse_member}
 use Rattle.higman.proofs.KeptPlans.{arity_of_range, member_of_kept, kept_of_member}
 use Rattle.higman.proofs.Demand3.{inverse_granted}
 use Rattle.operations.specs.declared.Plan.{Plan}
-use Rattle.operations.specs.declared.Making.{Making}
+use Rattle.std.specs.Prelude.{Ok, Err}
+use Rattle.operations.specs.declared.refusals.Refusal.TheVariants.{PowerOutside}
 use Rattle.operations.specs.Plans.{shape_of, rows_of, plan_of, is_plan, packed}
-use Rattle.operations.specs.Answers.{making, refusing, repeated, repeating}
+use Rattle.operations.specs.Answers.{making, repeated, repeating}
 use Rattle.operations.proofs.KeptValues.{kept}
 use Rattle.operations.proofs.Repacked.{holds, packed_is_plan}
-
-pub power_limit : max_power ≡ 1000
-unfolding max_power
-power_limit = refl
 
 abbrev answer_of : Shape → Option Table → Of.Answer
 answer_of s o = elim o [ some t ↦ Of.Granted (record { shape = s; rows = t }) | none ↦ Of.Refused Of.LimitBroken ]
@@ -36,28 +31,28 @@ repeated_is : (o : Option Table) (s : Shape) → repeated o s ≡ making (answer
 repeated_is none s = refl
 repeated_is (some t) s = refl
 
-outside : (a : PlanOf) (k : ℤ) → leb (nat_abs k) max_power ≡ false → powered a k ≡ Of.Refused Of.PowerOutside
+outside : (a : PlanOf) (k : ℤ) → power_in_range k ≡ false → powered a k ≡ Of.Refused Of.PowerOutside
 unfolding powered
 outside a k h = rw (h, powered)
 
-within : (a : PlanOf) (k : ℤ) → leb (nat_abs k) max_power ≡ true
+within : (a : PlanOf) (k : ℤ) → power_in_range k ≡ true
     → powered a k ≡ answer_of a.shape (raised a.shape (repeatable a k) (nat_abs k))
 unfolding powered
 within a k h = rw (h, powered)
 
 module _ (a : Plan) where
-  pub power_outside_lem : (k : ℤ) → max_power < nat_abs k → refusing power_outside ≡ making (powered (plan_of a) k)
-  power_outside_lem k l = sym (ap making (outside (plan_of a) k (lt-leb (nat_abs k) max_power l)))
+  pub outside_answered : (k : ℤ) → power_in_range k ≡ false → Err PowerOutside ≡ making (powered (plan_of a) k)
+  outside_answered k h = sym (ap making (outside (plan_of a) k h))
 
-  pub power_within : (k : ℤ) → nat_abs k ≤ max_power
+  pub power_within : (k : ℤ) → power_in_range k ≡ true
       → making (powered (plan_of a) k) ≡ repeated (raised (shape_of a) (repeatable (plan_of a) k) (nat_abs k)) (shape_of a)
   power_within k l =
-      ap making (within (plan_of a) k (le-leb (nat_abs k) max_power l))
+      ap making (within (plan_of a) k l)
       ∙ sym (repeated_is (raised (shape_of a) (repeatable (plan_of a) k) (nat_abs k)) (shape_of a))
 
-  pub power_forward : (k : ℤ) → T (non_neg k) → nat_abs k ≤ max_power → repeating (plan_of a) (nat_abs k) ≡ making (powered (plan_of a) k)
+  pub power_forward : (k : ℤ) → pos 0 ≤ℤ k → power_in_range k ≡ true → repeating (plan_of a) (nat_abs k) ≡ making (powered (plan_of a) k)
   power_forward (pos n) t l = sym (power_within (pos n) l)
-  power_forward (negsuc n) t l = absurd t
+  power_forward (negsuc n) t l = absurd t.le
 
   module _ (h : is_plan a ≡ true) where
     abbrev back : PlanOf
@@ -71,16 +66,15 @@ module _ (a : Plan) where
         kept_of_member back K.in_range (inverse_granted (shape_of a) n (rows_of a) E K.within)
         (inverse_member (shape_of a) n (rows_of a) E)
 
-    module _ (m : Making) (e : m ≡ making (inverted (plan_of a))) where
-      held : m.plan ≡ packed back
+    module _ (m : Plan) (e : Ok m ≡ making (inverted (plan_of a))) where
+      held : m ≡ packed back
       unfolding inverted
-      held = ap (λ x. x.plan) e
+      held = cc
 
-      pub inverse_plan : is_plan m.plan ≡ true
+      pub inverse_plan : is_plan m ≡ true
       inverse_plan = ap is_plan held ∙ packed_is_plan back back_kept
 
-      pub power_back : (k : ℤ) → k <ℤ pos 0 → nat_abs k ≤ max_power
-          → repeating (plan_of m.plan) (nat_abs k) ≡ making (powered (plan_of a) k)
+      pub power_back : (k : ℤ) → k <ℤ pos 0 → power_in_range k ≡ true → repeating (plan_of m) (nat_abs k) ≡ making (powered (plan_of a) k)
       power_back (pos n) t l = absurd (omega (arith, ltb→lt n 0 t.lt))
       power_back (negsuc n) t l =
           ap (λ q. repeating q (suc n)) (ap plan_of held ∙ holds back back_kept) ∙ sym (power_within (negsuc n) l)

@@ -13,7 +13,6 @@ use Rattle.higman.specs.Words.{Shape}
 use Rattle.higman.specs.Tables.{Table}
 use Rattle.higman.specs.Normal.{compose, identity}
 use Rattle.higman.specs.Limits.{Kept, granted, Plan as PlanOf}
-use Rattle.higman.specs.Refusals.{limit_broken}
 use Rattle.higman.specs.Answers as Of
 use Rattle.higman.specs.Answers.{Answer as HigmanAnswer, grant, followed, raised, identity_plan}
 use Rattle.higman.proofs.Tests.{passes, T_of}
@@ -22,9 +21,8 @@ use Rattle.higman.proofs.KeptPlans.{arity_of_range, member_of_kept, kept_of_memb
 use Rattle.higman.proofs.Demand3.{identity_granted}
 use Rattle.higman.proofs.Answers.{followed_is}
 use Rattle.operations.specs.declared.Plan.{Plan}
-use Rattle.operations.specs.declared.Making.{Making}
-use Rattle.operations.specs.declared.Answer.{Answer}
-use Rattle.operations.specs.declared.Answer.TheVariants.{Granted, Refused}
+use Rattle.std.specs.Prelude.{Result, Ok, Err}
+use Rattle.operations.specs.declared.refusals.Refusal.{Refusal}
 use Rattle.operations.specs.Plans.{shape_of, rows_of, plan_of, is_plan, packed}
 use Rattle.operations.specs.Answers.{making, composing, repeated, repeating}
 use Rattle.operations.proofs.KeptValues.{kept}
@@ -47,13 +45,6 @@ raised_stays s a k (suc n) l e = go (passes (leb k n)) (λ m. raised_stays s a k
     go : (leb k n ≡ true) ⊎ (leb k n ≡ false) → (k ≤ n → raised s a n ≡ none) → raised s a (suc n) ≡ none
     go (inl x) rest = later (rest (leb-true k n x))
     go (inr x) rest = let q : k ≡ suc n = omega (arith, leb-false k n x) in subst (λ j. raised s a j ≡ none) q e
-
-abbrev IsGranted : Answer → Type 0
-IsGranted Granted = Unit {0}
-IsGranted (Refused n) = ⊥
-
-pub not_refused : (n : ℕ) → Granted ≡ Refused n → ⊥
-not_refused n e = subst IsGranted e tt
 
 module _ (a : Plan) (h : is_plan a ≡ true) where
   abbrev s : Shape
@@ -97,35 +88,35 @@ module _ (a : Plan) (h : is_plan a ≡ true) where
         ap (λ q. making (followed q (plan_of a))) (ap plan_of r.held ∙ holds (shaped r.pairs) r.keeps)
         ∙ ap making (followed_is (shaped r.pairs) (plan_of a) refl)
 
-    module _ (m : Making) (e : m ≡ composing p a) where
+    module _ (m : Result Plan Refusal) (e : m ≡ composing p a) where
       -- what was made, by whether the next power keeps the limits
       made : (b : Bool) → granted next ≡ b
           → m ≡ making (elim b as (λ _. HigmanAnswer) [ true ↦ Of.Granted (shaped next) | false ↦ Of.Refused Of.LimitBroken ])
       made b g = e ∙ answered ∙ ap (λ b. making (elim b as (λ _. HigmanAnswer) [ true ↦ Of.Granted (shaped next) | false ↦ Of.Refused Of.LimitBroken ])) g
 
-      pub reached_next : m.answer ≡ Granted → Reached m.plan (i + 1)
-      reached_next f = go (passes (granted next))
+      pub reached_next : (q : Plan) → m ≡ Ok q → Reached q (i + 1)
+      reached_next q f = go (passes (granted next))
         where
-          go : (granted next ≡ true) ⊎ (granted next ≡ false) → Reached m.plan (i + 1)
+          go : (granted next ≡ true) ⊎ (granted next ≡ false) → Reached q (i + 1)
           go (inl g) =
+              let k : Ok q ≡ Ok (packed (shaped next)) = sym f ∙ made true g in
               record {
                 pairs = next;
                 raises = ap (raised s (rows_of a)) (add-one i) ∙ raised_next s (rows_of a) r.pairs i r.raises true g;
-                held = ap (λ x. x.plan) (made true g);
+                held = cc;
                 keeps = kept_of_member (shaped next) K.in_range (T_of g) (compose_member s (arity_of_range s K.in_range) r.pairs (rows_of a) (member_of_kept (shaped r.pairs) r.keeps).element (member_of_kept (plan_of a) K).element);
               }
-          go (inr g) = absurd (not_refused limit_broken (sym f ∙ ap (λ x. x.answer) (made false g)))
+          go (inr g) = let k = sym f ∙ made false g in cc
 
-      pub stopped : (number : ℕ) → m.answer ≡ Refused number → (n : ℕ) → i < n → m ≡ repeating (plan_of a) n
-      stopped number f n l = go (passes (granted next))
+      pub stopped : (x : Refusal) → m ≡ Err x → (n : ℕ) → i < n → Err x ≡ repeating (plan_of a) n
+      stopped x f n l = go (passes (granted next))
         where
-          go : (granted next ≡ true) ⊎ (granted next ≡ false) → m ≡ repeating (plan_of a) n
-          go (inl g) = absurd (not_refused number (sym (ap (λ x. x.answer) (made true g)) ∙ f))
+          go : (granted next ≡ true) ⊎ (granted next ≡ false) → Err x ≡ repeating (plan_of a) n
+          go (inl g) = let k = sym f ∙ made true g in cc
           go (inr g) =
-              made false g
+              sym f ∙ made false g
               ∙ sym (ap (λ o. repeated o s) (raised_stays s (rows_of a) (suc i) n (omega arith) (raised_next s (rows_of a) r.pairs i r.raises false g)))
 
   -- the power that was asked for
-  pub reached_all : (p : Plan) (n : ℕ) → Reached p n → record { answer = Granted; plan = p } ≡ repeating (plan_of a) n
-  reached_all p n r =
-      (λ i. record { answer = Granted; plan = r.held i }) ∙ sym (ap (λ o. repeated o s) r.raises)
+  pub reached_all : (p : Plan) (n : ℕ) → Reached p n → Ok p ≡ repeating (plan_of a) n
+  reached_all p n r = ap Ok r.held ∙ sym (ap (λ o. repeated o s) r.raises)

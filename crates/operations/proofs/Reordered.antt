@@ -1,15 +1,14 @@
 -- What is kept does not depend on the order of the pairs: two tables with the same pairs act alike. So the pairs of two columns may be
--- sorted before they are reduced, and sorted they may be reduced. So it is for the first places of two columns.
+-- sorted before they are reduced, and sorted they may be reduced. So it is for the pairs of a draft.
 use Prim.Native.Nat.{ℕ, ◌≤◌}
-use mathlib.Core.Path.{◌≡◌, sym, ◌∙◌, ap, ap₂, subst, subst₂}
+use mathlib.Core.Path.{◌≡◌, sym, ◌∙◌, ap, subst}
 use mathlib.Core.Bool.{true}
 use mathlib.Core.List.Permᴰ
-use mathlib.Core.List.{List, ◌++◌, Permᴰ}
+use mathlib.Core.List.{List, Permᴰ}
 use mathlib.Core.Option.{some}
 use native.Mathlib.Omega.{arith}
 use lib.Dec.{T}
-use lib.ListN.{length, take, drop, length-append}
-use lib.Seq.{length-take-le, take_at}
+use lib.ListN.{length, take, length-take}
 use Rattle.higman.specs.Words.{Shape, Word}
 use Rattle.higman.specs.Tables.{Table, froms, tos, image}
 use Rattle.higman.specs.Normal.{keep, ordered}
@@ -22,10 +21,12 @@ use Rattle.higman.proofs.Elements.{Element, element_action}
 use Rattle.higman.proofs.Group.{keep_acts, keep_member, by_common}
 use Rattle.higman.proofs.KeptPlans.{element_of_bases, arity_of_range}
 use Rattle.higman.proofs.Joins.{element_of_perm}
-use Rattle.columns.specs.Packed.{table, rows}
+use Rattle.columns.specs.Packed.{table}
 use Rattle.columns.specs.Sorts.{SortedPairs}
 use Rattle.tables.specs.Reduction.{Reducible}
 use Rattle.columns.proofs.Rearranged.{froms_table, ordered_keys}
+use Rattle.operations.specs.declared.Plan.{Plan}
+use Rattle.operations.specs.Plans.{shape_of, rows_of, packed}
 use Rattle.operations.specs.Keeping.{ReducibleColumns}
 
 image_of_perm : (t u : Table) → Permᴰ t u → Apart (froms u) → (w v : Word) → image t w ≡ some v → image u w ≡ some v
@@ -63,61 +64,31 @@ module _ (s : Shape) (n : 1 ≤ s.arity) (ks vs ks' vs' : List ℕ) (same : leng
   pub keep_sorted : keep s (table ks' vs') ≡ keep s (table ks vs)
   keep_sorted = sym (keep_of_perm s n (table ks vs) (table ks' vs') (Permᴰ.symm sorts.rearranged.same_pairs) element)
 
--- the first n places of two columns, sorted where they stand
-pub record SortedFront (n : ℕ) (from to ks vs : List ℕ) : Type 0 where
-  pub in_from : n ≤ length from
-  pub in_to : n ≤ length to
-  pub sorts : SortedPairs (take n from) (take n to) ks vs
+-- the pairs of a draft, sorted
+module _ (p : Plan) (few : p.pairs ≤ max_pairs) (range : T (shape_in_range (shape_of p))) (b : Bases (shape_of p) (rows_of p)) where
+  abbrev front : List ℕ → List ℕ
+  front column = take p.pairs column
 
-module _ {n : ℕ} {from to ks vs : List ℕ} (front : SortedFront n from to ks vs) where
-  abbrev keys : List ℕ
-  keys = ks ++ drop n from
+  module _ (same : length (front p.from) ≡ length (front p.to)) {ks vs : List ℕ} (sorts : SortedPairs (front p.from) (front p.to) ks vs) where
+    arity_low : 1 ≤ (shape_of p).arity
+    arity_low = arity_of_range (shape_of p) range
 
-  abbrev values : List ℕ
-  values = vs ++ drop n to
-
-  paired : length (take n from) ≡ length (take n to)
-  paired = length-take-le n from front.in_from ∙ sym (length-take-le n to front.in_to)
-
-  keys_long : length ks ≡ n
-  keys_long = front.sorts.rearranged.keys_long ∙ length-take-le n from front.in_from
-
-  values_long : length vs ≡ n
-  values_long = front.sorts.rearranged.values_long ∙ length-take-le n to front.in_to
-
-  front_keys : take n keys ≡ ks
-  front_keys = take_at ks (drop n from) n keys_long
-
-  front_values : take n values ≡ vs
-  front_values = take_at vs (drop n to) n values_long
-
-  pub front_keys_room : n ≤ length keys
-  front_keys_room = omega (arith, length-append ks (drop n from), keys_long)
-
-  pub front_values_room : n ≤ length values
-  front_values_room = omega (arith, length-append vs (drop n to), values_long)
-
-  pub front_keys_long : n ≡ length (take n keys)
-  front_keys_long = sym (ap length front_keys ∙ keys_long)
-
-  pub front_values_long : n ≡ length (take n values)
-  front_values_long = sym (ap length front_values ∙ values_long)
-
-  module _ (s : Shape) (few : n ≤ max_pairs) (range : T (shape_in_range s)) (b : Bases s (rows n from to)) where
-    arity_low : 1 ≤ s.arity
-    arity_low = arity_of_range s range
-
-    pub front_reducible : ReducibleColumns s (take n keys) (take n values)
-    front_reducible =
-        subst₂ (ReducibleColumns s) (sym front_keys) (sym front_values)
-        (record {
-          paired = keys_long ∙ sym values_long;
-          few = omega (arith, keys_long, few);
+    pub draft_reducible : ReducibleColumns (shape_of p) ks vs
+    draft_reducible =
+        let r = sorts.rearranged in
+        record {
+          paired = omega (arith, r.keys_long, r.values_long);
+          few = omega (arith, r.keys_long, length-take p.pairs p.from);
           in_range = range;
-          reducible = reducible_sorted s arity_low (take n from) (take n to) ks vs paired front.sorts b;
-        })
+          reducible = reducible_sorted (shape_of p) arity_low (front p.from) (front p.to) ks vs same sorts b;
+        }
 
-    pub front_kept : keep s (rows n keys values) ≡ keep s (rows n from to)
-    front_kept =
-        ap₂ (λ k v. keep s (table k v)) front_keys front_values
-        ∙ keep_sorted s arity_low (take n from) (take n to) ks vs paired front.sorts b
+    draft_kept : keep (shape_of p) (table ks vs) ≡ keep (shape_of p) (rows_of p)
+    draft_kept = keep_sorted (shape_of p) arity_low (front p.from) (front p.to) ks vs same sorts b
+
+    -- the plan that is kept of the sorted pairs, by a shape that is the draft's
+    pub draft_plan : {u : Shape} → u ≡ shape_of p → {q : Plan} → q ≡ packed (record { shape = u; rows = keep u (table ks vs) })
+        → q ≡ packed (record { shape = shape_of p; rows = keep (shape_of p) (rows_of p) })
+    draft_plan same e =
+        e ∙ ap (λ u. packed (record { shape = u; rows = keep u (table ks vs) })) same
+        ∙ ap (λ t. packed (record { shape = shape_of p; rows = t })) draft_kept

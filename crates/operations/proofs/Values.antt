@@ -1,15 +1,15 @@
--- The values that hold plans: their pairs by place; a column of packed words with zeros behind, cleared step by step; and a value that
--- holds a plan gives the plan back.
-use Prim.Native.Nat.{ℕ, zero, suc, ◌+◌, ◌-◌, ◌≤◌, ◌<◌}
+-- The values that hold plans: their pairs by place; a column of packed words with zeros behind; and a value that holds a plan gives the
+-- plan back.
+use Prim.Native.Nat.{ℕ, zero, suc, ◌-◌, ◌≤◌}
 use mathlib.Core.Path.{◌≡◌, refl, sym, ◌∙◌, ap, ap₂}
 use mathlib.Core.Bool.{◌&&◌}
 use mathlib.Core.List.Memᴰ
-use mathlib.Core.List.{List, [], ◌∷◌, ◌++◌, map, append-nil, append_assoc, Memᴰ}
-use native.Mathlib.Numerals.{add-one}
+use mathlib.Core.List.{List, [], ◌∷◌, ◌++◌, map, append-nil, Memᴰ}
 use native.Mathlib.Omega.{arith}
 use lib.Dec.{T, leb, leb→le}
-use lib.ListN.{length, get_or, take, drop, set, replicate, length-map, replicate-append-replicate}
-use lib.Seq.{length-take-le, take_at, take-suc-set}
+use Rattle.std.proofs.lemmas.List.{drop_all}
+use lib.ListN.{length, get_or, take, drop, replicate, length-map, length-take, length-drop}
+use lib.Seq.{length-take-le, take_at}
 use Rattle.higman.specs.Words.{Shape, Word, count}
 use Rattle.higman.specs.Tables.{Pair, Table, froms, tos}
 use Rattle.higman.specs.Normal.{keep}
@@ -44,21 +44,14 @@ rows_by_place (suc n) (x ∷ f) (y ∷ t) h k =
 pub pairs_by_place : (p : Plan) → p.pairs ≤ length p.from → p.pairs ≤ length p.to → rows_of p ≡ map (pair_at p) (count 0 p.pairs)
 pairs_by_place p h k = rows_by_place p.pairs p.from p.to h k
 
--- a column is cleared from a place on, and one place further
-pub cleared_none : (place : ℕ) (l : List ℕ) → take place l ≡ take place l ++ replicate (place - place) 0
-cleared_none place l =
-    let none : place - place ≡ 0 = omega arith in
-    sym (append-nil (take place l)) ∙ ap (λ k. take place l ++ replicate k 0) (sym none)
-
-pub cleared_more : (place i : ℕ) (l₀ l : List ℕ) → place ≤ i → i < length l → take i l ≡ take place l₀ ++ replicate (i - place) 0
-    → take (i + 1) (set l i 0) ≡ take place l₀ ++ replicate (i + 1 - place) 0
-cleared_more place i l₀ l h b e =
-    let more : i - place + 1 ≡ i + 1 - place = omega arith in
-    ap (λ k. take k (set l i 0)) (add-one i)
-    ∙ take-suc-set l i 0 b
-    ∙ ap (λ x. x ++ (0 ∷ [])) e
-    ∙ append_assoc (take place l₀) (replicate (i - place) 0) (0 ∷ [])
-    ∙ ap (λ x. take place l₀ ++ x) (replicate-append-replicate (i - place) 1 0 ∙ ap (λ k. replicate k 0) more)
+-- a column that is filled with zeros from a place on
+pub cleared : (place : ℕ) (l zeros : List ℕ) → zeros ≡ replicate (length (take (length l - place) (drop place l))) 0
+    → take place l ++ (zeros ++ drop (length l - place) (drop place l)) ≡ take place l ++ replicate (length l - place) 0
+cleared place l zeros e =
+    let long : length (take (length l - place) (drop place l)) ≡ length l - place = simp (length-take, length-drop) (omega arith) in
+    let none : length (drop place l) ≤ length l - place = simp length-drop (omega arith) in
+    ap (λ x. take place l ++ x)
+    (ap₂ ◌++◌ (e ∙ ap (λ n. replicate n 0) long) (drop_all (length l - place) (drop place l) none) ∙ append-nil (replicate (length l - place) 0))
 
 pub packed_words_lem : (l : List ℕ) → map pack (words_of l) ≡ l
 packed_words_lem [] = refl

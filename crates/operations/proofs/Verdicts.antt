@@ -10,6 +10,7 @@ use lib.ListN.{length, take, length-take}
 use Rattle.higman.specs.Words.{Shape, Word, is_word}
 use Rattle.higman.specs.Bases.{all}
 use Rattle.higman.specs.Tables.{Table, froms, tos}
+use Rattle.higman.specs.Normal.{keep}
 use Rattle.higman.specs.Limits.{Bases, fits, is_plan_word}
 use Rattle.higman.specs.Answers as Of
 use Rattle.higman.proofs.Tests.{and_left, all_at, all_of}
@@ -17,37 +18,31 @@ use Rattle.higman.proofs.KeptPlans.{arity_of_range}
 use Rattle.higman.proofs.Statements.{answers_exact}
 use Rattle.columns.specs.Packed.{words_of, rows}
 use Rattle.columns.proofs.Rearranged.{froms_table, tos_table}
+use Rattle.std.specs.Prelude.{Result, Ok, Err}
+use Rattle.std.specs.Result.{result_and}
+use Rattle.operations.specs.declared.Plan.{Plan}
 use Rattle.operations.specs.declared.Fault.{Fault}
-use Rattle.operations.specs.declared.Fault.TheVariants.{Sound, Faulty}
-use Rattle.operations.specs.declared.Verdict.{Verdict}
-use Rattle.operations.specs.declared.Verdict.TheVariants.{Accepted, InFrom, InTo}
+use Rattle.operations.specs.declared.Column.TheVariants.{From, To}
+use Rattle.operations.specs.Plans.{shape_of, rows_of, packed}
 use Rattle.operations.specs.Closing.{fault_of, verdict_of, closed_by, closing, DraftColumns}
 
-abbrev pub verdict_by : Fault → Fault → Verdict
-verdict_by (Faulty r) g = InFrom r
-verdict_by Sound (Faulty r) = InTo r
-verdict_by Sound Sound = Accepted
-
-verdict_by_faults : (s : Shape) (t : Table) → verdict_of (Of.verdict s t) ≡ verdict_by (fault_of (Of.fault s (froms t))) (fault_of (Of.fault s (tos t)))
+verdict_by_faults : (s : Shape) (t : Table)
+    → verdict_of (Of.verdict s t) ≡ result_and (fault_of From (Of.fault s (froms t))) (fault_of To (Of.fault s (tos t)))
 unfolding Of.verdict
 verdict_by_faults s t = go (Of.fault s (froms t)) (Of.fault s (tos t))
   where
     go : (f g : Option Of.Reason)
         → verdict_of
         (elim f as (λ _. Of.Verdict) [ some r ↦ Of.InFrom r | none ↦ elim g as (λ _. Of.Verdict) [ some r ↦ Of.InTo r | none ↦ Of.Accepted ] ])
-        ≡ verdict_by (fault_of f) (fault_of g)
+        ≡ result_and (fault_of From f) (fault_of To g)
     go (some r) g = refl
     go none (some r) = refl
     go none none = refl
 
-accepted_only : (v : Of.Verdict) → verdict_of v ≡ Accepted → v ≡ Of.Accepted
+accepted_only : (v : Of.Verdict) → verdict_of v ≡ Ok tt → v ≡ Of.Accepted
 accepted_only Of.Accepted e = refl
 accepted_only (Of.InFrom r) e = cc
 accepted_only (Of.InTo r) e = cc
-
-pub closing_by : (s : Shape) (t : Table) (v : Verdict) → verdict_of (Of.verdict s t) ≡ v → closing s t ≡ closed_by s t v
-unfolding closing
-closing_by s t v e = ap (closed_by s t) e
 
 -- words that a plan may hold are words
 pub words_of_plan : (s : Shape) (c : List Word) → T (all (is_plan_word s) c) → T (all (is_word s) c)
@@ -65,19 +60,66 @@ module _ (n : ℕ) (from to : List ℕ) (even : length from ≡ length to) where
   pub tos_rows : tos (rows n from to) ≡ words_of (take n to)
   tos_rows = tos_table (take n from) (take n to) paired
 
-  module _ (s : Shape) where
-    pub verdict_by_columns : verdict_of (Of.verdict s (rows n from to))
-        ≡ verdict_by (fault_of (Of.fault s (words_of (take n from)))) (fault_of (Of.fault s (words_of (take n to))))
-    verdict_by_columns =
-        verdict_by_faults s (rows n from to)
-        ∙ ap₂ (λ c e. verdict_by (fault_of (Of.fault s c)) (fault_of (Of.fault s e))) froms_rows tos_rows
+-- a draft
+module _ (p : Plan) (d : DraftColumns p) where
+  abbrev s : Shape
+  s = shape_of p
 
-    -- an accepted draft has bases for columns
-    pub accepted_bases : DraftColumns s n from to → verdict_of (Of.verdict s (rows n from to)) ≡ Accepted → Bases s (rows n from to)
-    accepted_bases d e =
-        let t = rows n from to in
-        (answers_exact.accepted s (arity_of_range s d.in_range) t
-        (words_of_plan s (froms t) (subst (λ c. T (all (is_plan_word s) c)) (sym froms_rows) d.from_words))
-        (words_of_plan s (tos t) (subst (λ c. T (all (is_plan_word s) c)) (sym tos_rows) d.to_words))
-        ).0
-        (accepted_only (Of.verdict s t) e)
+  abbrev t : Table
+  t = rows_of p
+
+  abbrev front : List ℕ → List ℕ
+  front column = take p.pairs column
+
+  pub from_words : T (all (is_word s) (words_of (front p.from)))
+  from_words = words_of_plan s (words_of (front p.from)) d.from_words
+
+  pub to_words : T (all (is_word s) (words_of (front p.to)))
+  to_words = words_of_plan s (words_of (front p.to)) d.to_words
+
+  abbrev pub from_fault : Result (Unit {0}) Fault
+  from_fault = fault_of From (Of.fault s (words_of (front p.from)))
+
+  abbrev pub to_fault : Result (Unit {0}) Fault
+  to_fault = fault_of To (Of.fault s (words_of (front p.to)))
+
+  -- what is wrong with a column, told by a shape that is the draft's
+  module _ {u : Shape} (same : u ≡ s) {r : Result (Unit {0}) Fault} where
+    pub found_from : r ≡ fault_of From (Of.fault u (words_of (front p.from))) → r ≡ from_fault
+    found_from e = e ∙ ap (λ u. fault_of From (Of.fault u (words_of (front p.from)))) same
+
+    pub found_to : r ≡ fault_of To (Of.fault u (words_of (front p.to))) → r ≡ to_fault
+    found_to e = e ∙ ap (λ u. fault_of To (Of.fault u (words_of (front p.to)))) same
+
+  module _ (even : length p.from ≡ length p.to) where
+    verdict_by_columns : verdict_of (Of.verdict s t) ≡ result_and from_fault to_fault
+    verdict_by_columns =
+        verdict_by_faults s t ∙ ap₂ (λ c e. result_and (fault_of From (Of.fault s c)) (fault_of To (Of.fault s e))) (froms_rows p.pairs p.from p.to even) (tos_rows p.pairs p.from p.to even)
+
+    pub judged_from : (f : Fault) → Err f ≡ from_fault → Err f ≡ verdict_of (Of.verdict s t)
+    judged_from f e = sym (verdict_by_columns ∙ ap (λ r. result_and r to_fault) (sym e))
+
+    pub judged_to : Ok tt ≡ from_fault → to_fault ≡ verdict_of (Of.verdict s t)
+    judged_to e = sym (verdict_by_columns ∙ ap (λ r. result_and r to_fault) (sym e))
+
+    pub closed_from : (f : Fault) → Err f ≡ from_fault → Err f ≡ closing s t
+    unfolding closing
+    closed_from f e = ap (closed_by s t) (judged_from f e)
+
+    pub closed_to : (f : Fault) → Ok tt ≡ from_fault → Err f ≡ to_fault → Err f ≡ closing s t
+    unfolding closing
+    closed_to f e g = ap (closed_by s t) (g ∙ judged_to e)
+
+    module _ (e : Ok tt ≡ from_fault) (g : Ok tt ≡ to_fault) where
+      pub closed : Ok (packed (record { shape = s; rows = keep s t })) ≡ closing s t
+      unfolding closing
+      closed = ap (closed_by s t) (g ∙ judged_to e)
+
+      -- an accepted draft has bases for columns
+      pub accepted_bases : Bases s t
+      accepted_bases =
+          (answers_exact.accepted s (arity_of_range s d.in_range) t
+          (words_of_plan s (froms t) (subst (λ c. T (all (is_plan_word s) c)) (sym (froms_rows p.pairs p.from p.to even)) d.from_words))
+          (words_of_plan s (tos t) (subst (λ c. T (all (is_plan_word s) c)) (sym (tos_rows p.pairs p.from p.to even)) d.to_words))
+          ).0
+          (accepted_only (Of.verdict s t) (sym (g ∙ judged_to e)))

@@ -1,6 +1,6 @@
 -- Inner contracts of closing and keeping: what is found in pairs that are left sorted, what is asked of them then, and what is left in
 -- the lent columns.
-use Rattle.std.specs.Prelude.{ℕ, ◌-◌, ◌≤◌, ◌≡◌, List, ◌++◌, map, T, length, replicate}
+use Rattle.std.specs.Prelude.{ℕ, ◌-◌, ◌≤◌, ◌≡◌, List, ◌++◌, map, T, length, replicate, Result}
 use Rattle.higman.specs.Words.{Shape}
 use Rattle.higman.specs.Tables.{Table, froms, tos}
 use Rattle.higman.specs.Normal.{keep}
@@ -10,12 +10,13 @@ use Rattle.higman.specs.Answers.{fault}
 use Rattle.columns.specs.Packed.{words_of, table}
 use Rattle.columns.specs.Sorts.{SortedPairs}
 use Rattle.tables.specs.Reduction.{Reducible}
+use Rattle.operations.specs.declared.Column.{Column}
 use Rattle.operations.specs.declared.Fault.{Fault}
 use Rattle.operations.specs.Closing.{fault_of}
 
--- the verdict on the keys of some pairs, which are left sorted by them
-pub record SortedFault (s : Shape) (keys values keys' values' : List ℕ) (r : Fault) : Type 0 where
-  pub found : r ≡ fault_of (fault s (words_of keys))
+-- the verdict on a column by the keys of some pairs, which are left sorted by them
+pub record SortedFault (s : Shape) (column : Column) (keys values keys' values' : List ℕ) (r : Result (Unit {0}) Fault) : Type 0 where
+  pub found : r ≡ fault_of column (fault s (words_of keys))
   pub sorts : SortedPairs keys values keys' values'
 
 -- two columns of pairs in order that may be reduced, no more than a plan has

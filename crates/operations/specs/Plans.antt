@@ -5,11 +5,12 @@ use Rattle.higman.specs.Words.{Shape, Word}
 use Rattle.higman.specs.Bases.{all}
 use Rattle.higman.specs.Tables.{Pair, Table, froms, tos, row, φ, ψ}
 use Rattle.higman.specs.Normal.{joined, normal, normal_form, keep}
-use Rattle.higman.specs.Limits.{Plan as PlanOf, Kept, shape_in_range, granted, max_pairs, max_digits, is_plan_word}
+use Rattle.higman.specs.Limits.{Plan as PlanOf, shape_in_range, granted, max_pairs, max_digits, is_plan_word}
 use Rattle.higman.specs.Answers.{verdict, is_table_of, is_kept}
 use Rattle.words.specs.Packed.{pack_on, pack, unpack_in, unpack}
 use Rattle.words.specs.Bytes.{shape}
 use Rattle.operations.specs.declared.Plan.{Plan}
+use Rattle.operations.specs.declared.lent.Lent.{Lent}
 use Rattle.columns.specs.Packed.{words_of, rows}
 use Rattle.tables.specs.Lines.{plan_of_columns}
 
@@ -47,10 +48,9 @@ is_draft p = in_table p && is_table_of (shape_of p) (rows_of p)
 unfoldable pub is_plan : Plan → Bool
 is_plan p = in_table p && is_kept (plan_of p)
 
--- two lent columns that hold a kept plan, as the first places of a plan's columns do
-pub record LentPlan (arity roots : ℕ) (from to : List ℕ) : Type 0 where
-  pub paired : length from ≡ length to
-  pub kept : Kept (plan_of_columns arity roots from to)
+-- the plan in columns that are lent
+abbrev pub lent_plan : Lent → PlanOf
+lent_plan l = plan_of_columns l.shape.arity l.shape.roots l.from.now l.to.now
 
 -- a packed column with zeros behind
 abbrev pub column : List Word → List ℕ

@@ -1,5 +1,6 @@
--- The number of a refusal, by the names of higman's Refusals.antt. Read Answers.antt next.
-use Rattle.std.specs.Prelude.{ℕ, ◌≡◌, refl, [], ◌∷◌, map}
+-- The number of a refusal, by the names of higman's Refusals.antt; and the refusals of higman's answers. Read Answers.antt next.
+use Rattle.std.specs.Prelude.{ℕ, ◌≡◌, refl, [], ◌∷◌, map, Result, Ok, Err}
+use Rattle.higman.specs.Answers as Answers
 use Rattle.higman.specs.Refusals as Of
 use Rattle.operations.specs.declared.refusals.Refusal.{Refusal}
 use Rattle.operations.specs.declared.refusals.Refusal.TheVariants as The
@@ -28,3 +29,31 @@ number_of The.RightMissing = Of.right_missing
 
 number_of_example : map number_of (The.NoRecord ∷ The.BadWord ∷ The.RightMissing ∷ []) ≡ 1 ∷ 4 ∷ 20 ∷ []
 number_of_example = refl
+
+-- the refusals of higman's answers
+abbrev pub refusal : Answers.Refusal → Refusal
+refusal Answers.BadCode = The.BadWord
+refusal Answers.ShapesDiffer = The.ShapesDiffer
+refusal Answers.LimitBroken = The.LimitBroken
+refusal Answers.PowerOutside = The.PowerOutside
+refusal Answers.SeedOutside = The.SeedOutside
+refusal Answers.TooManyPairs = The.PairsFull
+refusal Answers.WordTooLong = The.BadWord
+
+-- each has the number that it has there
+pub refusal_numbered : (r : Answers.Refusal) → number_of (refusal r) ≡ Answers.refusal_number r
+refusal_numbered Answers.BadCode = refl
+refusal_numbered Answers.ShapesDiffer = refl
+refusal_numbered Answers.LimitBroken = refl
+refusal_numbered Answers.PowerOutside = refl
+refusal_numbered Answers.SeedOutside = refl
+refusal_numbered Answers.TooManyPairs = refl
+refusal_numbered Answers.WordTooLong = refl
+
+-- the number of an answer's refusal, 0 where the answer is no refusal
+abbrev pub answer_number : {A : Type 0} → Result A Refusal → ℕ
+answer_number (Ok x) = 0
+answer_number (Err r) = number_of r
+
+answer_number_example : map (answer_number {A = ℕ}) (Ok 7 ∷ Err The.LimitBroken ∷ []) ≡ 0 ∷ 11 ∷ []
+answer_number_example = refl

@@ -1,11 +1,10 @@
-// The answers that hand back a plan: granted with it, or refused with a number beside the blank one.
+// The plan that stands where there is none.
 ghost use Rattle.std.specs.Prelude.{◌≡◌};
 ghost use Rattle.operations.specs.Plans.{blank};
-ghost use Rattle.operations.specs.Answers.{refusing, granting};
 
-use crate::{Answer, MAX_PAIRS, Making, Plan};
+use crate::{MAX_PAIRS, Plan};
 
-// No plan: what a call that refuses hands back.
+// No plan: what a program in C is handed back by a call that refuses, and what a desk has beside an empty slot.
 pub fn blank() -> Plan
     ensures { result ≡ blank }
 {
@@ -15,26 +14,5 @@ pub fn blank() -> Plan
         pairs: 0,
         from: [0u64; MAX_PAIRS],
         to: [0u64; MAX_PAIRS],
-    }
-}
-
-// The answer that refuses with a number.
-pub fn refused(number: u8) -> Making
-    ensures { result ≡ refusing number }
-{
-    let plan = blank();
-    Making {
-        answer: Answer::Refused(number),
-        plan: plan,
-    }
-}
-
-// The answer that grants a plan.
-pub fn granted(plan: Plan) -> Making
-    ensures { result ≡ granting plan }
-{
-    Making {
-        answer: Answer::Granted,
-        plan: plan,
     }
 }

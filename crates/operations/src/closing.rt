@@ -7,101 +7,80 @@ ghost use Rattle.higman.specs.Words.{is_word};
 ghost use Rattle.higman.specs.Bases.{all};
 ghost use Rattle.higman.specs.Limits.{shape_in_range, max_pairs};
 ghost use Rattle.higman.specs.Answers.{fault, verdict};
-ghost use Rattle.words.specs.Bytes.{shape};
-ghost use Rattle.columns.specs.Packed.{words_of, sorted, rows};
-ghost use Rattle.operations.specs.Closing.{fault_of, verdict_of, refused_by, closing, DraftColumns};
+ghost use Rattle.words.specs.Bytes.{shape_of as the_shape};
+ghost use Rattle.columns.specs.Packed.{words_of, sorted};
+ghost use Rattle.operations.specs.Plans.{shape_of, rows_of};
+ghost use Rattle.operations.specs.Closing.{fault_of, verdict_of, closing, DraftColumns};
 ghost use Rattle.operations.specs.Keeping.{SortedFault};
 
-use crate::{Closed, Fault, MAX_PAIRS, Reason, Verdict, answers, keeping};
+use crate::{Column, Fault, MAX_PAIRS, Plan, Reason, keeping};
 use columns::sorting;
+use words::Shape;
 
 // What is wrong with a column that is sorted, overlap before gap.
-fn sorted_fault(column: &[u64], arity: u8, roots: u8) -> Fault
-    requires { (sorted (words_of column.now) ≡ true) × T (shape_in_range (shape arity roots))
-        × T (all (is_word (shape arity roots)) (words_of column.now)) }
-    ensures { result ≡ fault_of (fault (shape arity roots) (words_of column.now)) }
+fn sorted_fault(column: Column, words: &[u64], shape: Shape) -> Result<(), Fault>
+    requires { (sorted (words_of words.now) ≡ true) × T (shape_in_range (the_shape shape))
+        × T (all (is_word (the_shape shape)) (words_of words.now)) }
+    ensures { result ≡ fault_of column (fault (the_shape shape) (words_of words.now)) }
 {
-    if columns::overlaps(column) {
-        return Fault::Faulty(Reason::Overlap);
+    if columns::overlaps(words) {
+        return Err(Fault {
+            column,
+            reason: Reason::Overlap,
+        });
     }
-    if columns::has_gap(column, arity, roots) {
-        return Fault::Faulty(Reason::Gap);
+    if columns::has_gap(words, shape) {
+        return Err(Fault {
+            column,
+            reason: Reason::Gap,
+        });
     }
-    Fault::Sound
+    Ok(())
 }
 
-// What is wrong with the keys of some pairs. The pairs are left sorted by them.
-fn fault_in(keys: &mut [u64], values: &mut [u64], arity: u8, roots: u8) -> Fault
-    requires { (length keys.old ≡ length values.old) × T (shape_in_range (shape arity roots)) × (length keys.old ≤ max_pairs)
-        × T (all (is_word (shape arity roots)) (words_of keys.old)) }
-    ensures { SortedFault (shape arity roots) keys.old values.old keys.new values.new result }
+// What is wrong with a column whose words are the keys of some pairs. The pairs are left sorted by them.
+fn fault_in(column: Column, keys: &mut [u64], values: &mut [u64], shape: Shape) -> Result<(), Fault>
+    requires { (length keys.old ≡ length values.old) × T (shape_in_range (the_shape shape)) × (length keys.old ≤ max_pairs)
+        × T (all (is_word (the_shape shape)) (words_of keys.old)) }
+    ensures { SortedFault (the_shape shape) column keys.old values.old keys.new values.new result }
 {
     sorting::sort(keys, values);
-    sorted_fault(keys, arity, roots)
+    sorted_fault(column, keys, shape)
 }
 
-// What is wrong with the first n words of a column. Two copies are sorted, so that the column stays as it came.
-fn fault_of(column: [u64; MAX_PAIRS], n: usize, arity: u8, roots: u8) -> Fault
-    requires { (n ≤ max_pairs) × T (shape_in_range (shape arity roots)) × T (all (is_word (shape arity roots)) (words_of (take n column))) }
-    ensures { result ≡ fault_of (fault (shape arity roots) (words_of (take n column))) }
+// What is wrong with a column, by its first n words. Two copies are sorted, so that the column stays as it came.
+#[tactic(auto, using(columns::proofs::Limits::pair_limit))]
+fn fault_of(column: Column, words: [u64; MAX_PAIRS], n: usize, shape: Shape) -> Result<(), Fault>
+    requires { (n ≤ max_pairs) × T (shape_in_range (the_shape shape)) × T (all (is_word (the_shape shape)) (words_of (take n words))) }
+    ensures { result ≡ fault_of column (fault (the_shape shape) (words_of (take n words))) }
 {
-    let mut keys = column;
-    let mut values = column;
-    fault_in(&mut keys[..n], &mut values[..n], arity, roots)
+    let mut keys = words;
+    let mut values = words;
+    fault_in(column, &mut keys[..n], &mut values[..n], shape)
 }
 
-// The verdict on the first n pairs of two columns, which are those of a draft: "the verdict on a plan names the column and, within it, the reason".
-pub fn judge(
-    from: [u64; MAX_PAIRS],
-    to: [u64; MAX_PAIRS],
-    n: usize,
-    arity: u8,
-    roots: u8,
-) -> Verdict
-    requires { DraftColumns (shape arity roots) n from to }
-    ensures { result ≡ verdict_of (verdict (shape arity roots) (rows n from to)) }
+// "the verdict on a plan names the column and, within it, the reason"
+pub fn judge(draft: Plan) -> Result<(), Fault>
+    requires { DraftColumns draft }
+    ensures { result ≡ verdict_of (verdict (shape_of draft) (rows_of draft)) }
 {
-    match fault_of(from, n, arity, roots) {
-        Fault::Faulty(reason) => Verdict::InFrom(reason),
-        Fault::Sound => match fault_of(to, n, arity, roots) {
-            Fault::Faulty(reason) => Verdict::InTo(reason),
-            Fault::Sound => Verdict::Accepted,
-        },
-    }
+    let shape = draft.shape();
+    fault_of(Column::From, draft.from, draft.pairs, shape)?;
+    fault_of(Column::To, draft.to, draft.pairs, shape)
 }
 
-// The answer that keeps nothing.
-fn refused(verdict: Verdict) -> Closed
-    ensures { result ≡ refused_by verdict }
+// "E closes: reduce and keep."
+#[tactic(auto, using(columns::proofs::Limits::pair_limit))]
+pub fn close(draft: Plan) -> Result<Plan, Fault>
+    requires { DraftColumns draft }
+    ensures { result ≡ closing (shape_of draft) (rows_of draft) }
 {
-    let plan = answers::blank();
-    Closed {
-        verdict: verdict,
-        plan: plan,
-    }
-}
-
-// "E closes: reduce and keep." The first n pairs of two columns are those of a draft.
-pub fn close(from: [u64; MAX_PAIRS], to: [u64; MAX_PAIRS], n: usize, arity: u8, roots: u8) -> Closed
-    requires { DraftColumns (shape arity roots) n from to }
-    ensures { result ≡ closing (shape arity roots) (rows n from to) }
-{
-    let mut keys = from;
-    let mut values = to;
-    match fault_in(&mut keys[..n], &mut values[..n], arity, roots) {
-        Fault::Faulty(reason) => refused(Verdict::InFrom(reason)),
-        Fault::Sound => {
-            let to_fault = fault_of(to, n, arity, roots);
-            match to_fault {
-                Fault::Faulty(reason) => refused(Verdict::InTo(reason)),
-                Fault::Sound => {
-                    let plan = keeping::keep_sorted(&keys[..n], &values[..n], arity, roots);
-                    Closed {
-                        verdict: Verdict::Accepted,
-                        plan: plan,
-                    }
-                }
-            }
-        }
-    }
+    let shape = draft.shape();
+    let mut from = draft.from;
+    let mut to = draft.to;
+    let keys = &mut from[..draft.pairs];
+    let values = &mut to[..draft.pairs];
+    fault_in(Column::From, keys, values, shape)?;
+    fault_of(Column::To, draft.to, draft.pairs, shape)?;
+    Ok(keeping::keep_sorted(keys, values, shape))
 }

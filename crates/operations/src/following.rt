@@ -2,49 +2,46 @@
 // limits. The pairs before reduction are written into columns of twice the size of a plan, since two plans have at most that many.
 // A power ("for k above zero, k times in a row; 0 is the plan that moves nothing") follows the plan by itself again and again, and the
 // first power that breaks a limit ends that with 11.
-ghost use Rattle.std.specs.Prelude.{◌≡◌, true, ◌≤◌, T, length};
+ghost use Rattle.std.specs.Prelude.{◌≡◌, Ok, true, ◌≤◌, T, length};
 ghost use Rattle.higman.specs.Limits.{shape_in_range, max_pairs, power_in_range};
 ghost use Rattle.higman.specs.Answers.{identity_plan, inverted, powered};
-ghost use Rattle.words.specs.Bytes.{shape};
+ghost use Rattle.words.specs.Bytes.{shape_of as the_shape};
 ghost use Rattle.operations.specs.Plans.{plan_of, shape_of, is_plan, packed};
 ghost use Rattle.operations.specs.Answers.{making, composing, repeating};
 ghost use Rattle.operations.specs.Filled.{filling, filled_plan};
 
-use crate::{Answer, MAX_PAIRS, Making, Plan, answers, keeping, numbers};
-use tables::spreading::Spread;
+use crate::refusals::Refusal;
+use crate::{MAX_PAIRS, Plan, keeping};
+use words::Shape;
 
 // The size that a power has at most: `max_power` of higman's Limits.antt.
-const MAX_POWER: i32 = 1000;
-
-const MIN_POWER: i32 = -MAX_POWER;
+const MAX_POWER: u32 = 1000;
 
 // The pairs that two plans give at most, before they are reduced.
 const MAX_SPREAD: usize = 2 * MAX_PAIRS;
 
 // The first n numbers of a column, and zeros behind them.
+#[tactic(auto, using(columns::proofs::Limits::pair_limit))]
 pub fn padded(column: &[u64], n: usize) -> [u64; MAX_PAIRS]
     requires { (n ≤ max_pairs) × (n ≤ length column.now) }
     ensures { result ≡ filling n column.now }
 {
     let mut places = [0u64; MAX_PAIRS];
-    let mut i = 0;
-    while i < n {
-        places[i] = column[i];
-        i += 1;
-    }
+    let front = &mut places[..n];
+    front.copy_from_slice(&column[..n]);
     places
 }
 
 // The plan of the first n pairs of two columns.
-fn filled(from: &[u64], to: &[u64], n: usize, arity: u8, roots: u8) -> Plan
+fn filled(from: &[u64], to: &[u64], n: usize, shape: Shape) -> Plan
     requires { (n ≤ max_pairs) × (n ≤ length from.now) × (n ≤ length to.now) }
-    ensures { result ≡ filled_plan arity roots n from.now to.now }
+    ensures { result ≡ filled_plan shape.arity shape.roots n from.now to.now }
 {
     let from_places = padded(from, n);
     let to_places = padded(to, n);
     Plan {
-        arity: arity,
-        roots: roots,
+        arity: shape.arity,
+        roots: shape.roots,
         pairs: n,
         from: from_places,
         to: to_places,
@@ -52,27 +49,23 @@ fn filled(from: &[u64], to: &[u64], n: usize, arity: u8, roots: u8) -> Plan
 }
 
 // Two plans of one shape, one after the other.
-fn composed(a: Plan, b: Plan) -> Making
+fn composed(a: Plan, b: Plan) -> Result<Plan, Refusal>
     requires { (is_plan a ≡ true) × (is_plan b ≡ true) × (shape_of a ≡ shape_of b) }
     ensures { result ≡ composing a b }
 {
-    let first = a.pairs;
-    let a_from = a.from;
-    let a_to = a.to;
-    let second = b.pairs;
-    let b_from = b.from;
-    let b_to = b.to;
+    let first = a.lent();
+    let second = b.lent();
     let mut froms = [0u64; MAX_SPREAD];
     let mut tos = [0u64; MAX_SPREAD];
-    let Spread::Rows(n) = tables::spreading::spread_plans(
-        &a_from[..first],
-        &a_to[..first],
-        &b_from[..second],
-        &b_to[..second],
+    let Some(n) = tables::spreading::spread_plans(
+        first.from,
+        first.to,
+        second.from,
+        second.to,
         &mut froms,
         &mut tos,
     ) else {
-        return answers::refused(numbers::LIMIT_BROKEN);
+        return Err(Refusal::LimitBroken);
     };
     let mut out_from = [0u64; MAX_SPREAD];
     let mut out_to = [0u64; MAX_SPREAD];
@@ -81,95 +74,75 @@ fn composed(a: Plan, b: Plan) -> Making
         &tos[..n],
         &mut out_from,
         &mut out_to,
-        a.arity,
-        a.roots,
+        first.shape,
     );
     if MAX_PAIRS < pairs {
-        return answers::refused(numbers::LIMIT_BROKEN);
+        return Err(Refusal::LimitBroken);
     }
-    answers::granted(filled(&out_from, &out_to, pairs, a.arity, a.roots))
+    Ok(filled(&out_from, &out_to, pairs, first.shape))
 }
 
 // *a then b*, "a first". 10, 11.
-pub fn compose(a: Plan, b: Plan) -> Making
+pub fn compose(a: Plan, b: Plan) -> Result<Plan, Refusal>
     requires { (is_plan a ≡ true) × (is_plan b ≡ true) }
     ensures { result ≡ composing a b }
 {
-    if a.arity != b.arity {
-        return answers::refused(numbers::SHAPES_DIFFER);
-    }
-    if a.roots != b.roots {
-        return answers::refused(numbers::SHAPES_DIFFER);
+    if a.shape() != b.shape() {
+        return Err(Refusal::ShapesDiffer);
     }
     composed(a, b)
 }
 
 // The inverse: what is kept of the columns exchanged.
-pub fn inverse(a: Plan) -> Making
+pub fn inverse(a: Plan) -> Plan
     requires { is_plan a ≡ true }
-    ensures { result ≡ making (inverted (plan_of a)) }
+    ensures { Ok result ≡ making (inverted (plan_of a)) }
 {
-    let from = a.from;
-    let to = a.to;
-    answers::granted(keeping::keep(to, from, a.pairs, a.arity, a.roots))
+    let from = a.to;
+    let to = a.from;
+    keeping::keep(Plan { from, to, ..a })
 }
 
 // The plan that moves nothing: each belt to itself.
-fn identity(arity: u8, roots: u8) -> Plan
-    requires { T (shape_in_range (shape arity roots)) }
-    ensures { result ≡ packed (identity_plan (shape arity roots)) }
+fn identity(shape: Shape) -> Plan
+    requires { T (shape_in_range (the_shape shape)) }
+    ensures { result ≡ packed (identity_plan (the_shape shape)) }
 {
     let digits: [u64; 9] = [1, 2, 3, 4, 5, 6, 7, 8, 9];
-    let n = roots as usize;
-    filled(&digits, &digits, n, arity, roots)
+    filled(&digits, &digits, shape.roots as usize, shape)
 }
 
 // A plan n times in a row.
-fn repeat(a: Plan, n: u32) -> Making
+fn repeat(a: Plan, n: u32) -> Result<Plan, Refusal>
     requires { is_plan a ≡ true }
     ensures { result ≡ repeating (plan_of a) n }
 {
-    let arity = a.arity;
-    let roots = a.roots;
-    let mut power = identity(arity, roots);
-    let mut i: u32 = 0;
-    while i < n {
-        let made = composed(power, a);
-        let answer = made.answer;
-        let Answer::Granted = answer else {
-            return made;
-        };
-        power = made.plan;
-        i += 1;
+    let mut power = identity(a.shape());
+    for _ in 0..n {
+        power = composed(power, a)?;
     }
-    answers::granted(power)
+    Ok(power)
 }
 
 // Whether a number is one that a plan is raised to: 12 is given otherwise.
 pub fn is_power(k: i32) -> bool
     ensures { result ≡ power_in_range k }
 {
-    if k < MIN_POWER {
-        return false;
-    }
-    if MAX_POWER < k {
-        return false;
-    }
-    true
+    k.unsigned_abs() <= MAX_POWER
 }
 
 // A power; "below zero, the power −k of the inverse". 12, 11.
-pub fn power(a: Plan, k: i32) -> Making
+pub fn power(a: Plan, k: i32) -> Result<Plan, Refusal>
     requires { is_plan a ≡ true }
     ensures { result ≡ making (powered (plan_of a) k) }
 {
     if !is_power(k) {
-        return answers::refused(numbers::POWER_OUTSIDE);
+        return Err(Refusal::PowerOutside);
     }
+    let size = k.unsigned_abs();
     if k < 0 {
-        let back = inverse(a);
-        let plan = back.plan;
-        return repeat(plan, (-k) as u32);
+        repeat(inverse(a), size)
+    } else {
+        repeat(a, size)
     }
-    repeat(a, k as u32)
 }

@@ -3,19 +3,23 @@
 // answer of the crate `higman`, through the words that the packed numbers hold.
 #![tactic(auto)]
 
+ghost use Rattle.std.specs.Prelude.{◌≡◌};
+
 pub mod answers;
 pub mod closing;
 pub mod comparing;
 pub mod following;
 pub mod keeping;
+pub mod lent;
 pub mod listing;
-pub mod numbers;
 pub mod refusals;
 pub mod routing;
-pub mod shapes;
 
-// The pairs that a plan has at most.
-pub const MAX_PAIRS: usize = columns::MAX_PAIRS;
+pub use columns::MAX_PAIRS;
+pub use lent::Lent;
+use refusals::Refusal;
+pub use tables::routing::{Image, Match};
+use words::Shape;
 
 // A shape and the pairs of a plan, or of a draft of one, at the first places of two columns; the other places are zero. Programs in C
 // and Rust hold it too (the crate `plans_c`).
@@ -29,22 +33,48 @@ pub struct Plan {
     pub to: [u64; MAX_PAIRS],
 }
 
-// Whether a plan was made, or the number of the refusal.
-#[derive(Clone, Copy)]
-pub enum Answer {
-    Granted,
-    Refused(u8),
+impl Plan {
+    ghost use Rattle.std.specs.Prelude.{true};
+    ghost use Rattle.words.specs.Bytes.{shape_of as the_shape};
+    ghost use Rattle.operations.specs.Plans.{shape_of, plan_of, is_plan, lent_plan};
+
+    pub fn shape(&self) -> Shape
+        ensures { the_shape result ≡ shape_of self.now }
+    {
+        Shape {
+            arity: self.arity,
+            roots: self.roots,
+        }
+    }
+
+    // The pairs of a kept plan.
+    #[tactic(auto, using(crate::proofs::KeptValues::pairs_inside))]
+    pub fn lent(&self) -> Lent<'_>
+        requires { is_plan self.now ≡ true }
+        ensures { lent_plan result ≡ plan_of self.now }
+    {
+        let shape = self.shape();
+        let from = &self.from[..self.pairs];
+        let to = &self.to[..self.pairs];
+        Lent { shape, from, to }
+    }
 }
 
-// An answer and the plan that was made where it is Granted.
-#[derive(Drop)]
-pub struct Making {
-    pub answer: Answer,
-    pub plan: Plan,
+// "the verdict on a plan names the column and, within it, the reason"
+#[derive(Clone, Copy, PartialEq, Eq, Debug)]
+pub struct Fault {
+    pub column: Column,
+    pub reason: Reason,
+}
+
+#[derive(Clone, Copy, PartialEq, Eq, Debug)]
+pub enum Column {
+    From,
+    To,
 }
 
 // What is wrong with a column.
-#[derive(Drop)]
+#[derive(Clone, Copy, PartialEq, Eq, Debug)]
 pub enum Reason {
     // one word begins or equals another
     Overlap,
@@ -52,49 +82,29 @@ pub enum Reason {
     Gap,
 }
 
-// The verdict on one column.
-#[derive(Drop)]
-pub enum Fault {
-    Sound,
-    Faulty(Reason),
+// The letter of a column in a reply.
+impl From<Column> for u8 {
+    ghost use Rattle.operations.specs.Closing.{letter_of};
+
+    ghost from_gives = { λ column letter. letter ≡ letter_of column };
+
+    fn from(column: Column) -> u8 {
+        match column {
+            Column::From => b'F',
+            Column::To => b'T',
+        }
+    }
 }
 
-// "the verdict on a plan names the column and, within it, the reason"
-#[derive(Drop)]
-pub enum Verdict {
-    Accepted,
-    InFrom(Reason),
-    InTo(Reason),
-}
+impl From<Reason> for Refusal {
+    ghost use Rattle.operations.specs.Closing.{refusal_of};
 
-// A verdict and the plan that is kept where it is Accepted.
-#[derive(Drop)]
-pub struct Closed {
-    pub verdict: Verdict,
-    pub plan: Plan,
-}
+    ghost from_gives = { λ reason refusal. refusal ≡ refusal_of reason };
 
-// Whether two plans act alike, or the number of the refusal.
-#[derive(Drop)]
-pub enum Likeness {
-    Alike(bool),
-    Refused(u8),
-}
-
-// "A route replies with an image, a code too short, or another refusal."
-#[derive(Drop)]
-pub enum Route {
-    // the number of bytes of the image, which stand at the front of the buffer, and the place of the pair that it comes from
-    Image(usize, usize),
-    // the code is a proper beginning of a from-word: 13
-    TooShort,
-    // the number of another refusal
-    Refused(u8),
-}
-
-// How many bytes a listing has, which stand at the front of the buffer, or the number of the refusal.
-#[derive(Drop)]
-pub enum Listed {
-    Bytes(usize),
-    Refused(u8),
+    fn from(reason: Reason) -> Refusal {
+        match reason {
+            Reason::Overlap => Refusal::WordsOverlap,
+            Reason::Gap => Refusal::RootUncovered,
+        }
+    }
 }

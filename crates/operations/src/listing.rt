@@ -1,36 +1,29 @@
-// Listing the columns that a plan lends (document 01, "Records": "L .. lists the plan as P, M and E records") for a slot's letter into a
-// lent buffer.
+// Listing a plan (document 01, "Records": "L .. lists the plan as P, M and E records") for a slot's letter into a lent buffer.
 ghost use Rattle.std.specs.Prelude.{◌≡◌, length};
 ghost use Rattle.higman.specs.Listing.{is_slot};
-ghost use Rattle.tables.specs.Lines.{plan_of_columns};
-ghost use Rattle.operations.specs.Plans.{LentPlan};
+ghost use Rattle.operations.specs.Plans.{lent_plan};
 ghost use Rattle.operations.specs.Listing.{listing_for, listed_for};
 
-use crate::{Listed, numbers};
+use crate::Lent;
+use crate::refusals::Refusal;
 
 // Whether a byte names a slot, A to H.
 pub fn is_slot(slot: u8) -> bool
     ensures { result ≡ is_slot slot }
 {
-    if slot < b'A' {
-        return false;
-    }
-    slot <= b'H'
+    (b'A'..=b'H').contains(&slot)
 }
 
-// Writes the listing at the front of the buffer. 8, 14.
-pub fn list(slot: u8, arity: u8, roots: u8, from: &[u64], to: &[u64], out: &mut [u8]) -> Listed
-    requires { LentPlan arity roots from.now to.now }
-    ensures value { result ≡ listing_for slot (plan_of_columns arity roots from.now to.now) (length out.old) }
-    ensures out_after { out.new ≡ listed_for slot (plan_of_columns arity roots from.now to.now) out.old }
+// Writes the listing at the front of the buffer, and returns the number of its bytes. 8, 14.
+pub fn list(slot: u8, plan: Lent, out: &mut [u8]) -> Result<usize, Refusal>
+    ensures value { result ≡ listing_for slot (lent_plan plan.entry) (length out.old) }
+    ensures out_after { out.new ≡ listed_for slot (lent_plan plan.entry) out.old }
 {
     if !is_slot(slot) {
-        return Listed::Refused(numbers::SLOT_OUTSIDE);
+        return Err(Refusal::SlotOutside);
     }
-    let bytes = tables::list::listing_length(from, to);
-    if out.len() < bytes {
-        return Listed::Refused(numbers::BUFFER_TOO_SHORT);
+    if out.len() < tables::list::listing_length(plan.from, plan.to) {
+        return Err(Refusal::BufferTooShort);
     }
-    let end = tables::list::list_into(slot, arity, roots, from, to, out);
-    Listed::Bytes(end)
+    Ok(tables::list::list_into(slot, plan.shape, plan.from, plan.to, out))
 }

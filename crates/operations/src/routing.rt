@@ -1,68 +1,68 @@
 // Matching and routing a code by the columns that a plan lends (document 01, "Records": "W .. `ok⇥` and the image", and "Forms"). The
 // code is judged first; the work is done by the crate `tables`.
-ghost use Rattle.std.specs.Prelude.{◌≡◌, List, ℕ, length, drop};
+ghost use Rattle.std.specs.Prelude.{◌≡◌, length, drop};
 ghost use Rattle.higman.specs.Limits.{is_code};
 ghost use Rattle.higman.specs.Answers.{routed};
 ghost use Rattle.higman.specs.Text.{word_of};
-ghost use Rattle.words.specs.Bytes.{shape};
+ghost use Rattle.words.specs.Bytes.{shape_of as the_shape};
 ghost use Rattle.columns.specs.Packed.{words_of};
-ghost use Rattle.tables.specs.Lines.{plan_of_columns};
-ghost use Rattle.tables.specs.Routing.{further};
-ghost use Rattle.operations.specs.Plans.{LentPlan};
+ghost use Rattle.tables.specs.Routing.{further, at_place};
+ghost use Rattle.operations.specs.Plans.{lent_plan};
 ghost use Rattle.operations.specs.Routing.{matched_in, matched_place_in, routing_by, image_into};
 
-use crate::{Route, numbers};
-use tables::routing::Routed;
+use crate::Lent;
+use crate::refusals::Refusal;
+use tables::routing::{Image, Match, RouteError};
+use words::Shape;
 
 // The digits that a routed code has at most: `max_code` of higman's Limits.antt.
 const MAX_CODE: usize = 1024;
 
 // Whether a code is one that a plan of the shape routes.
-fn is_code(code: &[u8], arity: u8, roots: u8) -> bool
-    ensures { result ≡ is_code (shape arity roots) (word_of code.now) }
+fn is_code(code: &[u8], shape: Shape) -> bool
+    ensures { result ≡ is_code (the_shape shape) (word_of code.now) }
 {
-    if MAX_CODE < code.len() {
-        return false;
-    }
-    words::spells(code, arity, roots)
+    code.len() <= MAX_CODE && words::spells(code, shape)
 }
 
-// The unmatched tail, as a part of the parcel's code; the whole code where no from-word begins it, or 4 applies. The from-word's place,
-// counted from 1, is written to `place`, and 0 where the tail is the whole code.
-pub fn unmatched<'a>(
-    arity: u8,
-    roots: u8,
-    from: &[u64],
-    code: &'a [u8],
-    place: &mut usize,
-) -> &'a [u8]
-    requires { (to : List ℕ) × LentPlan arity roots from.now to }
-    ensures result_value { result.now ≡ drop (matched_in (shape arity roots) (words_of from.now) code.now) code.now }
-    ensures ref_ptr_value { result.ref_ptr ≡ further (matched_in (shape arity roots) (words_of from.now) code.now)
+// The unmatched tail, as a part of the parcel's code, and the place of the from-word that begins the code, counted from 1; the whole code
+// and no place where no from-word begins it, or 4 applies.
+pub fn unmatched<'a>(plan: Lent, code: &'a [u8]) -> Match<'a>
+    ensures tail { result.tail.now ≡ drop (matched_in (the_shape plan.entry.shape) (words_of plan.entry.from.now) code.now) code.now }
+    ensures tail_ref_ptr { result.tail.ref_ptr ≡ further (matched_in (the_shape plan.entry.shape) (words_of plan.entry.from.now) code.now)
         code.entry.ref_ptr }
-    ensures place_after { place.new ≡ matched_place_in (shape arity roots) (words_of from.now) code.now }
+    ensures place { result.place ≡ at_place (matched_place_in (the_shape plan.entry.shape) (words_of plan.entry.from.now) code.now) }
 {
-    if !is_code(code, arity, roots) {
-        *place = 0;
-        return code;
+    if !is_code(code, plan.shape) {
+        return Match {
+            tail: code,
+            place: None,
+        };
     }
-    tables::routing::unmatched(from, code, place)
+    tables::routing::unmatched(plan.from, code)
 }
 
-// Writes a code's image at the front of the buffer, and tells the place of the pair. 4, 13, 14.
-pub fn route(arity: u8, roots: u8, from: &[u64], to: &[u64], code: &[u8], out: &mut [u8]) -> Route
-    requires { LentPlan arity roots from.now to.now }
-    ensures value { result ≡ routing_by (plan_of_columns arity roots from.now to.now) (word_of code.now)
-        (length out.old) }
-    ensures out_after { out.new ≡ image_into (routed (plan_of_columns arity roots from.now to.now)
-        (word_of code.now)) out.old }
+// The refusal of a code that has no image in a buffer. The code is a proper beginning of a from-word where none begins it.
+impl From<RouteError> for Refusal {
+    ghost use Rattle.operations.specs.Routing.{unrouted};
+
+    ghost from_gives = { λ error refusal. refusal ≡ unrouted error };
+
+    fn from(error: RouteError) -> Refusal {
+        match error {
+            RouteError::TooShort => Refusal::CodeTooShort,
+            RouteError::NoRoom => Refusal::BufferTooShort,
+        }
+    }
+}
+
+// Writes a code's image at the front of the buffer. 4, 13, 14.
+pub fn route(plan: Lent, code: &[u8], out: &mut [u8]) -> Result<Image, Refusal>
+    ensures value { result ≡ routing_by (lent_plan plan.entry) (word_of code.now) (length out.old) }
+    ensures out_after { out.new ≡ image_into (routed (lent_plan plan.entry) (word_of code.now)) out.old }
 {
-    if !is_code(code, arity, roots) {
-        return Route::Refused(numbers::BAD_WORD);
+    if !is_code(code, plan.shape) {
+        return Err(Refusal::BadWord);
     }
-    match tables::routing::route_into(from, to, code, out) {
-        Routed::Image(digits, place) => Route::Image(digits, place),
-        Routed::TooShort => Route::TooShort,
-        Routed::NoRoom => Route::Refused(numbers::BUFFER_TOO_SHORT),
-    }
+    Ok(tables::routing::route_into(plan.from, plan.to, code, out)?)
 }

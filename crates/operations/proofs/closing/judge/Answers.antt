@@ -1,63 +1,25 @@
--- `operations::closing::judge` meets its contract. The verdict is put together from what is wrong with each column, and each arm of a
--- match is told which answer it was.
-use mathlib.Core.Path.{◌≡◌, sym, ◌∙◌, ap}
-use lib.ListN.{length, take}
-use Rattle.higman.specs.Answers.{fault, verdict}
-use Rattle.words.specs.Bytes.{shape}
-use Rattle.columns.specs.Packed.{words_of, rows}
-use Rattle.operations.specs.declared.Fault.{Fault}
-use Rattle.operations.specs.declared.Fault.TheVariants.{Sound}
-use Rattle.operations.specs.declared.Verdict.{Verdict}
-use Rattle.operations.specs.Closing.{fault_of, verdict_of}
-use Rattle.operations.proofs.Verdicts.{verdict_by, verdict_by_columns, words_of_plan}
-use Rattle.operations.proofs.closing.judge.Goals.{After-fault_of, After-fault_of-in-Sound, Start}
+-- `operations::closing::judge` meets its contract: the verdict is put together from what is wrong with each column.
+use Rattle.std.proofs.Common.{sym, ◌∙◌, arith}
+use Rattle.operations.proofs.Exits.{returned}
+use Rattle.operations.proofs.Verdicts.{from_words, to_words, found_from, found_to, judged_from, judged_to}
 use Rattle.operations.proofs.closing.judge.Goals as goal
 
-abbrev judged : Start → Verdict
-judged z = let a = z.args in verdict_of (verdict (shape a.arity a.roots) (rows a.n a.from a.to))
-
-to_fault : Start → Fault
-to_fault z = let a = z.args in fault_of (fault (shape a.arity a.roots) (words_of (take a.n a.to)))
-
--- the verdict by the answer on the from column
-from_fault : (c : After-fault_of) → judged c.before ≡ verdict_by c.fault_of.result (to_fault c.before)
-unfolding to_fault
-from_fault c =
-    let z = c.before in
-    let a = c.args in
-    let from_long : length a.from ≡ 128 = z.well_formed.0.1.0.1 in
-    let to_long : length a.to ≡ 128 = z.well_formed.1.0.1.0.1 in
-    verdict_by_columns a.n a.from a.to (from_long ∙ sym to_long) (shape a.arity a.roots)
-    ∙ ap (λ f. verdict_by f (to_fault z)) (sym c.fault_of.ensures)
-
--- and, where nothing is wrong with that column, by the answer on the to column
-both_faults : (c : After-fault_of-in-Sound) → judged c.before.before.before ≡ verdict_by Sound c.fault_of-in-Sound.result
-unfolding to_fault
-both_faults c =
-    let first = c.before.before in
-    from_fault first
-    ∙ ap (λ f. verdict_by f (to_fault first.before)) c.in-Sound.is
-    ∙ ap (verdict_by Sound) (sym c.fault_of-in-Sound.ensures)
-
 pub fault_of-requires : goal.fault_of-requires
-fault_of-requires c =
-    let a = c.args in
-    let words = words_of_plan (shape a.arity a.roots) (words_of (take a.n a.from)) c.requires.from_words in
-    (c.requires.few, c.requires.in_range, words)
+fault_of-requires c = rw c.shape-shape.ensures (c.requires.few, c.requires.in_range, from_words c.args.draft c.requires)
 
-pub fault_of-requires-in-Sound : goal.fault_of-requires-in-Sound
-fault_of-requires-in-Sound c =
-    let a = c.args in
-    let words = words_of_plan (shape a.arity a.roots) (words_of (take a.n a.to)) c.requires.to_words in
-    (c.requires.few, c.requires.in_range, words)
+pub returns-in_err-fault_of : goal.returns-in_err-fault_of
+returns-in_err-fault_of c =
+    let p = c.args.draft in
+    let f = c.in_err-fault_of.field-0.0 in
+    let e = found_from p c.requires c.shape-shape.ensures c.fault_of.ensures in
+    returned _ f c.from_residual.ensures.1 ∙ judged_from p c.requires (omega arith) f (sym c.in_err-fault_of.was ∙ e)
 
-pub returns-in-Faulty : goal.returns-in-Faulty
-returns-in-Faulty c =
-    let first = c.before in
-    sym (from_fault first ∙ ap (λ f. verdict_by f (to_fault first.before)) c.in-Faulty.is)
+pub fault_of-requires-2 : goal.fault_of-requires-2
+fault_of-requires-2 c = rw c.shape-shape.ensures (c.requires.few, c.requires.in_range, to_words c.args.draft c.requires)
 
-pub returns-in-Faulty-fault_of : goal.returns-in-Faulty-fault_of
-returns-in-Faulty-fault_of c = sym (both_faults c.before ∙ ap (verdict_by Sound) c.in-Faulty-fault_of.is)
-
-pub returns-in-Sound-fault_of : goal.returns-in-Sound-fault_of
-returns-in-Sound-fault_of c = sym (both_faults c.before ∙ ap (verdict_by Sound) c.in-Sound-fault_of.is)
+pub returns : goal.returns
+returns c =
+    let p = c.args.draft in
+    let e = found_from p c.requires c.shape-shape.ensures c.fault_of.ensures in
+    let g = found_to p c.requires c.shape-shape.ensures c.fault_of-2.ensures in
+    g ∙ judged_to p c.requires (omega arith) (sym c.in_ok-fault_of.was ∙ e)

@@ -6,4 +6,4 @@ returns c =
     let a = c.args in
     let from = c.padded-from_places.ensures in
     let to = c.padded-to_places.ensures in
-    λ i. record { arity = a.arity; roots = a.roots; pairs = a.n; from = from i; to = to i }
+    λ i. record { arity = a.shape.arity; roots = a.shape.roots; pairs = a.n; from = from i; to = to i }

@@ -1,5 +1,4 @@
--- `operations::following::inverse` meets its contract: what is kept of the columns of a plan, exchanged.
-use mathlib.Core.Path.{◌∙◌}
+-- `operations::following::inverse` meets its contract: what is kept of a plan with its columns exchanged.
 use Rattle.operations.proofs.KeptValues.{pairs_few, kept}
 use Rattle.operations.proofs.Exchanged.{exchanged_bases, inverse_kept}
 use Rattle.operations.proofs.following.inverse.Goals as goal
@@ -10,5 +9,4 @@ keep-requires c =
     (pairs_few a c.requires, (kept a c.requires).in_range, exchanged_bases a c.requires)
 
 pub returns : goal.returns
-returns c =
-    c.granted.ensures ∙ inverse_kept c.args.a c.keep.result c.keep.ensures
+returns c = inverse_kept c.args.a c.keep.result c.keep.ensures
