@@ -1,9 +1,9 @@
 -- Search in a sorted column: the place that parts the column at a word w, as a binary search finds it, what `place_in` says of the
 -- words of a column, and that the word before the parting begins w if a word of a column without overlap does.
-use Prim.Native.Nat.{ℕ, zero, suc, ◌-◌, ◌≤◌, ◌<◌}
-use mathlib.Core.Path.{◌≡◌, sym, ◌∙◌, ap, subst}
+use Prim.Native.Nat.{ℕ, zero, suc, ◌+◌, ◌-◌, ◌≤◌, ◌<◌}
+use mathlib.Core.Path.{◌≡◌, refl, sym, ◌∙◌, ap, subst}
 use mathlib.Core.Logic.{◌⊎◌, inl, inr, ⊎_elim}
-use mathlib.Core.Bool.{true, false, ◌||◌}
+use mathlib.Core.Bool.{Bool, true, false, ◌||◌}
 use mathlib.Core.List.Memᴰ
 use mathlib.Core.List.{List, [], ◌∷◌, Memᴰ}
 use mathlib.Core.Option.{Option, get_or}
@@ -23,6 +23,7 @@ use Rattle.words.proofs.Codes.{after_drop}
 use Rattle.columns.specs.Packed.{words_of, in_order, sorted}
 use Rattle.columns.specs.Columns.{word_at, PartedAt, place_in, begun_at}
 use Rattle.std.specs.Prelude.{Some, None}
+use Rattle.std.specs.Bool.{then_some}
 use Rattle.std.proofs.lemmas.Option.{cond_some, none-some}
 use Rattle.columns.proofs.InOrder.{InOrder, in_order_of_test, test_of_in_order, in_order_of_begins, in_order_trans, begins_between}
 use Rattle.columns.proofs.Places.{mem_at, sorted_at}
@@ -169,3 +170,16 @@ module _
         earlier = λ j l. unbegun j l (λ e. ap (λ k. begins (word_at column k) (unpack w)) (omega arith) ∙ f (omega arith));
         found = λ l. absurd (omega arith);
       }
+
+  -- so the last word before the parting decides
+  pub begun_or_not : (last : ℕ) → r ≡ last + 1 → then_some (begins (word_at column last) (unpack w)) last ≡ begun_at (words_of column) (unpack w)
+  begun_or_not last e = go (begins (word_at column last) (unpack w)) refl
+    where
+      here : last ≡ r - 1
+      here = omega arith
+
+      go : (b : Bool) → begins (word_at column last) (unpack w) ≡ b → then_some b last ≡ begun_at (words_of column) (unpack w)
+      go true f =
+          let found = begun_found (omega arith) (ap (λ k. begins (word_at column k) (unpack w)) (sym here) ∙ f) in
+          sym (begun_some column (unpack w) last (here ∙ found) (omega (arith, p.within)))
+      go false f = sym (begun_none column (unpack w) (length column) (begun_nowhere (λ h. ap (λ k. begins (word_at column k) (unpack w)) (sym here) ∙ f)) (omega arith))

@@ -35,11 +35,8 @@ pub fn begun_by(column: &[u64], w: u64) -> Option<usize>
     requires column_value_2 { overlap (words_of column.now) ≡ false }
     ensures { result ≡ begun_at (words_of column.now) (unpack w) }
 {
-    let end = first_after(column, w);
-    if end == 0 || !words::begins(column[end - 1], w) {
-        return None;
-    }
-    Some(end - 1)
+    let last = first_after(column, w).checked_sub(1)?;
+    words::begins(column[last], w).then_some(last)
 }
 
 // The run of the words that w begins and does not equal. They stand right behind those in order with w.
@@ -70,10 +67,8 @@ fn covered_block(column: &[u64], arity: u8, w: u64, left: u8, at: usize) -> Opti
     requires in_bounds { (1 ≤ length (unpack w)) × (length (unpack w) + left ≤ max_digits) × AtBlock column.now (unpack w) at }
     ensures { Walked column.now (unpack w) (covered arity (words_of column.now) left (unpack w)) result }
 {
-    if column.len() <= at {
-        return None;
-    }
-    if column[at] == w {
+    let word = *column.get(at)?;
+    if word == w {
         return Some(at + 1);
     }
     if left == 0 {
