@@ -24,8 +24,11 @@ use Rattle.tables.proofs.Lookup.{table_left}
 
 -- in a column of which no word begins w, a word that w begins is longer than w
 module _ (column : List ℕ) (w start end : ℕ) (x : Extending column (unpack w) start end) (n : Unbegun column w) where
-  none_at : (k : ℕ) → k < length column → begins_properly (unpack w) (word_at column k) ≡ false → begins (unpack w) (word_at column k) ≡ false
-  none_at k h e = ⊎_elim (λ t. by_tail (tail_of_begins (unpack w) (word_at column k) t)) (λ f. f) (passes (begins (unpack w) (word_at column k)))
+  none_at : (k : ℕ) → k < length column → begins_properly (unpack w) (word_at column k) ≡ false
+      → begins (unpack w) (word_at column k) ≡ false
+  none_at k h e =
+      let u = word_at column k in
+      ⊎_elim (λ t. by_tail (tail_of_begins (unpack w) u t)) (λ f. f) (passes (begins (unpack w) u))
     where
       same : word_at column k ≡ unpack w → begins (word_at column k) (unpack w) ≡ true
       same q = subst (λ u. begins (word_at column k) u ≡ true) (append-nil (word_at column k) ∙ q) (begins_append (word_at column k) [])

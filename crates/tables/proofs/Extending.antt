@@ -95,6 +95,10 @@ module _ (from to : List ℕ) (n : ℕ) where
         to_packed = λ p. f.to_packed (e.to_packed p);
       }
 
+-- the next lot of the pairs that are left, and the rest behind it
+pub record Lot (left t rest : Table) : Type 0 where
+  pub split : left ≡ t ++ rest
+
 -- The turns of a loop that writes the pairs of a table in lots: those that stand behind the first n, and those that are left.
 pub record Filling (whole left : Table) (n : ℕ) (from₀ to₀ from to : List ℕ) (rows : ℕ) : Type 0 where
   pub done : Table
@@ -115,21 +119,24 @@ module _ {whole left : Table} {n : ℕ} {from₀ to₀ from to : List ℕ} {rows
       subst (λ t. (all pair_fits t ≡ true) × Extended t n from₀ to₀ from to rows) same (f.fit, f.extended)
 
   -- the next lot
-  module _ (t rest : Table) (e : left ≡ t ++ rest) where
+  module _ {t rest : Table} (lot : Lot left t rest) where
     pub filling_room : Room n whole from₀ to₀ → Room rows t from to
     filling_room r =
         let l : length whole ≡ length f.done + (length t + length rest) =
-        ap length (f.split ∙ ap (λ u. f.done ++ u) e) ∙ length-append f.done (t ++ rest) ∙ ap (λ k. length f.done + k) (length-append t rest) in
+        ap length (f.split ∙ ap (λ u. f.done ++ u) lot.split)
+        ∙ length-append f.done (t ++ rest)
+        ∙ ap (λ k. length f.done + k) (length-append t rest) in
         (omega (arith, f.extended.rows, f.from_long), omega (arith, f.extended.rows, f.to_long))
 
     pub filling_broken : all pair_fits t ≡ false → all pair_fits whole ≡ false
-    filling_broken b = ap (all pair_fits) (f.split ∙ ap (λ u. f.done ++ u) e) ∙ fits_not f.done (t ++ rest) f.fit (fits_not_first t rest b)
+    filling_broken b =
+        ap (all pair_fits) (f.split ∙ ap (λ u. f.done ++ u) lot.split) ∙ fits_not f.done (t ++ rest) f.fit (fits_not_first t rest b)
 
     pub filling_step : {from' to' : List ℕ} {r : ℕ} → (all pair_fits t ≡ true) × Extended t rows from to from' to' r → length from' ≡ length from → length to' ≡ length to → Filling whole rest n from₀ to₀ from' to' r
     filling_step g h k =
         record {
           done = f.done ++ t;
-          split = f.split ∙ ap (λ u. f.done ++ u) e ∙ sym (append_assoc f.done t rest);
+          split = f.split ∙ ap (λ u. f.done ++ u) lot.split ∙ sym (append_assoc f.done t rest);
           fit = fits_both f.done t f.fit g.0;
           extended = extend_both from₀ to₀ n f.extended g.1;
           from_long = h ∙ f.from_long;

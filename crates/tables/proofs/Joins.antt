@@ -54,9 +54,6 @@ abbrev pub alike : Word → Word → List ℕ → List ℕ → ℕ → ℕ → �
 alike w v f t k i m = same_table (rows_at k m f t) (prefixed w (gather (count i m) (λ j. whole (child v j))))
 
 module _ (w v : Word) (f t : List ℕ) (k i m : ℕ) where
-  pub alike_none : m ≡ 0 → alike w v f t k i m ≡ true
-  alike_none e = ap (alike w v f t k i) e
-
   pub alike_step : (k' i' m' : ℕ) → k' ≡ suc k → i' ≡ suc i → m ≡ suc m' → k < length f → k < length t
       → alike w v f t k i m ≡ (same_word (unpack (get_or f k 0)) (child w i) && same_word (unpack (get_or t k 0)) (child v i) && alike w v f t k' i' m')
   alike_step k' i' m' p q r h h' =

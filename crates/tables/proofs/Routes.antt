@@ -45,7 +45,9 @@ code_ways code t = ways_of_test 9 (word_of code) t
 -- the word that begins the front of w is the word that begins w
 pub begun_at_front : (column : List ℕ) (x : ℕ) (w : Word) → packed_words column → unpack x ≡ take max_digits w
     → begun_at (words_of column) (unpack x) ≡ begun_at (words_of column) w
-begun_at_front column x w t e = ap (λ r. if ltb r (length (words_of column)) then Some r else None) (place_of_front (place_in (words_of column) (unpack x)) refl)
+begun_at_front column x w t e =
+    let c = words_of column in
+    ap (λ r. if ltb r (length c) then Some r else None) (place_of_front (place_in c (unpack x)) refl)
   where
     same : (k : ℕ) → k < length column → begins (word_at column k) w ≡ begins (word_at column k) (unpack x)
     same k h =
@@ -122,7 +124,8 @@ module _ (from to : List ℕ) (o : Operand from to) (code : List ℕ) (t : IsCod
 
   found_bytes : word_bytes (word_at to k ++ word_of (drop n code)) ≡ word_bytes (word_at to k) ++ drop n code
   found_bytes =
-      map-append digit_byte (word_at to k) (word_of (drop n code)) ∙ ap (λ l. word_bytes (word_at to k) ++ l) (bytes_of_word (drop n code) tail_ways)
+      map-append digit_byte (word_at to k) (word_of (drop n code))
+      ∙ ap (λ l. word_bytes (word_at to k) ++ l) (bytes_of_word (drop n code) tail_ways)
 
   pub found_at : begun_at (words_of from) (word_of code) ≡ Some k → Found from to code k
   unfolding n

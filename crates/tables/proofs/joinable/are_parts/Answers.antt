@@ -31,7 +31,9 @@ pub returns-then-not-is_part : goal.returns-then-not-is_part
 returns-then-not-is_part c =
     let a = c.args in
     let no_part = sym c.is_part.ensures ∙ c.if-not-is_part.true in
-    let here = turn (unpack a.w) (unpack a.v) a.from.now a.to.now a.at a.arity c.loop-i.i (omega arith) (omega arith) (omega arith) (omega arith) in
+    let here =
+    turn (unpack a.w) (unpack a.v) a.from.now a.to.now a.at a.arity c.loop-i.i
+    (omega arith) (omega arith) (omega arith) (omega arith) in
     sym (rw no_part at (c.loop-i.invariant ∙ here))
 
 pub returns-then-not-is_part-2 : goal.returns-then-not-is_part-2
@@ -39,7 +41,9 @@ returns-then-not-is_part-2 c =
     let a = c.args in
     let part = sym c.is_part.ensures ∙ c.if-not-is_part.false in
     let no_part = sym c.is_part-in-loop-i.ensures ∙ c.if-not-is_part-2.true in
-    let here = turn (unpack a.w) (unpack a.v) a.from.now a.to.now a.at a.arity c.loop-i.i (omega arith) (omega arith) (omega arith) (omega arith) in
+    let here =
+    turn (unpack a.w) (unpack a.v) a.from.now a.to.now a.at a.arity c.loop-i.i
+    (omega arith) (omega arith) (omega arith) (omega arith) in
     sym (rw (part, no_part) at (c.loop-i.invariant ∙ here))
 
 pub loop-i-preserved : goal.loop-i-preserved
@@ -47,5 +51,7 @@ loop-i-preserved c =
     let a = c.args in
     let part = sym c.is_part.ensures ∙ c.if-not-is_part.false in
     let part' = sym c.is_part-in-loop-i.ensures ∙ c.if-not-is_part-2.false in
-    let here = turn (unpack a.w) (unpack a.v) a.from.now a.to.now a.at a.arity c.loop-i.i (omega arith) (omega arith) (omega arith) (omega arith) in
+    let here =
+    turn (unpack a.w) (unpack a.v) a.from.now a.to.now a.at a.arity c.loop-i.i
+    (omega arith) (omega arith) (omega arith) (omega arith) in
     rw (part, part') at (c.loop-i.invariant ∙ here)

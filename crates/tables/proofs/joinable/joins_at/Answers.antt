@@ -8,12 +8,14 @@ use Rattle.tables.proofs.joinable.joins_at.Goals as goal
 pub returns-then-last-ne1 : goal.returns-then-last-ne1
 returns-then-last-ne1 c =
     let a = c.args in
-    sym (from_digit a.arity c.requires.0 a.from.now a.to.now a.at (omega arith) (omega arith) (λ e. c.if-last-ne1.true (c.last.ensures ∙ e)))
+    sym (from_digit a.arity c.requires.0 a.from.now a.to.now a.at (omega arith) (omega arith)
+    (λ e. c.if-last-ne1.true (c.last.ensures ∙ e)))
 
 pub returns-then-last-ne1-2 : goal.returns-then-last-ne1-2
 returns-then-last-ne1-2 c =
     let a = c.args in
-    sym (to_digit a.arity c.requires.0 a.from.now a.to.now a.at (omega arith) (omega arith) (λ e. c.if-last-ne1-2.true (c.last-2.ensures ∙ e)))
+    sym (to_digit a.arity c.requires.0 a.from.now a.to.now a.at (omega arith) (omega arith)
+    (λ e. c.if-last-ne1-2.true (c.last-2.ensures ∙ e)))
 
 pub returns-then-w-eq0 : goal.returns-then-w-eq0
 returns-then-w-eq0 c =

@@ -13,7 +13,9 @@ use Rattle.tables.proofs.list.listing_length.Goals as goal
 small_record : (c : goal.After-pair_length-sum) → c.pair_length-sum.result ≤ 36
 small_record c =
     let i = length c.loop-f.yielded in
-    let (h, k, e, e') = zip_turn c.args.from.now c.args.to.now c.loop-f.yielded _ _ c.next.new.self _ (cc) (cc) c.loop-f.yielded_by _ c.in-Some.is c.next.ensures.steps in
+    let (h, k, e, e') =
+    zip_turn c.args.from.now c.args.to.now c.loop-f.yielded _ _ c.next.new.self _ (cc) (cc) c.loop-f.yielded_by _
+    c.in-Some.is c.next.ensures.steps in
     let x : c.in-Some.field-0-0.now < 2 ^ 64 = omega (arith, e 0, c.type_inv.from i) in
     let y : c.in-Some.field-0-1.now < 2 ^ 64 = omega (arith, e' 0, c.type_inv.to i) in
     omega (arith, pair_small c.in-Some.field-0-0.now c.in-Some.field-0-1.now x y)
@@ -24,7 +26,9 @@ overflow_add-sum c = omega (arith, small_record c)
 
 pub loop-f-preserved : goal.loop-f-preserved
 loop-f-preserved c =
-    let (h, k, e, e') = zip_turn c.args.from.now c.args.to.now c.loop-f.yielded _ _ c.next.new.self _ (cc) (cc) c.loop-f.yielded_by _ c.in-Some.is c.next.ensures.steps in
+    let (h, k, e, e') =
+    zip_turn c.args.from.now c.args.to.now c.loop-f.yielded _ _ c.next.new.self _ (cc) (cc) c.loop-f.yielded_by _
+    c.in-Some.is c.next.ensures.steps in
     let rest = lines_size c.args.from.now c.args.to.now (length c.loop-f.yielded) h (omega arith) (e 0) (e' 0) in
     let small = small_record c in
     rw length-append record { sized = omega arith; within = omega arith; small = omega arith }
@@ -32,6 +36,8 @@ loop-f-preserved c =
 pub returns : goal.returns
 returns c slot s =
     let a = c.args in
-    let all = zip_end a.from.now a.to.now c.loop-f.yielded _ _ c.next.new.self _ (cc) (cc) c.loop-f.yielded_by c.in-None.is c.next.ensures.steps in
+    let all =
+    zip_end a.from.now a.to.now c.loop-f.yielded _ _ c.next.new.self _ (cc) (cc) c.loop-f.yielded_by
+    c.in-None.is c.next.ensures.steps in
     let none = lines_none a.from.now a.to.now (length c.loop-f.yielded) (omega (arith, all)) in
     omega (arith, ap length none, listing_size slot s (table a.from.now a.to.now))

@@ -19,8 +19,11 @@ pair_line-next-requires c =
     let from = a.from.now in
     let to = a.to.now in
     let i = length c.loop-f.yielded in
-    let (h, k, e, e') = zip_turn from to c.loop-f.yielded _ _ c.next.new.self _ (cc) (cc) c.loop-f.yielded_by _ c.in-Some.is c.next.ensures.steps in
-    line_room (lines_from from to) (length from) a.out.now a.at c.loop-f.invariant (pair_record (pair_of c.in-Some.field-0-0.now c.in-Some.field-0-1.now))
+    let (h, k, e, e') =
+    zip_turn from to c.loop-f.yielded _ _ c.next.new.self _ (cc) (cc) c.loop-f.yielded_by _
+    c.in-Some.is c.next.ensures.steps in
+    line_room (lines_from from to) (length from) a.out.now a.at c.loop-f.invariant
+    (pair_record (pair_of c.in-Some.field-0-0.now c.in-Some.field-0-1.now))
     (omega arith) (lines_step from to i h (omega arith) (e 0) (e' 0))
 
 pub loop-f-preserved : goal.loop-f-preserved
@@ -29,9 +32,13 @@ loop-f-preserved c =
     let from = a.from.now in
     let to = a.to.now in
     let i = length c.loop-f.yielded in
-    let (h, k, e, e') = zip_turn from to c.loop-f.yielded _ _ c.next.new.self _ (cc) (cc) c.loop-f.yielded_by _ c.in-Some.is c.next.ensures.steps in
-    line_written (lines_from from to) (length from) a.out.now a.at c.loop-f.invariant (pair_record (pair_of c.in-Some.field-0-0.now c.in-Some.field-0-1.now))
-    (omega arith) (lines_step from to i h (omega arith) (e 0) (e' 0)) _ (length-append c.loop-f.yielded _) h (omega arith) c.pair_line-next.ensures
+    let (h, k, e, e') =
+    zip_turn from to c.loop-f.yielded _ _ c.next.new.self _ (cc) (cc) c.loop-f.yielded_by _
+    c.in-Some.is c.next.ensures.steps in
+    line_written (lines_from from to) (length from) a.out.now a.at c.loop-f.invariant
+    (pair_record (pair_of c.in-Some.field-0-0.now c.in-Some.field-0-1.now))
+    (omega arith) (lines_step from to i h (omega arith) (e 0) (e' 0))
+    _ (length-append c.loop-f.yielded _) h (omega arith) c.pair_line-next.ensures
 
 pub returns : goal.returns
 returns c =

@@ -8,7 +8,8 @@ use Rattle.words.specs.Packed.{unpack}
 use Rattle.words.proofs.Sizes.{length_child}
 use Rattle.tables.specs.Reduction.{state}
 use Rattle.tables.proofs.Cuts.{block_place}
-use Rattle.tables.proofs.Steps.{write_grows, copy_places, join_places, copied, divided, rejoined, reducing_start, reducing_block, reducing_step, reducing_end}
+use Rattle.tables.proofs.Steps.{write_grows, copy_places, join_places, copied, divided, rejoined}
+use Rattle.tables.proofs.Steps.{reducing_start, reducing_block, reducing_step, reducing_end}
 use Rattle.tables.proofs.reduce.+reduce_block_reduce_ways.Goals as goal
 
 pub reduce_block-bounds-from-read : goal.reduce_block-bounds-from-read
@@ -112,14 +113,16 @@ reduce_ways-loop-i-preserved t c =
     let a = c.args in
     let l = c.loop-i in
     let k = c.child in
-    reducing_step a.arity a.left (unpack a.w) a.last _ l.i _ l.invariant c.loop-i-test.true (unpack k.result) k.ensures _ c.reduce_block-next.ensures.places
+    reducing_step a.arity a.left (unpack a.w) a.last _ l.i _ l.invariant c.loop-i-test.true (unpack k.result) k.ensures _
+    c.reduce_block-next.ensures.places
     c.reduce_block-next.ensures.reduces
 
 pub reduce_ways-returns : goal.reduce_ways-returns
 reduce_ways-returns t c =
     let a = c.args in
     let l = c.loop-i in
-    record { places = l.invariant.places; reduces = reducing_end a.arity a.left (unpack a.w) a.last _ l.i _ l.invariant c.loop-i-test.false }
+    let all = reducing_end a.arity a.left (unpack a.w) a.last _ l.i _ l.invariant c.loop-i-test.false in
+    record { places = l.invariant.places; reduces = all }
 
 pub reduce_ways-returns-2 : goal.reduce_ways-returns-2
 reduce_ways-returns-2 t c =
@@ -127,5 +130,7 @@ reduce_ways-returns-2 t c =
     let l = c.loop-i in
     let k = c.child in
     let b = c.reduce_block-next.ensures in
-    let x = reducing_step a.arity a.left (unpack a.w) a.last _ l.i _ l.invariant c.loop-i-test.true (unpack k.result) k.ensures _ b.places b.reduces in
+    let x =
+    reducing_step a.arity a.left (unpack a.w) a.last _ l.i _ l.invariant c.loop-i-test.true (unpack k.result) k.ensures _
+    b.places b.reduces in
     record { places = b.places; reduces = reducing_end a.arity a.left (unpack a.w) a.last _ (l.i + 1) _ x (omega arith) }

@@ -22,7 +22,12 @@ use Rattle.tables.proofs.Joining.{kept_without_join}
 use Rattle.tables.proofs.reduce.reduce.Goals as goal
 
 -- the blocks of the roots, as the call of `reduce_ways` counts them, and what their reduction comes to
-module _ (s : Shape) (from to : List ℕ) (fit : (i : ℕ) → get_or from i 0 < 2 ^ 64) (range : T (shape_in_range s)) (r : Reducible s (table from to)) where
+module _
+    (s : Shape)
+    (from to : List ℕ)
+    (fit : (i : ℕ) → get_or from i 0 < 2 ^ 64)
+    (range : T (shape_in_range s))
+    (r : Reducible s (table from to)) where
   deep : longest (froms (table from to)) ≤ suc 15
   unfolding max_digits
   deep = longest_fits from to fit
@@ -64,5 +69,6 @@ pub returns-clause-keeps : goal.returns-clause-keeps
 returns-clause-keeps c =
     let a = c.args in
     let s = shape_of a.shape in
-    (c.reduce_ways-end.ensures.reduces (blocks s a.from.now a.to.now (λ i. omega (arith, c.type_inv.from i)) c.requires.3 c.requires.4)).written
+    let roots = blocks s a.from.now a.to.now (λ i. omega (arith, c.type_inv.from i)) c.requires.3 c.requires.4 in
+    (c.reduce_ways-end.ensures.reduces roots).written
     ∙ kept s a.from.now a.to.now (λ i. omega (arith, c.type_inv.from i)) c.requires.3 c.requires.4

@@ -17,7 +17,7 @@ use Rattle.tables.specs.Spread.{beneath}
 use Rattle.tables.specs.Spreading.{pair}
 use Rattle.tables.proofs.Lookup.{packed_at, packed_zero, packed_tail}
 use Rattle.tables.proofs.Beneath.{none_before, none_behind, beneath_skip, beneath_stop, beneath_take}
-use Rattle.tables.proofs.Extending.{filling_start, filling_end, filling_room, filling_broken, filling_step}
+use Rattle.tables.proofs.Extending.{Lot, filling_start, filling_end, filling_room, filling_broken, filling_step}
 use Rattle.tables.proofs.spreading.spread_beneath.Invariants.{left}
 use Rattle.tables.proofs.spreading.spread_beneath.Goals as goal
 
@@ -27,12 +27,15 @@ module _ (u v : ℕ) (from to : List ℕ) (i x : ℕ) where
   own = pair (unpack u ++ unpack x) (word_at to i ++ unpack 0) ∷ []
 
   turn : i < length from → i < length to → after (unpack v) (word_at from i) ≡ some (unpack x)
-      → left u v from to i ≡ own ++ left u v from to (i + 1)
+      → Lot (left u v from to i) own (left u v from to (i + 1))
   turn h k e =
       let w = word_at to i in
       let whole : w ≡ w ++ unpack 0 = sym (ap (λ y. w ++ y) unpack_zero ∙ append-nil w) in
-      beneath_take (unpack u) (unpack v) from to i (unpack x) h k e
-      ∙ ap (λ y. pair (unpack u ++ unpack x) y ∷ left u v from to (i + 1)) whole
+      record {
+        split =
+            beneath_take (unpack u) (unpack v) from to i (unpack x) h k e
+            ∙ ap (λ y. pair (unpack u ++ unpack x) y ∷ left u v from to (i + 1)) whole;
+      }
 
 pub loop-i-init : goal.loop-i-init
 loop-i-init c =
@@ -43,13 +46,17 @@ loop-i-init c =
     (left a.u a.v a.from.now a.to.now c.extending-run.result.start)
     a.n a.froms.now a.tos.now
     (beneath_skip (unpack a.u) (unpack a.v) c.extending-run.result.start a.from.now a.to.now c.requires.operand.plain.long
-    (none_before a.from.now a.v c.extending-run.result.start c.extending-run.result.end x c.requires.unbegun) (omega (arith, x.forward, x.within)))
+    (none_before a.from.now a.v c.extending-run.result.start c.extending-run.result.end x c.requires.unbegun)
+    (omega (arith, x.forward, x.within)))
 
 pub tail-tail-requires : goal.tail-tail-requires
-tail-tail-requires c = (
-  packed_at c.args.from.now c.requires.operand.plain.from_packed c.loop-i.i (omega arith),
-  begins_of_proper (unpack c.args.v) (word_at c.args.from.now c.loop-i.i) (c.extending-run.ensures.inside c.loop-i.i (omega arith) (omega arith)),
-)
+tail-tail-requires c =
+    let a = c.args in
+    let i = c.loop-i.i in
+    let longer = c.extending-run.ensures.inside i (omega arith) (omega arith) in (
+      packed_at a.from.now c.requires.operand.plain.from_packed i (omega arith),
+      begins_of_proper (unpack a.v) (word_at a.from.now i) longer,
+    )
 
 pub put-requires-clause-t : goal.put-requires-clause-t
 put-requires-clause-t c =
@@ -67,23 +74,29 @@ pub put-requires-clause-n_in_bounds : goal.put-requires-clause-n_in_bounds
 put-requires-clause-n_in_bounds c =
     let a = c.args in
     let i = c.loop-i.i in
-    let here = turn a.u a.v a.from.now a.to.now i c.tail-tail.result (omega arith) (omega (arith, c.requires.operand.plain.long)) c.tail-tail.ensures in
-    let room = filling_room c.loop-i.invariant (own a.u a.v a.from.now a.to.now i c.tail-tail.result) (left a.u a.v a.from.now a.to.now (i + 1)) here c.requires.room in
+    let here =
+    turn a.u a.v a.from.now a.to.now i c.tail-tail.result
+    (omega arith) (omega (arith, c.requires.operand.plain.long)) c.tail-tail.ensures in
+    let room = filling_room c.loop-i.invariant here c.requires.room in
     (omega arith, omega arith)
 
 pub returns-in_err-rows : goal.returns-in_err-rows
 returns-in_err-rows c =
     let a = c.args in
     let i = c.loop-i.i in
-    let here = turn a.u a.v a.from.now a.to.now i c.tail-tail.result (omega arith) (omega (arith, c.requires.operand.plain.long)) c.tail-tail.ensures in
-    rw c.from_residual.ensures (filling_broken c.loop-i.invariant (own a.u a.v a.from.now a.to.now i c.tail-tail.result) (left a.u a.v a.from.now a.to.now (i + 1)) here c.in_err-rows.ensures)
+    let here =
+    turn a.u a.v a.from.now a.to.now i c.tail-tail.result
+    (omega arith) (omega (arith, c.requires.operand.plain.long)) c.tail-tail.ensures in
+    rw c.from_residual.ensures (filling_broken c.loop-i.invariant here c.in_err-rows.ensures)
 
 pub loop-i-preserved : goal.loop-i-preserved
 loop-i-preserved c =
     let a = c.args in
     let i = c.loop-i.i in
-    let here = turn a.u a.v a.from.now a.to.now i c.tail-tail.result (omega arith) (omega (arith, c.requires.operand.plain.long)) c.tail-tail.ensures in
-    filling_step c.loop-i.invariant (own a.u a.v a.from.now a.to.now i c.tail-tail.result) (left a.u a.v a.from.now a.to.now (i + 1)) here c.in_ok-rows.ensures c.put.auto.froms c.put.auto.tos
+    let here =
+    turn a.u a.v a.from.now a.to.now i c.tail-tail.result
+    (omega arith) (omega (arith, c.requires.operand.plain.long)) c.tail-tail.ensures in
+    filling_step c.loop-i.invariant here c.in_ok-rows.ensures c.put.auto.froms c.put.auto.tos
 
 pub returns : goal.returns
 returns c =

@@ -67,7 +67,8 @@ pub spread_beneath-requires-clause-room : goal.spread_beneath-requires-clause-ro
 spread_beneath-requires-clause-room c =
     let a = c.args in
     let first = first_of_unbegun a.from.now (unpack a.v) (sym c.in-None.ensures) in
-    subst (λ t. Room a.n t a.froms.now a.tos.now) (parts a.u a.v a.from.now a.to.now c.requires.operand.plain.long _ first refl) c.requires.room
+    subst (λ t. Room a.n t a.froms.now a.tos.now)
+    (parts a.u a.v a.from.now a.to.now c.requires.operand.plain.long _ first refl) c.requires.room
 
 pub returns-in-Some : goal.returns-in-Some
 returns-in-Some c =
