@@ -3,13 +3,14 @@
 use Prim.Native.Nat.{ℕ, ◌-◌, ◌≤◌}
 use mathlib.Core.Path.{◌≡◌, sym, ◌∙◌, ap, ap₂}
 use mathlib.Core.List.{List, ◌++◌}
+use native.Mathlib.Omega.{arith}
 use lib.ListN.{length, take, drop, replicate, length-map}
-use Rattle.std.proofs.lemmas.List.{drop-replicate}
-use lib.Seq.{length-take-le}
+use Rattle.std.proofs.lemmas.List.{drop-replicate, take_at}
+use lib.Seq.{length-take-le, take-length}
 use Rattle.higman.specs.Limits.{max_pairs}
 use Rattle.words.specs.Packed.{unpack}
 use Rattle.words.specs.Bytes.{shape}
-use Rattle.columns.specs.Packed.{words_of, rows}
+use Rattle.columns.specs.Packed.{words_of, table, rows}
 use Rattle.columns.proofs.Rows.{rows_length}
 use Rattle.columns.proofs.Rearranged.{froms_table, tos_table}
 use Rattle.operations.specs.Plans.{column, packed}
@@ -34,3 +35,14 @@ filled_packed arity roots n from to h k =
     let left = ap column (froms_table (take n from) (take n to) (f ∙ sym t)) ∙ column_of (take n from) n f in
     let right = ap column (tos_table (take n from) (take n to) (f ∙ sym t)) ∙ column_of (take n to) n t in
     sym (λ i. record { arity = arity; roots = roots; pairs = count i; from = left i; to = right i })
+
+-- the words that are filled up with zeros stand in front
+pub front_of_filling : (l : List ℕ) → take (length l) (filling (length l) l) ≡ l
+front_of_filling l = take_at (take (length l) l) (replicate (max_pairs - length l) 0) (length l) (ap length (take-length l)) ∙ take-length l
+
+-- two columns that are filled up are the packed plan of their pairs
+pub filled_table : (arity roots : ℕ) (from to : List ℕ) → length from ≡ length to
+    → filled_plan arity roots (length from) from to ≡ packed (record { shape = shape arity roots; rows = table from to })
+filled_table arity roots from to e =
+    filled_packed arity roots (length from) from to (omega arith) (omega arith)
+    ∙ ap₂ (λ f t. packed (record { shape = shape arity roots; rows = table f t })) (take-length from) (ap (λ n. take n to) e ∙ take-length to)

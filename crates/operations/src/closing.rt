@@ -2,7 +2,7 @@
 // column", and what is kept of a draft that passes them. The words of a draft stand in any order, so that a column is copied and sorted
 // before it is checked. The pairs are sorted once, by their from-words, for the check of that column and for keeping. M has checked the
 // words of a draft one by one; here they are known to be words of the shape.
-ghost use Rattle.std.specs.Prelude.{◌≡◌, true, ◌≤◌, T, length, take};
+ghost use Rattle.std.specs.Prelude.{◌≡◌, true, ◌≤◌, T, length};
 ghost use Rattle.higman.specs.Words.{is_word};
 ghost use Rattle.higman.specs.Bases.{all};
 ghost use Rattle.higman.specs.Limits.{shape_in_range, max_pairs};
@@ -13,7 +13,7 @@ ghost use Rattle.operations.specs.Plans.{shape_of, rows_of};
 ghost use Rattle.operations.specs.Closing.{fault_of, verdict_of, closing, DraftColumns};
 ghost use Rattle.operations.specs.Keeping.{SortedFault};
 
-use crate::{Column, Fault, MAX_PAIRS, Plan, Reason, keeping};
+use crate::{Column, Fault, Plan, Reason, following, keeping};
 use columns::sorting;
 use words::Shape;
 
@@ -48,25 +48,27 @@ fn fault_in(column: Column, keys: &mut [u64], values: &mut [u64], shape: Shape) 
     sorted_fault(column, keys, shape)
 }
 
-// What is wrong with a column, by its first n words. Two copies are sorted, so that the column stays as it came.
+// What is wrong with a column. Two copies are sorted, so that the column stays as it came.
 #[tactic(auto, using(columns::proofs::Limits::pair_limit))]
-fn fault_of(column: Column, words: [u64; MAX_PAIRS], n: usize, shape: Shape) -> Result<(), Fault>
-    requires { (n ≤ max_pairs) × T (shape_in_range (the_shape shape)) × T (all (is_word (the_shape shape)) (words_of (take n words))) }
-    ensures { result ≡ fault_of column (fault (the_shape shape) (words_of (take n words))) }
+fn fault_of(column: Column, words: &[u64], shape: Shape) -> Result<(), Fault>
+    requires { (length words.now ≤ max_pairs) × T (shape_in_range (the_shape shape)) × T (all (is_word (the_shape shape)) (words_of words.now)) }
+    ensures { result ≡ fault_of column (fault (the_shape shape) (words_of words.now)) }
 {
-    let mut keys = words;
-    let mut values = words;
+    let n = words.len();
+    let mut keys = following::padded(words, n);
+    let mut values = keys;
     fault_in(column, &mut keys[..n], &mut values[..n], shape)
 }
 
 // "the verdict on a plan names the column and, within it, the reason"
+#[tactic(auto, using(columns::proofs::Limits::pair_limit))]
 pub fn judge(draft: Plan) -> Result<(), Fault>
     requires { DraftColumns draft }
     ensures { result ≡ verdict_of (verdict (shape_of draft) (rows_of draft)) }
 {
     let shape = draft.shape();
-    fault_of(Column::From, draft.from, draft.pairs, shape)?;
-    fault_of(Column::To, draft.to, draft.pairs, shape)
+    fault_of(Column::From, &draft.from[..draft.pairs], shape)?;
+    fault_of(Column::To, &draft.to[..draft.pairs], shape)
 }
 
 // "E closes: reduce and keep."
@@ -81,6 +83,6 @@ pub fn close(draft: Plan) -> Result<Plan, Fault>
     let keys = &mut from[..draft.pairs];
     let values = &mut to[..draft.pairs];
     fault_in(Column::From, keys, values, shape)?;
-    fault_of(Column::To, draft.to, draft.pairs, shape)?;
+    fault_of(Column::To, &draft.to[..draft.pairs], shape)?;
     Ok(keeping::keep_sorted(keys, values, shape))
 }

@@ -6,9 +6,10 @@ ghost use Rattle.std.specs.Prelude.{◌≡◌, Ok, true, ◌≤◌, T, length};
 ghost use Rattle.higman.specs.Limits.{shape_in_range, max_pairs, power_in_range};
 ghost use Rattle.higman.specs.Answers.{identity_plan, inverted, powered};
 ghost use Rattle.words.specs.Bytes.{shape_of as the_shape};
+ghost use Rattle.columns.specs.Packed.{table};
 ghost use Rattle.operations.specs.Plans.{plan_of, shape_of, is_plan, packed};
 ghost use Rattle.operations.specs.Answers.{making, composing, repeating};
-ghost use Rattle.operations.specs.Filled.{filling, filled_plan};
+ghost use Rattle.operations.specs.Filled.{filling};
 
 use crate::refusals::Refusal;
 use crate::{MAX_PAIRS, Plan, keeping};
@@ -32,17 +33,18 @@ pub fn padded(column: &[u64], n: usize) -> [u64; MAX_PAIRS]
     places
 }
 
-// The plan of the first n pairs of two columns.
-fn filled(from: &[u64], to: &[u64], n: usize, shape: Shape) -> Plan
-    requires { (n ≤ max_pairs) × (n ≤ length from.now) × (n ≤ length to.now) }
-    ensures { result ≡ filled_plan shape.arity shape.roots n from.now to.now }
+// The plan of the pairs of two columns.
+fn filled(from: &[u64], to: &[u64], shape: Shape) -> Plan
+    requires { (length from.now ≤ max_pairs) × (length from.now ≡ length to.now) }
+    ensures { result ≡ packed (record { shape = the_shape shape; rows = table from.now to.now }) }
 {
-    let from_places = padded(from, n);
-    let to_places = padded(to, n);
+    let pairs = from.len();
+    let from_places = padded(from, pairs);
+    let to_places = padded(to, pairs);
     Plan {
         arity: shape.arity,
         roots: shape.roots,
-        pairs: n,
+        pairs: pairs,
         from: from_places,
         to: to_places,
     }
@@ -79,7 +81,7 @@ fn composed(a: Plan, b: Plan) -> Result<Plan, Refusal>
     if MAX_PAIRS < pairs {
         return Err(Refusal::LimitBroken);
     }
-    Ok(filled(&out_from, &out_to, pairs, first.shape))
+    Ok(filled(&out_from[..pairs], &out_to[..pairs], first.shape))
 }
 
 // *a then b*, "a first". 10, 11.
@@ -109,7 +111,8 @@ fn identity(shape: Shape) -> Plan
     ensures { result ≡ packed (identity_plan (the_shape shape)) }
 {
     let digits: [u64; 9] = [1, 2, 3, 4, 5, 6, 7, 8, 9];
-    filled(&digits, &digits, shape.roots as usize, shape)
+    let belts = &digits[..shape.roots as usize];
+    filled(belts, belts, shape)
 }
 
 // A plan n times in a row.

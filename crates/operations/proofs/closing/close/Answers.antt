@@ -21,7 +21,7 @@ returns-in_err-fault_in c =
     returned _ f c.from_residual.ensures.1 ∙ closed_from p c.requires (omega arith) f (sym c.in_err-fault_in.was ∙ e)
 
 pub fault_of-requires : goal.fault_of-requires
-fault_of-requires c = rw c.shape-shape.ensures (c.requires.few, c.requires.in_range, to_words c.args.draft c.requires)
+fault_of-requires c = rw c.shape-shape.ensures (simp length-take (omega (arith, c.requires.few)), c.requires.in_range, to_words c.args.draft c.requires)
 
 pub returns-in_err-fault_of : goal.returns-in_err-fault_of
 returns-in_err-fault_of c =

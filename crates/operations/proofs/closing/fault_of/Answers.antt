@@ -1,11 +1,20 @@
--- `operations::closing::fault_of` meets its contract: the parts that are lent are the first n words of the column.
-use Rattle.std.proofs.Common.{arith}
-use lib.ListN.{length-take}
-use Rattle.columns.proofs.Limits.{pair_limit}
+-- `operations::closing::fault_of` meets its contract: the parts that are sorted hold the words of the column.
+use Rattle.std.proofs.Common.{refl, ◌∙◌, ap, length, take}
+use Rattle.words.specs.Bytes.{shape_of}
+use Rattle.higman.specs.Answers.{fault}
+use Rattle.columns.specs.Packed.{words_of}
+use Rattle.operations.specs.Closing.{fault_of}
+use Rattle.operations.proofs.Filled.{front_of_filling}
 use Rattle.operations.proofs.closing.fault_of.Goals as goal
 
-pub slice_bounds-fault_in-end : goal.slice_bounds-fault_in-end
-slice_bounds-fault_in-end c = simp length-take (omega (arith, pair_limit))
+pub fault_in-requires : goal.fault_in-requires
+fault_in-requires c =
+    let words = c.args.words.now in
+    let copied = ap (take (length words)) c.padded-keys.ensures ∙ front_of_filling words in
+    rw copied (refl, c.requires.1, c.requires.0, c.requires.2)
 
-pub slice_bounds-fault_in-end-2 : goal.slice_bounds-fault_in-end-2
-slice_bounds-fault_in-end-2 c = simp length-take (omega (arith, pair_limit))
+pub returns : goal.returns
+returns c =
+    let words = c.args.words.now in
+    let copied = ap (take (length words)) c.padded-keys.ensures ∙ front_of_filling words in
+    c.fault_in.ensures.found ∙ ap (λ l. fault_of c.args.column (fault (shape_of c.args.shape) (words_of l))) copied

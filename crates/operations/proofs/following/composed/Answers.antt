@@ -16,7 +16,6 @@ use Rattle.columns.proofs.Rows.{rows_length}
 use Rattle.columns.proofs.Limits.{pair_limit}
 use Rattle.operations.specs.Plans.{lent_plan}
 use Rattle.operations.specs.Answers.{making, composing}
-use Rattle.operations.proofs.Filled.{filled_packed}
 use Rattle.operations.proofs.KeptValues.{lent_kept, lent_pairs, lent_plain, lent_operand}
 use Rattle.operations.proofs.Composed.{pairs_before, reducible, too_long, too_many, within_limits}
 use Rattle.operations.proofs.following.composed.Goals.{After-lent-second, After-spread_plans, In-Some, After-reduce-pairs}
@@ -139,17 +138,23 @@ returns-then-pairs-gt-MAX_PAIRS c =
     sym (ap making (too_many (first l) (second l) (A l) (B l) (one_shape l) (result r) (reduced r)
     (omega (arith, counted r, pair_limit, c.if-pairs-gt-MAX_PAIRS.true)))) ∙ answered l
 
+pub slice_bounds-out_from-end : goal.slice_bounds-out_from-end
+slice_bounds-out_from-end c = omega (arith, c.reduce-pairs.auto.out_from)
+
+pub slice_bounds-out_to-end : goal.slice_bounds-out_to-end
+slice_bounds-out_to-end c = omega (arith, c.reduce-pairs.auto.out_to)
+
 pub filled-requires : goal.filled-requires
 filled-requires c =
-    let r = c.before.before.before.before.before.before in
-    (omega (arith, pair_limit, c.if-pairs-gt-MAX_PAIRS.false), (out_room r).0, (out_room r).1)
+    let from = c.reduce-pairs.auto.out_from in
+    let to = c.reduce-pairs.auto.out_to in
+    (simp length-take (omega (arith, pair_limit)), simp length-take (omega arith))
 
 pub returns : goal.returns
 returns c =
     let r = c.before.before.before.before.before.before.before in
     let l = called (told r) in
-    let s = (first l).shape in
-    ap Ok (c.filled.ensures ∙ filled_packed s.arity s.roots c.reduce-pairs.result c.reduce-pairs.new.out_from c.reduce-pairs.new.out_to (out_room r).0 (out_room r).1)
+    ap Ok c.filled.ensures
     ∙ sym (ap making (within_limits (first l) (second l) (A l) (B l) (one_shape l) (result r) (reduced r) (known (told r)).0
     (omega (arith, counted r, pair_limit, c.if-pairs-gt-MAX_PAIRS.false))))
     ∙ answered l

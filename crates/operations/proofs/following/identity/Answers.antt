@@ -1,16 +1,15 @@
 -- `operations::following::identity` meets its contract: the first belts are the words of the columns.
 use Prim.Native.Nat.{◌≤◌}
-use mathlib.Core.Path.{◌∙◌, ap}
+use mathlib.Core.Path.{refl, ◌∙◌, ap}
 use native.Mathlib.Omega.{arith}
-use Rattle.higman.specs.Words.{count}
 use Rattle.higman.specs.Answers.{identity_plan}
 use Rattle.higman.proofs.KeptPlans.{in_range}
 use lib.Dec.{T}
+use lib.ListN.{length-take}
 use Rattle.higman.specs.Limits.{shape_in_range}
 use Rattle.words.specs.declared.shapes.Shape.{Shape}
 use Rattle.words.specs.Bytes.{shape_of}
 use Rattle.operations.specs.Plans.{packed}
-use Rattle.operations.proofs.Filled.{filled_packed}
 use Rattle.columns.proofs.Limits.{pair_limit}
 use Rattle.operations.proofs.Identity.{identity_rows}
 use Rattle.operations.proofs.following.identity.Goals as goal
@@ -19,15 +18,16 @@ few : (s : Shape) → T (shape_in_range (shape_of s)) → s.roots ≤ 9
 few s r = (in_range (shape_of s) r).roots_high
 
 pub filled-requires : goal.filled-requires
-filled-requires c =
-    let h = few c.args.shape c.requires in
-    (omega (arith, pair_limit), h, h)
+filled-requires c = let h = few c.args.shape c.requires in (simp length-take (omega (arith, pair_limit)), refl)
 
 pub returns : goal.returns
 unfolding identity_plan
 returns c =
     let a = c.args.shape in
-    let h = few a c.requires in
-    c.filled.ensures
-    ∙ filled_packed a.arity a.roots a.roots (count 1 9) (count 1 9) h h
-    ∙ ap (λ t. packed (record { shape = shape_of a; rows = t })) (identity_rows a.arity a.roots h)
+    c.filled.ensures ∙ ap (λ t. packed (record { shape = shape_of a; rows = t })) (identity_rows a.arity a.roots (few a c.requires))
+
+pub slice_bounds-digits-end : goal.slice_bounds-digits-end
+slice_bounds-digits-end c = few c.args.shape c.requires
+
+pub slice_bounds-belts-end : goal.slice_bounds-belts-end
+slice_bounds-belts-end c = let h = few c.args.shape c.requires in simp length-take (omega arith)
