@@ -4,13 +4,13 @@
 #![tactic(auto)]
 
 ghost use Rattle.std.specs.Prelude.{◌≡◌, true, false, ◌+◌, ◌-◌, ◌≤◌, T, length};
-ghost use Rattle.higman.specs.Words.{is_word};
-ghost use Rattle.higman.specs.Bases.{all, covered, gap, overlap};
+ghost use Rattle.higman.specs.Words.{child, is_word};
+ghost use Rattle.higman.specs.Bases.{all, listed, covered, gap, overlap};
 ghost use Rattle.higman.specs.Limits.{max_digits};
 ghost use Rattle.words.specs.Packed.{unpack};
 ghost use Rattle.words.specs.Bytes.{shape_of};
 ghost use Rattle.columns.specs.Packed.{words_of, sorted};
-ghost use Rattle.columns.specs.Columns.{PartedAt, begun_at, Extending, Walkable, AtBlock, Walked};
+ghost use Rattle.columns.specs.Columns.{PartedAt, begun_at, Extending, Walkable, AtBlock, covered_from, Walked};
 
 pub mod sorting;
 pub mod splits;
@@ -60,8 +60,9 @@ pub fn overlaps(column: &[u64]) -> bool
 }
 
 // Where the walk over a covered block has come to, looked at `left` ways below it; None where there is a gap. The words before the place
-// at stand before the block, so that the word there is the block, lies in it, or there is a gap. The words of a part stand behind those of
-// the parts before it, so that the walk goes on where it has come to.
+// at stand before the block, so that the word there is the block, lies in it, or there is a gap. It and the walk over the ways call each
+// other: that is the form which document 01 names for this check.
+#[cycle(covered_block_covered_ways)]
 fn covered_block(column: &[u64], arity: u8, w: u64, left: u8, at: usize) -> Option<usize>
     requires walkable { Walkable arity column.now × (1 ≤ arity) × (arity ≤ 9) }
     requires in_bounds { (1 ≤ length (unpack w)) × (length (unpack w) + left ≤ max_digits) × AtBlock column.now (unpack w) at }
@@ -74,11 +75,23 @@ fn covered_block(column: &[u64], arity: u8, w: u64, left: u8, at: usize) -> Opti
     if left == 0 {
         return None;
     }
-    let mut next = at;
-    for way in 1..=arity {
-        next = covered_block(column, arity, words::child(w, way), left - 1, next)?;
+    covered_ways(column, arity, w, 1, left, at)
+}
+
+// The same of the parts of a block from a way on, up to the first that is not covered. The words of a part stand behind those of the
+// parts before it, so that the walk goes on where it has come to.
+#[cycle(covered_block_covered_ways)]
+fn covered_ways(column: &[u64], arity: u8, w: u64, way: u8, left: u8, at: usize) -> Option<usize>
+    requires walkable { Walkable arity column.now × (1 ≤ arity) × (arity ≤ 9) × (listed (unpack w) (words_of column.now) ≡ false) }
+    requires le_way { (1 ≤ way) × (way ≤ arity + 1) × (1 ≤ left) × (1 ≤ length (unpack w)) × (length (unpack w) + left ≤ max_digits)
+        × AtBlock column.now (child (unpack w) way) at }
+    ensures { Walked column.now (unpack w) (covered_from arity (words_of column.now) (left - 1) (unpack w) way) result }
+{
+    if arity < way {
+        return Some(at);
     }
-    Some(next)
+    let next = covered_block(column, arity, words::child(w, way), left - 1, at)?;
+    covered_ways(column, arity, w, way + 1, left, next)
 }
 
 // Whether a belt isn't covered. Deeper than the longest words of a plan there is nothing to look for.
