@@ -5,9 +5,11 @@ use Rattle.higman.specs.Refusals.{Letter}
 use Rattle.desk.specs.Replies.{Outcome, refuse, pass}
 use Rattle.operations.specs.declared.refusals.Refusal.{Refusal}
 use Rattle.operations.specs.declared.refusals.Refusal.TheVariants as The
+use Rattle.operations.specs.declared.Column.{Column}
+use Rattle.operations.specs.declared.Column.TheVariants.{From, To}
+use Rattle.operations.specs.declared.Fault.{Fault}
 use Rattle.operations.specs.Refusals.{number_of}
-use Rattle.slots.specs.declared.Column.{Column}
-use Rattle.slots.specs.declared.Column.TheVariants.{From, To}
+use Rattle.operations.specs.Closing.{refusal_of}
 use Rattle.slots.specs.declared.Refused.{Refused}
 
 -- a refusal that names no column
@@ -17,6 +19,10 @@ refused_for n = record { refusal = n; column = None }
 -- and a result that is refused so
 abbrev pub refusing : {A : Type 0} → Refusal → Result A Refused
 refusing n = Err (refused_for n)
+
+-- a refusal for a column: "those of E for a column add ⇥F or ⇥T (from, to)"
+abbrev pub refused_in : Fault → Refused
+refused_in f = record { refusal = refusal_of f.reason; column = Some f.column }
 
 -- the letter of a column, and of the one that is named, if one is
 abbrev pub letter : Column → Letter

@@ -1,21 +1,17 @@
 -- What a record does to a head and its columns, and its reply: `operation` of desk's Replies.antt, through the desk that they hold. The
 -- reply is told by a value, and written later, but for an image, a block, a listing and a survey, which are written where they are found.
-use Rattle.std.specs.Prelude.{ℕ, ◌<◌, ◌≡◌, refl, Bool, true, List, [], ◌∷◌, ◌++◌, map, length, Result, Ok, Err}
+use Rattle.std.specs.Prelude.{ℕ, ◌≡◌, refl, Bool, List, [], ◌∷◌, ◌++◌, map, length, Result, Ok, Err}
 use Rattle.std.proofs.Math.Option.{none, some}
-use Rattle.higman.specs.Limits.{Plan, Kept, slot_count}
-use Rattle.higman.specs.Answers.{Answer, Granted}
 use Rattle.higman.specs.Words.{spell}
 use Rattle.higman.specs.Text.{Bytes, bytes}
 use Rattle.higman.specs.Refusals.{Letter}
 use Rattle.higman.specs.Buffers.{written}
 use Rattle.desk.specs.Desk.{Desk}
-use Rattle.desk.specs.Records.{Record, SlotUse, reading, writing, kind, of_slots, is_change}
+use Rattle.desk.specs.Records.{Record, SlotUse, reading, writing, kind, of_slots}
 use Rattle.desk.specs.Replies.{Reply as ReplyOf, silent, ok, ok_number, ok_image, ok_block, lists, surveys, refuses}
 use Rattle.desk.specs.Replies.{Outcome, refuse, pass, Effect}
-use Rattle.desk.specs.Replies.{admission, operation, ◌>>=◌, job, of_answer, keep_in}
+use Rattle.desk.specs.Replies.{admission, operation}
 use Rattle.desk.specs.Bytes.{reply_bytes}
-use Rattle.operations.specs.declared.Making.{Making}
-use Rattle.operations.specs.Answers.{making}
 use Rattle.slots.specs.declared.Head.{Head}
 use Rattle.slots.specs.declared.Reply.{Reply}
 use Rattle.slots.specs.declared.Reply.TheVariants as The
@@ -108,11 +104,6 @@ TellsSilently r h columns reply = (out : List ℕ) → Tells r h columns out rep
 abbrev pub TellsByHead : Record → Head → Result Reply Refused → Type 0
 TellsByHead r h reply = (columns : List ℕ) → TellsSilently r h columns reply
 
--- an answer about plans, and the value that tells it
-pub record Makes (made : Making) (answer : Answer) : Type 0 where
-  pub tells : made ≡ making answer
-  pub kept : (p : Plan) → answer ≡ Granted p → Kept p
-
 -- the slots that a record reads, and then its targets
 abbrev pub uses_of : List ℕ → List ℕ → List SlotUse
 uses_of reads targets = map reading reads ++ map writing targets
@@ -126,24 +117,6 @@ abbrev pub AdmittedAs : Head → List ℕ → List ℕ → Result (Unit {0}) Ref
 AdmittedAs h reads targets admitted =
     (r : Record) (change : Bool) (columns : List ℕ) → kind r ≡ of_slots (uses_of reads targets) change
     → admission (desk_of h columns) r ≡ outcome_of admitted
-
--- a record whose job is to keep an answer in a slot, behind the tests that all records have in common
-pub record ToKeep (r : Record) (d : Desk) (i : ℕ) (answer : Answer) : Type 0 where
-  pub admitted : admission d r ≡ pass tt
-  pub changes : is_change r ≡ true
-  pub keeps : job d r ≡ (of_answer answer >>= λ p. pass (keep_in d i p))
-
--- what may be kept in a slot of a desk
-pub record Keepable (h : Head) (columns : List ℕ) (i : ℕ) (made : Making) : Type 0 where
-  pub holds : HoldsDesk h columns
-  pub slot : i < slot_count
-  pub answer : Answer
-  pub makes : Makes made answer
-
--- whatever record asks for it
-abbrev pub DoneKeeping : Head → ℕ → Making → List ℕ → Result Work Refused → List ℕ → Type 0
-DoneKeeping h i made columns w columns' =
-    (r : Record) (answer : Answer) → Makes made answer → ToKeep r (desk_of h columns) i answer → DoneSilently r h columns w columns'
 
 -- a reply by its form; "ok⇥12⇥1" and byte 10 are eight bytes
 told_example : map told (silent ∷ ok_number 3 ∷ ok_image (spell 12) 1 ∷ refuses 9 none ∷ refuses 7 (some Letter.T) ∷ [])

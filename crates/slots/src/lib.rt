@@ -10,8 +10,8 @@ ghost use Rattle.slots.specs.Blocks.{noted_in, named_in, given_in};
 ghost use Rattle.slots.specs.Desks.{control_of, full_in, Countable, RightAsked, RightGiven, RightsAsked, allowed_in};
 ghost use Rattle.slots.specs.Works.{HeadOfDesk, AdmittedAs, unchanged};
 
-use operations::listing;
 use operations::refusals::Refusal;
+use operations::{Column, Fault, listing};
 
 pub mod blocks;
 pub mod rights;
@@ -84,13 +84,6 @@ pub enum Reply {
     Written(usize),
 }
 
-// The column of a plan that a refusal names.
-#[derive(Clone, Copy, PartialEq, Eq)]
-pub enum Column {
-    From,
-    To,
-}
-
 // Why a record is refused: `no⇥` and the number, with the letter of a column where the refusal names one.
 #[derive(Clone, Copy, PartialEq, Eq)]
 pub struct Refused {
@@ -107,6 +100,20 @@ impl From<Refusal> for Refused {
         Refused {
             refusal: refusal,
             column: None,
+        }
+    }
+}
+
+// A draft is refused for one of its columns, which the refusal names.
+impl From<Fault> for Refused {
+    ghost use Rattle.slots.specs.Refused.{refused_in};
+
+    ghost from_gives = { λ fault refused. refused ≡ refused_in fault };
+
+    fn from(fault: Fault) -> Refused {
+        Refused {
+            refusal: fault.reason.into(),
+            column: Some(fault.column),
         }
     }
 }
