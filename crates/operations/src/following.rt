@@ -144,7 +144,8 @@ pub fn power(a: Plan, k: i32) -> Result<Plan, Refusal>
     }
     let size = k.unsigned_abs();
     if k < 0 {
-        repeat(inverse(a), size)
+        let back = inverse(a);
+        repeat(back, size)
     } else {
         repeat(a, size)
     }

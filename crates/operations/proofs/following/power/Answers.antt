@@ -15,7 +15,7 @@ returns-then-not-is_power c =
     outside_answered c.args.a c.args.k (sym (c.is_power.ensures ∙ number) ∙ c.if-not-is_power.true)
 
 pub repeat-requires : goal.repeat-requires
-repeat-requires c = inverse_plan c.args.a c.requires c.inverse.result c.inverse.ensures
+repeat-requires c = inverse_plan c.args.a c.requires c.inverse-back.result c.inverse-back.ensures
 
 pub returns-then-k-lt0 : goal.returns-then-k-lt0
 returns-then-k-lt0 c =
@@ -23,8 +23,8 @@ returns-then-k-lt0 c =
     let size = c.unsigned_abs-size.ensures.value ∙ ap nat_abs number in
     let below = subst (λ (z : ℤ). z <ℤ pos 0) number (is_less c.if-k-lt0.true) in
     let small = sym (c.is_power.ensures ∙ ap power_in_range number) ∙ c.if-not-is_power.false in
-    c.repeat.ensures ∙ ap (repeating (plan_of c.inverse.result)) size
-    ∙ power_back c.args.a c.requires c.inverse.result c.inverse.ensures c.args.k below small
+    c.repeat.ensures ∙ ap (repeating (plan_of c.inverse-back.result)) size
+    ∙ power_back c.args.a c.requires c.inverse-back.result c.inverse-back.ensures c.args.k below small
 
 pub returns-else-k-lt0 : goal.returns-else-k-lt0
 returns-else-k-lt0 c =
