@@ -40,7 +40,8 @@ pub record RepliesFit : Type 0 where
   pub every_reply : (d : Desk) → IsDesk d → (line : Bytes) → length (reply_bytes (respond_line d line).1) ≤ max_reply
 
 -- the lines of a block and the one behind them
-max_reply_example : max_reply ≡ max_pairs * (5 + (max_digits + max_digits) + length (decimal max_pairs)) + length (ok_line (decimal max_pairs ∷ []))
+max_reply_example : max_reply
+    ≡ max_pairs * (5 + (max_digits + max_digits) + length (decimal max_pairs)) + length (ok_line (decimal max_pairs ∷ []))
 unfolding max_reply max_pairs max_digits
 max_reply_example = refl
 

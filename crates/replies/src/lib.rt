@@ -9,7 +9,7 @@ ghost use Rattle.words.specs.Writing.{Wrote};
 ghost use Rattle.desk.specs.Bytes.{line_of, ok_line, no_line};
 ghost use Rattle.replies.specs.Lines.{image_at, ImageFits, HeldFits};
 
-use words::writing;
+use words::{Shape, writing};
 
 // A line's first two bytes.
 fn put_two(first: u8, second: u8, out: &mut [u8], at: usize) -> usize
@@ -61,14 +61,14 @@ pub fn no_column(number: u8, letter: u8, out: &mut [u8], at: usize) -> usize
 }
 
 // U's line for a slot: "`slot⇥n⇥r⇥pairs` for each held slot".
-pub fn held(slot: u8, arity: u8, roots: u8, pairs: usize, out: &mut [u8], at: usize) -> usize
-    requires { HeldFits arity roots pairs at (length out.old) }
-    ensures { Wrote (line_of ((slot ∷ []) ∷ decimal arity ∷ decimal roots ∷ decimal pairs ∷ []))
+pub fn held(slot: u8, shape: Shape, pairs: usize, out: &mut [u8], at: usize) -> usize
+    requires { HeldFits shape.arity shape.roots pairs at (length out.old) }
+    ensures { Wrote (line_of ((slot ∷ []) ∷ decimal shape.arity ∷ decimal shape.roots ∷ decimal pairs ∷ []))
         out.old at out.new result }
 {
     let arity_at = writing::put(slot, out, at);
-    let roots_at = writing::put_decimal(arity as u32, out, arity_at);
-    let pairs_at = writing::put_decimal(roots as u32, out, roots_at);
+    let roots_at = writing::put_decimal(shape.arity as u32, out, arity_at);
+    let pairs_at = writing::put_decimal(shape.roots as u32, out, roots_at);
     let end_at = writing::put_decimal(pairs as u32, out, pairs_at);
     writing::put(b'\n', out, end_at)
 }
