@@ -5,38 +5,32 @@
 ghost use Rattle.std.specs.Prelude.{◌≡◌, T};
 ghost use Rattle.higman.specs.Limits.{shape_in_range};
 ghost use Rattle.higman.specs.Exercises.{exercise};
-ghost use Rattle.words.specs.Bytes.{shape};
+ghost use Rattle.words.specs.Bytes.{shape_of};
 ghost use Rattle.operations.specs.Answers.{making};
 
-use operations::{MAX_PAIRS, Making, answers, keeping, numbers};
+use operations::refusals::Refusal;
+use operations::{MAX_PAIRS, Plan, keeping};
+use words::Shape;
 
 pub mod draws;
 pub mod shuffles;
 pub mod splits;
 
 // The plan of a shape, a number of splits and a seed. 17; 5, by the number of pairs and before any draw; 4, as soon as a word is too long.
-pub fn make(arity: u8, roots: u8, splits: u8, seed: u64) -> Making
-    requires { T (shape_in_range (shape arity roots)) }
-    ensures { result ≡ making (exercise (shape arity roots) splits seed) }
+pub fn make(shape: Shape, splits: u8, seed: u64) -> Result<Plan, Refusal>
+    requires { T (shape_in_range (shape_of shape)) }
+    ensures { result ≡ making (exercise (shape_of shape) splits seed) }
 {
     if !draws::is_seed(seed) {
-        return answers::refused(numbers::SEED_OUTSIDE);
+        return Err(Refusal::SeedOutside);
     }
-    let pairs = roots as usize + splits as usize * (arity as usize - 1);
+    let pairs = shape.roots as usize + splits as usize * (shape.arity as usize - 1);
     if MAX_PAIRS < pairs {
-        return answers::refused(numbers::PAIRS_FULL);
+        return Err(Refusal::PairsFull);
     }
-    let from = splits::grow(arity, roots, splits, seed);
-    if !from.fits {
-        return answers::refused(numbers::BAD_WORD);
-    }
-    let to = splits::grow(arity, roots, splits, from.last);
-    if !to.fits {
-        return answers::refused(numbers::BAD_WORD);
-    }
-    let keys = from.words;
-    let words = to.words;
-    let values = shuffles::shuffle(words, pairs, to.last);
-    let plan = keeping::keep_sorted(&keys[..pairs], &values[..pairs], arity, roots);
-    answers::granted(plan)
+    let from = splits::grow(shape, splits, seed)?;
+    let to = splits::grow(shape, splits, from.last)?;
+    let values = shuffles::shuffle(to.words, pairs, to.last);
+    let plan = keeping::keep_sorted(&from.words[..pairs], &values[..pairs], shape);
+    Ok(plan)
 }

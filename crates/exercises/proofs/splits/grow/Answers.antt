@@ -10,8 +10,7 @@ use Rattle.higman.specs.Limits.{max_digits}
 use Rattle.higman.specs.Exercises.{drawn, grown}
 use Rattle.higman.proofs.Expansions.{length_count}
 use Rattle.higman.proofs.KeptPlans.{in_range}
-use Rattle.higman.proofs.Tests.{clash}
-use Rattle.words.specs.Bytes.{shape}
+use Rattle.words.specs.Bytes.{shape_of}
 use Rattle.words.proofs.Limit.{limit}
 use Rattle.columns.specs.Packed.{words_of}
 use Rattle.columns.specs.Columns.{word_at}
@@ -22,29 +21,29 @@ use Rattle.exercises.proofs.splits.grow.Goals.{After-next-last}
 use Rattle.exercises.proofs.splits.grow.Goals as goal
 
 -- what is known of the turn, once its draw is made
-turned : (c : After-next-last) → Turn (shape c.args.arity c.args.roots) c.loop.count
+turned : (c : After-next-last) → Turn (shape_of c.args.shape) c.loop.count
 turned c =
-    turn (shape c.args.arity c.args.roots) c.requires.in_range c.args.draw c.loop.column c.loop.count c.loop.last c.loop.counter c.loop.invariant
+    turn (shape_of c.args.shape) c.requires.in_range c.args.draw c.loop.column c.loop.count c.loop.last c.loop.counter c.loop.invariant
     c.args.splits c.loop-test.true (omega (arith, pair_limit, c.requires.room))
 
 pub root_words-column-requires : goal.root_words-column-requires
-root_words-column-requires c = (in_range (shape c.args.arity c.args.roots) c.requires.in_range).roots_high
+root_words-column-requires c = (in_range (shape_of c.args.shape) c.requires.in_range).roots_high
 
 pub loop-init : goal.loop-init
 unfolding grown drawn
 loop-init c =
     let a = c.args in
     record {
-      counted = sym (length-map (digits a.roots) (λ i. i ∷ []) ∙ length_count 1 a.roots);
+      counted = sym (length-map (digits a.shape.roots) (λ i. i ∷ []) ∙ length_count 1 a.shape.roots);
       draws = refl;
       holds = c.root_words-column.ensures;
-      short = belts_fit (shape a.arity a.roots) a.draw;
+      short = belts_fit (shape_of a.shape) a.draw;
     }
 
 pub next-last-requires : goal.next-last-requires
 next-last-requires c =
     let l = c.loop in
-    seed_now (shape c.args.arity c.args.roots) c.requires.in_range c.args.draw l.column l.count l.last l.counter l.invariant c.requires.seed
+    seed_now (shape_of c.args.shape) c.requires.in_range c.args.draw l.column l.count l.last l.counter l.invariant c.requires.seed
 
 pub nonzero_rem-place : goal.nonzero_rem-place
 nonzero_rem-place c = (turned c).some_word
@@ -60,9 +59,9 @@ returns-then-length c =
     let l = c.loop in
     let long : max_digits ≤ length (word_at l.column (c.next-last.result % l.count)) = omega (arith, limit, c.length.ensures) in
     let judged =
-    outgrown_now (shape c.args.arity c.args.roots) c.requires.in_range c.args.draw l.column l.count l.last l.counter l.invariant
+    outgrown_now (shape_of c.args.shape) c.requires.in_range c.args.draw l.column l.count l.last l.counter l.invariant
     c.next-last.result c.next-last.ensures long c.args.splits c.loop-test.true in
-    record { judged = sym judged; column = λ e. absurd (clash e refl); draws = λ e. absurd (clash e refl) }
+    (refl, judged)
 
 pub split-column-requires : goal.split-column-requires
 split-column-requires c =
@@ -85,17 +84,17 @@ pub loop-preserved : goal.loop-preserved
 loop-preserved c =
     let l = c.loop in
     let shorter : length (word_at l.column (c.next-last.result % l.count)) < max_digits = omega (arith, limit, c.length.ensures) in
-    grown_on (shape c.args.arity c.args.roots) c.requires.in_range c.args.draw l.column l.count l.last l.counter l.invariant
+    grown_on (shape_of c.args.shape) c.requires.in_range c.args.draw l.column l.count l.last l.counter l.invariant
     c.next-last.result c.next-last.ensures shorter c.split-column.result c.split-column.ensures
 
 pub returns : goal.returns
 returns c =
     let l = c.loop in
-    let s = shape c.args.arity c.args.roots in
+    let s = shape_of c.args.shape in
     let all_done : l.counter ≡ c.args.splits = omega arith in
     let g = subst (Growing s c.args.draw l.column l.count l.last) all_done l.invariant in
     record {
-      judged = sym (fitting (grown s c.args.draw c.args.splits) g.short);
-      column = λ _. ap (λ n. words_of (take n l.column)) (sym g.counted) ∙ g.holds;
-      draws = λ _. g.draws;
+      short = fitting (grown s c.args.draw c.args.splits) g.short;
+      column = ap (λ n. words_of (take n l.column)) (sym g.counted) ∙ g.holds;
+      draws = g.draws;
     }
