@@ -1,5 +1,5 @@
 -- A value that passes the test holds a desk, and is what that desk packs into.
-use Prim.Native.Nat.{ℕ, zero, suc, ◌+◌, ◌≤◌, ◌<◌}
+use Prim.Native.Nat.{ℕ, suc, ◌+◌, ◌≤◌, ◌<◌}
 use mathlib.Core.Path.{◌≡◌, refl, sym, ◌∙◌, ap}
 use mathlib.Core.Bool.{Bool, true, false, ◌&&◌, not}
 use mathlib.Core.List.{List, [], ◌∷◌, ◌++◌, map}
@@ -25,6 +25,7 @@ use Rattle.slots.specs.Desks.{slot_at, draft_block, draft_of, desk_of, HoldsDesk
 use Rattle.slots.proofs.Held.{slots_eight, same_count}
 use Rattle.slots.proofs.Rows.{control_again}
 use Rattle.desks.specs.Tested.{holds_test}
+use Rattle.desks.proofs.Chains.{by_place}
 use Rattle.desks.proofs.Exact.{holds_exact}
 use Rattle.desk_values.specs.declared.Desk.{Desk}
 use Rattle.desk_values.specs.Values.{opened_test, head_of, desk_in, no_shape, size_test, sizes_test, blank_test, draft_test, is_desk_value}
@@ -49,15 +50,6 @@ tidy_size_lem z t = by (eqb z.pairs 0) refl t
         → elim b [ true ↦ no_size | false ↦ z ] ≡ z
     by true e t = no_size_lem z (eqb-true z.pairs 0 e) t
     by false e t = refl
-
--- a list by its places
-pub by_place : {A : Type 0} (l : List A) (z : A) (n a : ℕ) → a + n ≤ length l
-    → drop a l ≡ map (λ i. get_or l i z) (count a n) ++ drop (a + n) l
-by_place l z zero a h = let none : a ≡ a + 0 = omega arith in ap (λ k. drop k l) none
-by_place l z (suc n) a h =
-    let next : suc a + n ≡ a + suc n = omega arith in
-    drop-cons l a z (omega arith) ∙ ap (λ r. get_or l a z ∷ r) (by_place l z n (suc a) (omega arith)
-    ∙ ap (λ k. map (λ i. get_or l i z) (count (suc a) n) ++ drop k l) next)
 
 module _ (d : Desk) (whole : Whole d) (t : T (is_desk_value d)) where
   abbrev h : Head

@@ -3,13 +3,13 @@ use Prim.Native.Nat.{ℕ, zero, suc, ◌+◌, ◌*◌, ◌-◌, ◌≤◌, ◌<�
 use mathlib.Core.Path.{◌≡◌, refl, sym, ◌∙◌, ap, subst}
 use mathlib.Core.Bool.{Bool, true, false, ◌&&◌, not}
 use mathlib.Core.List.Memᴰ
-use mathlib.Core.List.{List, [], ◌∷◌, ◌++◌, map, append_assoc, append-nil}
+use mathlib.Core.List.{List, [], ◌∷◌, ◌++◌, map, append_assoc}
 use mathlib.Core.Option.{Option, none, some, none-ne-some}
 use native.Mathlib.Nat.{not-suc-le-zero, le_of_suc-le-suc}
 use native.Mathlib.Omega.{arith}
 use borrow.Author.Tests.{ne_eqb}
 use lib.Dec.{T, leb, eqb, leb→le}
-use lib.ListN.{length, get_or, take, drop, replicate, length-append, length-map, length-replicate, drop_of_length-le}
+use lib.ListN.{length, get_or, take, drop, replicate, length-append, length-map, length-replicate}
 use lib.Seq.{take_at, drop_at, drop-append-add}
 use Rattle.higman.specs.Words.{Word, is_word, count}
 use Rattle.higman.specs.Bases.{all}
@@ -33,11 +33,12 @@ use Rattle.slots.proofs.Held.{slots_eight, same_count}
 use Rattle.slots.proofs.Rows.{control_back, packed_narrow}
 use Rattle.changing.proofs.Keeping.{kept_held, kept_in_table}
 use Rattle.desks.specs.Tested.{holds_test}
+use Rattle.desks.proofs.Chains.{all_places}
 use Rattle.desks.proofs.Exact.{holds_exact}
 use Rattle.desk_values.specs.Values.{opened_test, head_of, desk_in, size_test, sizes_test, blank_test, draft_test, is_desk_value}
 use Rattle.desk_values.specs.Values.{held_value, draft_value, opened_by, words_in, packed_desk, Whole, DeskValues}
 use Rattle.desk_values.proofs.Blocks.{blank_places}
-use Rattle.desk_values.proofs.Exact.{by_place, holds_desk, one_value}
+use Rattle.desk_values.proofs.Exact.{holds_desk, one_value}
 
 -- a block of two columns of 128 places
 abbrev Placed : Plan → Type 0
@@ -217,13 +218,9 @@ module _ (d : DeskOf) (D : IsDesk d) where
 
   slots_back : map (slot_at head columns) (count 0 slot_count) ≡ d.slots
   slots_back =
-      let whole : slot_count ≡ length d.slots = sym D.eight in
       same_count (λ i. get_or d.slots i none) (slot_at head columns) 0 slot_count
       (λ i a h. ap held_by (slot_value i (omega arith)) ∙ held_back (held d i) (D.kept i))
-      ∙ sym (append-nil (map (λ i. get_or d.slots i none) (count 0 slot_count)))
-      ∙ ap (λ r. map (λ i. get_or d.slots i none) (count 0 slot_count) ++ r) (sym (drop_of_length-le d.slots {i = 0 + slot_count}
-      (omega arith)))
-      ∙ sym (by_place d.slots none slot_count 0 (omega arith))
+      ∙ all_places d.slots none slot_count D.eight
 
   -- the open plan as its value holds it
   draft_held : (x : Draft) → IsDraft x → draft_in (slot_number (slot_byte x.slot)) (draft_value (some x)) ≡ x

@@ -34,10 +34,7 @@ pub struct Desk {
 fn is_opened(opened: u8) -> bool
     ensures { result ≡ opened_test opened }
 {
-    if opened == 0 {
-        return true;
-    }
-    listing::is_slot(opened)
+    opened == 0 || listing::is_slot(opened)
 }
 
 // The head of a desk.
@@ -67,33 +64,20 @@ pub fn head_of(desk: Desk) -> Head
 fn has_no_shape(arity: u8, roots: u8) -> bool
     ensures { result ≡ no_shape arity roots }
 {
-    if arity != 0 {
-        return false;
-    }
-    roots == 0
+    arity == 0 && roots == 0
 }
 
 // Whether a slot that holds no pairs has no shape either.
 fn is_tidy(size: Size) -> bool
     ensures { result ≡ size_test size }
 {
-    if size.pairs != 0 {
-        return true;
-    }
-    has_no_shape(size.arity, size.roots)
+    size.pairs != 0 || has_no_shape(size.arity, size.roots)
 }
 
 fn are_tidy(sizes: [Size; BLOCKS]) -> bool
     ensures { result ≡ sizes_test sizes }
 {
-    let mut i = 0;
-    while i < SLOTS {
-        if !is_tidy(sizes[i]) {
-            return false;
-        }
-        i += 1;
-    }
-    true
+    sizes[..SLOTS].iter().all(|&size| is_tidy(size))
 }
 
 // "its unused places zero"
@@ -101,28 +85,14 @@ fn is_in_table(value: Plan) -> bool
     ensures { result ≡ in_table value }
 {
     let n = value.pairs;
-    if MAX_PAIRS < n {
-        return false;
-    }
-    let from = value.from;
-    if !drafts::are_zeros(&from[n..]) {
-        return false;
-    }
-    let to = value.to;
-    drafts::are_zeros(&to[n..])
+    n <= MAX_PAIRS && drafts::are_zeros(&value.from[n..]) && drafts::are_zeros(&value.to[n..])
 }
 
 // Whether a value is that of no plan.
 fn is_blank(value: Plan) -> bool
     ensures { result ≡ blank_test value }
 {
-    if value.pairs != 0 {
-        return false;
-    }
-    if !has_no_shape(value.arity, value.roots) {
-        return false;
-    }
-    is_in_table(value)
+    value.pairs == 0 && has_no_shape(value.arity, value.roots) && is_in_table(value)
 }
 
 // Whether nothing stands in the block of the open plan but its pairs.
@@ -139,24 +109,14 @@ fn is_tidy_draft(opened: u8, value: Plan) -> bool
 pub fn is_desk(desk: Desk) -> bool
     ensures { result ≡ is_desk_value desk }
 {
-    let opened = desk.opened;
-    if !is_opened(opened) {
+    if !is_opened(desk.opened) {
         return false;
     }
     let head = head_of(desk);
     let columns = desk.columns;
-    let held = slots::Desk {
-        head: head,
-        columns: columns,
-    };
-    if !desks::is_desk(held) {
-        return false;
-    }
-    let sizes = desk.blocks;
-    if !are_tidy(sizes) {
-        return false;
-    }
-    is_tidy_draft(opened, blocks::value(head, &columns, DRAFT))
+    desks::is_desk(slots::Desk { head, columns })
+        && are_tidy(desk.blocks)
+        && is_tidy_draft(desk.opened, blocks::value(head, &columns, DRAFT))
 }
 
 // The size of what a slot holds, of which nothing is left where there are no pairs.
@@ -176,17 +136,9 @@ fn tidied(size: Size) -> Size
 fn tidied_sizes(sizes: [Size; BLOCKS], draft: Size) -> [Size; BLOCKS]
     ensures { result ≡ tidy_sizes sizes draft }
 {
-    [
-        tidied(sizes[0]),
-        tidied(sizes[1]),
-        tidied(sizes[2]),
-        tidied(sizes[3]),
-        tidied(sizes[4]),
-        tidied(sizes[5]),
-        tidied(sizes[6]),
-        tidied(sizes[7]),
-        draft,
-    ]
+    let mut next = sizes.map(tidied);
+    next[DRAFT] = draft;
+    next
 }
 
 // The value of the open plan, with zeros behind its pairs, or of no plan.

@@ -1,10 +1,9 @@
 -- The test of a head and columns holds exactly where they hold a desk.
-use Prim.Native.Nat.{ℕ, zero, suc, ◌+◌, ◌-◌, ◌≤◌, ◌<◌}
-use mathlib.Core.Path.{◌≡◌, refl, sym, ◌∙◌, ap, ap₂, subst}
+use Prim.Native.Nat.{ℕ, zero, suc, ◌≤◌, ◌<◌}
+use mathlib.Core.Path.{◌≡◌, refl, sym, ◌∙◌, ap, subst}
 use mathlib.Core.Bool.{Bool, true, false, ◌&&◌}
 use mathlib.Core.List.{List, [], ◌∷◌}
 use mathlib.Core.Option.{none, some, none-ne-some, some-injective}
-use native.Mathlib.Numerals.{add-one}
 use native.Mathlib.Omega.{arith}
 use borrow.Author.Tests.{eqb-true, eqb-false, ltb-true, ltb-false}
 use lib.Dec.{T, leb, eqb, ltb, leb→le, le→leb, eqb→eq, eqb_refl}
@@ -237,24 +236,3 @@ module _ (h : Head) (columns : List ℕ) (headed : length h.sizes ≡ block_coun
 
 pub holds_exact : HoldsExact
 holds_exact h columns headed sized = (holds h columns headed sized, passes h columns headed sized)
-
--- a test of the numbers that are left up to 8, by the first of them
-module _ (f : ℕ → Bool) (i : ℕ) where
-  abbrev left : ℕ → Bool
-  left n = all f (count i n)
-
-  pub left_fails : i < 8 → f i ≡ false → left (8 - i) ≡ false
-  left_fails h e =
-      let one : 8 - i ≡ suc (7 - i) = omega arith in
-      ap left one ∙ ap (λ b. elim b [ true ↦ all f (count (suc i) (7 - i)) | false ↦ false ]) e
-
-  pub left_passes : i < 8 → f i ≡ true → left (8 - i) ≡ all f (count (i + 1) (8 - (i + 1)))
-  left_passes h e =
-      let one : 8 - i ≡ suc (7 - i) = omega arith in
-      let next : 7 - i ≡ 8 - (i + 1) = omega arith in
-      ap left one
-      ∙ ap (λ b. elim b [ true ↦ all f (count (suc i) (7 - i)) | false ↦ false ]) e
-      ∙ ap₂ (λ j n. all f (count j n)) (sym (add-one i)) next
-
-  pub left_none : 8 ≤ i → left (8 - i) ≡ true
-  left_none h = let none_left : 8 - i ≡ 0 = omega arith in ap left none_left

@@ -23,13 +23,8 @@ const TO: usize = FROM + MAX_PAIRS;
 fn is_held(value: Plan) -> bool
     ensures { result ≡ slot_test value }
 {
-    let from = value.from;
-    let to = value.to;
     if value.pairs == 0 {
-        if !drafts::are_zeros(&from) {
-            return false;
-        }
-        return drafts::are_zeros(&to);
+        return drafts::are_zeros(&value.from) && drafts::are_zeros(&value.to);
     }
     plans::kept::is_plan(value)
 }
@@ -44,17 +39,18 @@ fn is_open_plan(head: Head, columns: &[u64]) -> bool
         return true;
     }
     let size = head.sizes[DRAFT];
-    let n = size.pairs;
-    if SLOTS <= head.slot as usize {
-        return false;
-    }
-    if !shapes::in_range(size.arity, size.roots) {
-        return false;
-    }
-    if !drafts::are_words(blocks::part(columns, FROM, n), size.arity, size.roots) {
-        return false;
-    }
-    drafts::are_words(blocks::part(columns, TO, n), size.arity, size.roots)
+    (head.slot as usize) < SLOTS
+        && shapes::in_range(size.arity, size.roots)
+        && drafts::are_words(
+            blocks::part(columns, FROM, size.pairs),
+            size.arity,
+            size.roots,
+        )
+        && drafts::are_words(
+            blocks::part(columns, TO, size.pairs),
+            size.arity,
+            size.roots,
+        )
 }
 
 // Whether each slot holds a kept plan or nothing.
@@ -62,15 +58,7 @@ fn are_slots(head: Head, columns: &[u64]) -> bool
     requires { InColumns draft_block columns.now }
     ensures { result ≡ slots_test head columns.now }
 {
-    let mut i = 0;
-    while i < SLOTS {
-        let value = blocks::value(head, columns, i);
-        if !is_held(value) {
-            return false;
-        }
-        i += 1;
-    }
-    true
+    (0..SLOTS).all(|slot| is_held(blocks::value(head, columns, slot)))
 }
 
 // The pairs of all slots. Their sizes are added where the slots have been tested, so that no sum runs over.
@@ -78,71 +66,38 @@ fn sum(head: Head) -> usize
     requires { FewPairs head }
     ensures { result ≡ sizes_sum head }
 {
-    let mut sum = 0usize;
-    let mut i = 0;
-    while i < SLOTS {
-        let size = head.sizes[i];
-        sum += size.pairs;
-        i += 1;
-    }
-    sum
+    head.sizes[..SLOTS].iter().map(|size| size.pairs).sum()
 }
 
 // Whether no count is over the limit, whether or not its station is named.
 fn are_counts(changes: [u32; STATIONS]) -> bool
     ensures { result ≡ counts_test changes }
 {
-    let mut i = 0;
-    while i < STATIONS {
-        if MAX_CHANGES < changes[i] {
-            return false;
-        }
-        i += 1;
-    }
-    true
+    changes.iter().all(|&n| n <= MAX_CHANGES)
 }
 
 // Whether a station's rights on the slots are at most 2.
+#[tactic(auto, unfolding(higman::specs::Limits::slot_count))]
 fn is_row(row: u16) -> bool
     ensures { result ≡ row_test row }
 {
-    let mut i = 0;
-    while i < SLOTS {
-        if rights::WRITE < rights::at(row, i) {
-            return false;
-        }
-        i += 1;
-    }
-    true
+    (0..SLOTS).all(|slot| rights::at(row, slot) <= rights::WRITE)
 }
 
 // Whether the rights of all stations are.
 fn are_rights(rows: [u16; STATIONS - 1]) -> bool
     ensures { result ≡ rights_test rows }
 {
-    let mut s = 0;
-    while s < STATIONS - 1 {
-        if !is_row(rows[s]) {
-            return false;
-        }
-        s += 1;
-    }
-    true
+    rows.iter().all(|&row| is_row(row))
 }
 
 // Whether a control block is as a desk keeps one.
 fn is_control(control: Control) -> bool
     ensures { result ≡ control_test control }
 {
-    if STATIONS <= control.station as usize {
-        return false;
-    }
-    let changes = control.changes;
-    if !are_counts(changes) {
-        return false;
-    }
-    let rows = control.rights;
-    are_rights(rows)
+    (control.station as usize) < STATIONS
+        && are_counts(control.changes)
+        && are_rights(control.rights)
 }
 
 // "a .. desk handed in isn't one as described above": whether it is one.
@@ -150,20 +105,9 @@ pub fn is_desk(desk: Desk) -> bool
     ensures { result ≡ holds_test desk.head desk.columns }
 {
     let head = desk.head;
-    let columns = desk.columns;
-    let control = head.control;
-    if !is_control(control) {
-        return false;
-    }
-    let size = head.sizes[DRAFT];
-    if MAX_PAIRS < size.pairs {
-        return false;
-    }
-    if !is_open_plan(head, &columns) {
-        return false;
-    }
-    if !are_slots(head, &columns) {
-        return false;
-    }
-    control.pairs as usize == sum(head)
+    is_control(head.control)
+        && head.sizes[DRAFT].pairs <= MAX_PAIRS
+        && is_open_plan(head, &desk.columns)
+        && are_slots(head, &desk.columns)
+        && head.control.pairs as usize == sum(head)
 }

@@ -1,29 +1,20 @@
--- `desk_values::are_tidy` meets its contract. The invariant: the sizes are as they should be exactly if those from i on are. The measure is
--- how many are left.
-use mathlib.Core.Path.{sym, ◌∙◌, ap}
+-- `desk_values::are_tidy` meets its contract.
+use mathlib.Core.Path.{◌∙◌}
 use native.Mathlib.Omega.{arith}
-use Rattle.higman.specs.Words.{count}
-use Rattle.higman.specs.Bases.{all}
-use Rattle.slots.proofs.Held.{slots_eight}
-use Rattle.desks.proofs.Exact.{left_fails, left_passes, left_none}
-use Rattle.desk_values.proofs.are_tidy.Invariants.{tested}
+use lib.ListN.{take}
+use borrow.Author.Tests.{tests}
+use Rattle.std.proofs.Common.{rules}
+use Rattle.std.proofs.lemmas.Iterator.{YieldsList-from_slice}
+use Rattle.std.proofs.lemmas.Iterator.Search.{all_from_yields_List}
+use Rattle.higman.specs.Limits.{slot_count}
+use Rattle.slots.specs.Blocks.{no_size}
+use Rattle.desks.proofs.Chains.{all_same, all_front}
+use Rattle.desk_values.specs.Values.{size_test}
 use Rattle.desk_values.proofs.are_tidy.Goals as goal
 
-pub loop-i-init : goal.loop-i-init
-loop-i-init c = (omega arith, ap (λ n. all (tested c.args.sizes) (count 0 n)) slots_eight)
-
-pub returns-then-not-is_tidy : goal.returns-then-not-is_tidy
-returns-then-not-is_tidy c =
-    sym (c.loop-i.invariant.1 ∙ left_fails (tested c.args.sizes) c.loop-i.i c.loop-i-test.true (sym c.is_tidy.ensures
-    ∙ c.if-not-is_tidy.true))
-
-pub loop-i-preserved : goal.loop-i-preserved
-loop-i-preserved c = (
-  omega (arith, c.loop-i-test.true),
-  c.loop-i.invariant.1 ∙ left_passes (tested c.args.sizes) c.loop-i.i c.loop-i-test.true (sym c.is_tidy.ensures
-      ∙ c.if-not-is_tidy.false),
-)
-
 pub returns : goal.returns
+unfolding slot_count
 returns c =
-    sym (c.loop-i.invariant.1 ∙ left_none (tested c.args.sizes) c.loop-i.i c.loop-i-test.false)
+    let l = take 8 c.args.sizes in
+    all_from_yields_List size_test _ _ _ c.all.ensures.ran (YieldsList-from_slice l (cc)) (λ x b q k. search (rules, tests))
+    ∙ all_same size_test l ∙ all_front size_test c.args.sizes no_size 8 (omega arith)

@@ -1,49 +1,38 @@
--- `desks::is_row` meets its contract. The invariant: no right is above 2 exactly if none of those that are left is. The measure is how many
--- are left.
-use mathlib.Core.Path.{◌≡◌, refl, sym, ◌∙◌, subst}
-use mathlib.Core.Bool.{true, false}
-use borrow.Author.Tests.{le-leb, lt-leb}
+-- `desks::is_row` meets its contract: the rights on the slots are the numbers of the row.
+use Prim.Native.Nat.{ℕ}
+use mathlib.Core.Path.{◌≡◌, sym, ◌∙◌, ap}
+use mathlib.Core.Bool.{Bool}
+use lib.Dec.{leb}
+use lib.ListN.{get_or}
+use borrow.Author.Tests.{tests}
 use native.Mathlib.Omega.{arith}
-use Rattle.words.proofs.Checks.{check_fails, check_passes, check_done}
+use Rattle.std.proofs.Common.{rules}
+use Rattle.std.proofs.lemmas.Iterator.{YieldsList-from_range}
+use Rattle.std.proofs.lemmas.Iterator.Search.{all_from_yields_List}
+use Rattle.higman.specs.Words.{count}
+use Rattle.higman.specs.Bases.{all}
+use Rattle.higman.specs.Limits.{slot_count}
+use Rattle.words.proofs.Checks.{check_map}
 use Rattle.desk.specs.Limits.{max_right}
-use Rattle.slots.specs.Rights.{row_of}
-use Rattle.slots.proofs.Held.{slots_eight}
+use Rattle.slots.specs.Rights.{right_at, row_of}
+use Rattle.slots.proofs.Held.{same_count}
 use Rattle.slots.proofs.Rows.{row_length, right_in_row}
-use Rattle.desks.proofs.is_row.Invariants.{within}
+use Rattle.desks.specs.Tested.{row_test}
+use Rattle.desks.proofs.Chains.{all_counted, all_places}
 use Rattle.desks.proofs.is_row.Goals as goal
 
-pub loop-i-init : goal.loop-i-init
-loop-i-init c = (omega arith, refl)
+abbrev within : ℕ → Bool
+within x = leb x max_right
 
-pub at-requires : goal.at-requires
-at-requires c = omega (arith, c.loop-i-test.true, slots_eight)
-
-pub returns-then-at-gt-WRITE : goal.returns-then-at-gt-WRITE
-unfolding max_right
-returns-then-at-gt-WRITE c =
-    let a = c.args in
-    let call = c.at in
-    let right = sym (call.ensures ∙ sym (right_in_row a.row c.loop-i.i
-    (omega (arith, c.loop-i-test.true, slots_eight)))) in
-    sym (c.loop-i.invariant.1 ∙ check_fails within (row_of a.row) c.loop-i.i
-    (omega (arith, row_length a.row, c.loop-i-test.true, slots_eight))
-    (subst (λ x. within x ≡ false) (sym right) (lt-leb call.result max_right c.if-at-gt-WRITE.true)))
-
-pub loop-i-preserved : goal.loop-i-preserved
-unfolding max_right
-loop-i-preserved c =
-    let a = c.args in
-    let call = c.at in
-    let right = sym (call.ensures ∙ sym (right_in_row a.row c.loop-i.i
-    (omega (arith, c.loop-i-test.true, slots_eight)))) in (
-      omega (arith, c.loop-i-test.true),
-      c.loop-i.invariant.1 ∙ check_passes within (row_of a.row) c.loop-i.i
-          (omega (arith, row_length a.row, c.loop-i-test.true, slots_eight))
-          (subst (λ x. within x ≡ true) (sym right) (le-leb call.result max_right c.if-at-gt-WRITE.false)),
-    )
+row_by_slots : (row : ℕ) → all (λ i. within (right_at row i)) (count 0 slot_count) ≡ row_test row
+row_by_slots row =
+    sym (check_map within (right_at row) (count 0 slot_count))
+    ∙ ap (all within) (same_count (λ i. get_or (row_of row) i 0) (right_at row) 0 slot_count (λ i a h. sym (right_in_row row i (omega arith)))
+    ∙ all_places (row_of row) 0 slot_count (row_length row))
 
 pub returns : goal.returns
+unfolding max_right slot_count
 returns c =
-    let a = c.args in
-    sym (c.loop-i.invariant.1 ∙ check_done within (row_of a.row) c.loop-i.i
-    (omega (arith, row_length a.row, c.loop-i-test.false, slots_eight)))
+    let f : ℕ → Bool = λ i. leb (right_at c.args.row i) max_right in
+    all_from_yields_List f _ _ _ c.all.ensures.ran (YieldsList-from_range 0 8 8 (cc) (omega arith)) (λ x b q k. search (rules, tests))
+    ∙ all_counted f 8 ∙ row_by_slots c.args.row
