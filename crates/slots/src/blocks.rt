@@ -3,7 +3,7 @@
 ghost use Rattle.std.specs.Prelude.{◌≡◌, ◌+◌, ◌≤◌, ◌<◌, length, take, drop};
 ghost use Rattle.higman.specs.Limits.{max_pairs};
 ghost use Rattle.higman.specs.Buffers.{written};
-ghost use Rattle.slots.specs.Blocks.{InColumns, value_at, put};
+ghost use Rattle.slots.specs.Blocks.{InColumns, from_place, to_place, value_at, put};
 
 use crate::{BLOCK, Head};
 use operations::{MAX_PAIRS, Plan};
@@ -14,6 +14,17 @@ pub fn part(columns: &[u64], at: usize, n: usize) -> &[u64]
     ensures { result.now ≡ take n (drop at columns.now) }
 {
     &columns[at..at + n]
+}
+
+// So many words of both columns of a block, from-words and to-words, lent where they lie.
+pub fn pairs(columns: &[u64], i: usize, n: usize) -> (&[u64], &[u64])
+    requires in_columns { InColumns i columns.now }
+    requires few { n ≤ max_pairs }
+    ensures from { result.0.now ≡ take n (drop (from_place i) columns.now) }
+    ensures to { result.1.now ≡ take n (drop (to_place i) columns.now) }
+{
+    let base = i * BLOCK;
+    (part(columns, base, n), part(columns, base + MAX_PAIRS, n))
 }
 
 // A column of a block, by value.

@@ -12,6 +12,7 @@ ghost use Rattle.slots.specs.Works.{HeadOfDesk, AdmittedAs, unchanged};
 
 use operations::refusals::Refusal;
 use operations::{Column, Fault, listing};
+use words::Shape;
 
 pub mod blocks;
 pub mod rights;
@@ -43,6 +44,19 @@ pub struct Size {
     pub arity: u8,
     pub roots: u8,
     pub pairs: usize,
+}
+
+impl Size {
+    ghost use Rattle.words.specs.Bytes.{shape, shape_of};
+
+    pub fn shape(self) -> Shape
+        ensures { shape_of result ≡ shape self.arity self.roots }
+    {
+        Shape {
+            arity: self.arity,
+            roots: self.roots,
+        }
+    }
 }
 
 // What a desk keeps beside its plans: the station that is named, "a count of changes" for each station (change request E5), for each
