@@ -2,10 +2,9 @@
 -- word or code by the places between which it stands in the line. Behind it the way back, from what was read to the record, and what a
 -- caller has to know of both.
 use Rattle.std.specs.Prelude.{ℕ, ◌+◌, ◌-◌, ◌^◌, ◌≤◌, ◌<◌, ◌≡◌, refl, [], ◌∷◌, ◌++◌, map, negsuc, nat_abs, length, take, drop, replicate}
-use Rattle.std.specs.Prelude.{IfSome}
 use Rattle.std.proofs.Math.Option.{none}
 use Rattle.std.specs.declared.ops.Range.{Range}
-use Rattle.std.specs.Prelude.{Option, None, Some}
+use Rattle.std.specs.Prelude.{Option, None, Some, IfSome}
 use Rattle.higman.specs.Refusals.{no_record}
 use Rattle.higman.specs.Text.{Bytes, byte, bytes}
 use Rattle.desk.specs.Limits.{max_line, max_numeral, max_splits_numeral, max_seed_numeral}
