@@ -18,23 +18,32 @@ use Rattle.higman.proofs.KeptPlans.{arity_of_range}
 use Rattle.higman.proofs.Statements.{answers_exact}
 use Rattle.columns.specs.Packed.{words_of, rows}
 use Rattle.columns.proofs.Rearranged.{froms_table, tos_table}
-use Rattle.std.specs.Prelude.{Result, Ok, Err}
+use Rattle.std.specs.Prelude.{Result, Ok, Err, IsErrAnd, MatchResult}
 use Rattle.std.specs.Result.{result_and}
 use Rattle.operations.specs.declared.Plan.{Plan}
+use Rattle.operations.specs.declared.Reason.{Reason}
 use Rattle.operations.specs.declared.Fault.{Fault}
-use Rattle.operations.specs.declared.Column.TheVariants.{From, To}
+use Rattle.operations.specs.declared.Fault.TheVariants.{InFrom, InTo}
 use Rattle.operations.specs.Plans.{shape_of, rows_of, packed}
+use Rattle.operations.proofs.Exits.{with_error, mapped}
 use Rattle.operations.specs.Closing.{fault_of, verdict_of, closed_by, closing, DraftColumns}
 
+-- the fault of a column as that of a plan
+abbrev pub in_from : Option Of.Reason → Result (Unit {0}) Fault
+in_from f = with_error InFrom (fault_of f)
+
+abbrev pub in_to : Option Of.Reason → Result (Unit {0}) Fault
+in_to f = with_error InTo (fault_of f)
+
 verdict_by_faults : (s : Shape) (t : Table)
-    → verdict_of (Of.verdict s t) ≡ result_and (fault_of From (Of.fault s (froms t))) (fault_of To (Of.fault s (tos t)))
+    → verdict_of (Of.verdict s t) ≡ result_and (in_from (Of.fault s (froms t))) (in_to (Of.fault s (tos t)))
 unfolding Of.verdict
 verdict_by_faults s t = go (Of.fault s (froms t)) (Of.fault s (tos t))
   where
     go : (f g : Option Of.Reason)
         → verdict_of
         (elim f as (λ _. Of.Verdict) [ some r ↦ Of.InFrom r | none ↦ elim g as (λ _. Of.Verdict) [ some r ↦ Of.InTo r | none ↦ Of.Accepted ] ])
-        ≡ result_and (fault_of From f) (fault_of To g)
+        ≡ result_and (in_from f) (in_to g)
     go (some r) g = refl
     go none (some r) = refl
     go none none = refl
@@ -78,23 +87,25 @@ module _ (p : Plan) (d : DraftColumns p) where
   to_words = words_of_plan s (words_of (front p.to)) d.to_words
 
   abbrev pub from_fault : Result (Unit {0}) Fault
-  from_fault = fault_of From (Of.fault s (words_of (front p.from)))
+  from_fault = in_from (Of.fault s (words_of (front p.from)))
 
   abbrev pub to_fault : Result (Unit {0}) Fault
-  to_fault = fault_of To (Of.fault s (words_of (front p.to)))
+  to_fault = in_to (Of.fault s (words_of (front p.to)))
 
-  -- what is wrong with a column, told by a shape that is the draft's
-  module _ {u : Shape} (same : u ≡ s) {r : Result (Unit {0}) Fault} where
-    pub found_from : r ≡ fault_of From (Of.fault u (words_of (front p.from))) → r ≡ from_fault
-    found_from e = e ∙ ap (λ u. fault_of From (Of.fault u (words_of (front p.from)))) same
+  -- what is wrong with a column, told by a shape that is the draft's, and then by `map_err` as that of a plan
+  module _ {u : Shape} (same : u ≡ s) {r : Result (Unit {0}) Reason} {q : Result (Unit {0}) Fault} where
+    pub found_from : r ≡ fault_of (Of.fault u (words_of (front p.from))) → MatchResult r (λ a. q ≡ Ok a) (λ e. IsErrAnd q (λ d. d ≡ InFrom e))
+        → q ≡ from_fault
+    found_from e m = mapped InFrom r q m ∙ ap (with_error InFrom) (e ∙ ap (λ u. fault_of (Of.fault u (words_of (front p.from)))) same)
 
-    pub found_to : r ≡ fault_of To (Of.fault u (words_of (front p.to))) → r ≡ to_fault
-    found_to e = e ∙ ap (λ u. fault_of To (Of.fault u (words_of (front p.to)))) same
+    pub found_to : r ≡ fault_of (Of.fault u (words_of (front p.to))) → MatchResult r (λ a. q ≡ Ok a) (λ e. IsErrAnd q (λ d. d ≡ InTo e))
+        → q ≡ to_fault
+    found_to e m = mapped InTo r q m ∙ ap (with_error InTo) (e ∙ ap (λ u. fault_of (Of.fault u (words_of (front p.to)))) same)
 
   module _ (even : length p.from ≡ length p.to) where
     verdict_by_columns : verdict_of (Of.verdict s t) ≡ result_and from_fault to_fault
     verdict_by_columns =
-        verdict_by_faults s t ∙ ap₂ (λ c e. result_and (fault_of From (Of.fault s c)) (fault_of To (Of.fault s e))) (froms_rows p.pairs p.from p.to even) (tos_rows p.pairs p.from p.to even)
+        verdict_by_faults s t ∙ ap₂ (λ c e. result_and (in_from (Of.fault s c)) (in_to (Of.fault s e))) (froms_rows p.pairs p.from p.to even) (tos_rows p.pairs p.from p.to even)
 
     pub judged_from : (f : Fault) → Err f ≡ from_fault → Err f ≡ verdict_of (Of.verdict s t)
     judged_from f e = sym (verdict_by_columns ∙ ap (λ r. result_and r to_fault) (sym e))

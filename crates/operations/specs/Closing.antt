@@ -18,6 +18,7 @@ use Rattle.operations.specs.declared.Reason.TheVariants.{Overlap, Gap}
 use Rattle.operations.specs.declared.Column.{Column}
 use Rattle.operations.specs.declared.Column.TheVariants.{From, To}
 use Rattle.operations.specs.declared.Fault.{Fault}
+use Rattle.operations.specs.declared.Fault.TheVariants.{InFrom, InTo}
 use Rattle.operations.specs.declared.refusals.Refusal.{Refusal}
 use Rattle.operations.specs.declared.refusals.Refusal.TheVariants.{WordsOverlap, RootUncovered}
 use Rattle.operations.specs.Refusals.{number_of}
@@ -47,19 +48,16 @@ abbrev pub letter_of : Column → ℕ
 letter_of From = Numbers.letter_byte Numbers.F
 letter_of To = Numbers.letter_byte Numbers.T
 
--- "the verdict on a plan names the column and, within it, the reason"
-abbrev pub in_column : Column → Of.Reason → Fault
-in_column c r = record { column = c; reason = reason_of r }
-
 -- the verdict on one column
-abbrev pub fault_of : Column → Option Of.Reason → Result (Unit {0}) Fault
-fault_of c none = Ok tt
-fault_of c (some r) = Err (in_column c r)
+abbrev pub fault_of : Option Of.Reason → Result (Unit {0}) Reason
+fault_of none = Ok tt
+fault_of (some r) = Err (reason_of r)
 
+-- "the verdict on a plan names the column and, within it, the reason"
 abbrev pub verdict_of : Of.Verdict → Result (Unit {0}) Fault
 verdict_of Of.Accepted = Ok tt
-verdict_of (Of.InFrom r) = Err (in_column From r)
-verdict_of (Of.InTo r) = Err (in_column To r)
+verdict_of (Of.InFrom r) = Err (InFrom (reason_of r))
+verdict_of (Of.InTo r) = Err (InTo (reason_of r))
 
 -- what is kept of a table by the verdict on it
 abbrev pub closed_by : Shape → Table → Result (Unit {0}) Fault → Result Plan Fault
@@ -86,6 +84,6 @@ letter_of_example = refl
 
 -- "11→11, 12→12 is kept as 1→1, one pair"; "to column 1, 11: 6, T"; "no pairs: 7, F"
 closing_example : map (closing (shape 2 1)) ((row 11 11 ∷ row 12 12 ∷ []) ∷ (row 11 1 ∷ row 12 11 ∷ []) ∷ [] ∷ [])
-    ≡ Ok (value21 (row 1 1 ∷ [])) ∷ Err (in_column To Of.Overlap) ∷ Err (in_column From Of.Gap) ∷ []
+    ≡ Ok (value21 (row 1 1 ∷ [])) ∷ Err (InTo Overlap) ∷ Err (InFrom Gap) ∷ []
 unfolding closing max_pairs Of.verdict keep normal_form normal joined pack_on pack unpack_in unpack packed
 closing_example = refl

@@ -10,13 +10,12 @@ use Rattle.higman.specs.Answers.{fault}
 use Rattle.columns.specs.Packed.{words_of, table}
 use Rattle.columns.specs.Sorts.{SortedPairs}
 use Rattle.tables.specs.Reduction.{Reducible}
-use Rattle.operations.specs.declared.Column.{Column}
-use Rattle.operations.specs.declared.Fault.{Fault}
+use Rattle.operations.specs.declared.Reason.{Reason}
 use Rattle.operations.specs.Closing.{fault_of}
 
 -- the verdict on a column by the keys of some pairs, which are left sorted by them
-pub record SortedFault (s : Shape) (column : Column) (keys values keys' values' : List ℕ) (r : Result (Unit {0}) Fault) : Type 0 where
-  pub found : r ≡ fault_of column (fault s (words_of keys))
+pub record SortedFault (s : Shape) (keys values keys' values' : List ℕ) (r : Result (Unit {0}) Reason) : Type 0 where
+  pub found : r ≡ fault_of (fault s (words_of keys))
   pub sorts : SortedPairs keys values keys' values'
 
 -- two columns of pairs in order that may be reduced, no more than a plan has

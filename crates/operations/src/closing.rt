@@ -13,51 +13,45 @@ ghost use Rattle.operations.specs.Plans.{shape_of, rows_of};
 ghost use Rattle.operations.specs.Closing.{fault_of, verdict_of, closing, DraftColumns};
 ghost use Rattle.operations.specs.Keeping.{SortedFault};
 
-use crate::{Column, Fault, Plan, Reason, following, keeping};
+use crate::{Fault, Plan, Reason, following, keeping};
 use columns::sorting;
 use words::Shape;
 
 // What is wrong with a column that is sorted, overlap before gap.
-fn sorted_fault(column: Column, words: &[u64], shape: Shape) -> Result<(), Fault>
+fn sorted_fault(words: &[u64], shape: Shape) -> Result<(), Reason>
     requires { (sorted (words_of words.now) ≡ true) × T (shape_in_range (the_shape shape))
         × T (all (is_word (the_shape shape)) (words_of words.now)) }
-    ensures { result ≡ fault_of column (fault (the_shape shape) (words_of words.now)) }
+    ensures { result ≡ fault_of (fault (the_shape shape) (words_of words.now)) }
 {
     if columns::overlaps(words) {
-        return Err(Fault {
-            column,
-            reason: Reason::Overlap,
-        });
+        return Err(Reason::Overlap);
     }
     if columns::has_gap(words, shape) {
-        return Err(Fault {
-            column,
-            reason: Reason::Gap,
-        });
+        return Err(Reason::Gap);
     }
     Ok(())
 }
 
 // What is wrong with a column whose words are the keys of some pairs. The pairs are left sorted by them.
-fn fault_in(column: Column, keys: &mut [u64], values: &mut [u64], shape: Shape) -> Result<(), Fault>
+fn fault_in(keys: &mut [u64], values: &mut [u64], shape: Shape) -> Result<(), Reason>
     requires { (length keys.old ≡ length values.old) × T (shape_in_range (the_shape shape)) × (length keys.old ≤ max_pairs)
         × T (all (is_word (the_shape shape)) (words_of keys.old)) }
-    ensures { SortedFault (the_shape shape) column keys.old values.old keys.new values.new result }
+    ensures { SortedFault (the_shape shape) keys.old values.old keys.new values.new result }
 {
     sorting::sort(keys, values);
-    sorted_fault(column, keys, shape)
+    sorted_fault(keys, shape)
 }
 
 // What is wrong with a column. Two copies are sorted, so that the column stays as it came.
 #[tactic(auto, using(columns::proofs::Limits::pair_limit))]
-fn fault_of(column: Column, words: &[u64], shape: Shape) -> Result<(), Fault>
+fn fault_of(words: &[u64], shape: Shape) -> Result<(), Reason>
     requires { (length words.now ≤ max_pairs) × T (shape_in_range (the_shape shape)) × T (all (is_word (the_shape shape)) (words_of words.now)) }
-    ensures { result ≡ fault_of column (fault (the_shape shape) (words_of words.now)) }
+    ensures { result ≡ fault_of (fault (the_shape shape) (words_of words.now)) }
 {
     let n = words.len();
     let mut keys = following::padded(words, n);
     let mut values = keys;
-    fault_in(column, &mut keys[..n], &mut values[..n], shape)
+    fault_in(&mut keys[..n], &mut values[..n], shape)
 }
 
 // "the verdict on a plan names the column and, within it, the reason"
@@ -67,8 +61,8 @@ pub fn judge(draft: Plan) -> Result<(), Fault>
     ensures { result ≡ verdict_of (verdict (shape_of draft) (rows_of draft)) }
 {
     let shape = draft.shape();
-    fault_of(Column::From, &draft.from[..draft.pairs], shape)?;
-    fault_of(Column::To, &draft.to[..draft.pairs], shape)
+    fault_of(&draft.from[..draft.pairs], shape).map_err(Fault::InFrom)?;
+    fault_of(&draft.to[..draft.pairs], shape).map_err(Fault::InTo)
 }
 
 // "E closes: reduce and keep."
@@ -82,7 +76,7 @@ pub fn close(draft: Plan) -> Result<Plan, Fault>
     let mut to = draft.to;
     let keys = &mut from[..draft.pairs];
     let values = &mut to[..draft.pairs];
-    fault_in(Column::From, keys, values, shape)?;
-    fault_of(Column::To, &draft.to[..draft.pairs], shape)?;
+    fault_in(keys, values, shape).map_err(Fault::InFrom)?;
+    fault_of(&draft.to[..draft.pairs], shape).map_err(Fault::InTo)?;
     Ok(keeping::keep_sorted(keys, values, shape))
 }

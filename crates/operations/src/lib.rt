@@ -60,11 +60,21 @@ impl Plan {
     }
 }
 
-// "the verdict on a plan names the column and, within it, the reason"
+// "the verdict on a plan names the column and, within it, the reason": kept as cases that hold the reason, since document 01 names this form.
 #[derive(Clone, Copy, PartialEq, Eq, Debug)]
-pub struct Fault {
-    pub column: Column,
-    pub reason: Reason,
+pub enum Fault {
+    InFrom(Reason),
+    InTo(Reason),
+}
+
+// "A route replies with an image, a code too short, or another refusal." Kept as an enum of its own, since document 01 names this form.
+#[derive(Clone, Copy, PartialEq, Eq)]
+pub enum Route {
+    // it stands at the front of the buffer
+    Image(Image),
+    // the code is a proper beginning of a from-word: 13
+    TooShort,
+    Refused(Refusal),
 }
 
 #[derive(Clone, Copy, PartialEq, Eq, Debug)]

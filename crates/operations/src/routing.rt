@@ -10,9 +10,9 @@ ghost use Rattle.tables.specs.Routing.{further, at_place};
 ghost use Rattle.operations.specs.Plans.{lent_plan};
 ghost use Rattle.operations.specs.Routing.{matched_in, matched_place_in, routing_by, image_into};
 
-use crate::Lent;
+use crate::{Lent, Route};
 use crate::refusals::Refusal;
-use tables::routing::{Image, Match, RouteError};
+use tables::routing::{Match, RouteError};
 use words::Shape;
 
 // The digits that a routed code has at most: `max_code` of higman's Limits.antt.
@@ -42,27 +42,17 @@ pub fn unmatched<'a>(plan: Lent, code: &'a [u8]) -> Match<'a>
     tables::routing::unmatched(plan.from, code)
 }
 
-// The refusal of a code that has no image in a buffer. The code is a proper beginning of a from-word where none begins it.
-impl From<RouteError> for Refusal {
-    ghost use Rattle.operations.specs.Routing.{unrouted};
-
-    ghost from_gives = { λ error refusal. refusal ≡ unrouted error };
-
-    fn from(error: RouteError) -> Refusal {
-        match error {
-            RouteError::TooShort => Refusal::CodeTooShort,
-            RouteError::NoRoom => Refusal::BufferTooShort,
-        }
-    }
-}
-
 // Writes a code's image at the front of the buffer. 4, 13, 14.
-pub fn route(plan: Lent, code: &[u8], out: &mut [u8]) -> Result<Image, Refusal>
+pub fn route(plan: Lent, code: &[u8], out: &mut [u8]) -> Route
     ensures value { result ≡ routing_by (lent_plan plan.entry) (word_of code.now) (length out.old) }
     ensures out_after { out.new ≡ image_into (routed (lent_plan plan.entry) (word_of code.now)) out.old }
 {
     if !is_code(code, plan.shape) {
-        return Err(Refusal::BadWord);
+        return Route::Refused(Refusal::BadWord);
     }
-    Ok(tables::routing::route_into(plan.from, plan.to, code, out)?)
+    match tables::routing::route_into(plan.from, plan.to, code, out) {
+        Ok(image) => Route::Image(image),
+        Err(RouteError::TooShort) => Route::TooShort,
+        Err(RouteError::NoRoom) => Route::Refused(Refusal::BufferTooShort),
+    }
 }

@@ -13,29 +13,29 @@ fault_in-requires c =
     rw c.shape-shape.ensures
     (simp length-take (omega arith), c.requires.in_range, simp length-take (omega (arith, c.requires.few)), from_words c.args.draft c.requires)
 
-pub returns-in_err-fault_in : goal.returns-in_err-fault_in
-returns-in_err-fault_in c =
+pub returns-in_err-map_err : goal.returns-in_err-map_err
+returns-in_err-map_err c =
     let p = c.args.draft in
-    let f = c.in_err-fault_in.field-0.0 in
-    let e = found_from p c.requires c.shape-shape.ensures c.fault_in.ensures.found in
-    returned _ f c.from_residual.ensures.1 ∙ closed_from p c.requires (omega arith) f (sym c.in_err-fault_in.was ∙ e)
+    let f = c.in_err-map_err.field-0.0 in
+    let e = found_from p c.requires c.shape-shape.ensures c.fault_in.ensures.found c.map_err.ensures.cases in
+    returned _ f c.from_residual.ensures.1 ∙ closed_from p c.requires (omega arith) f (sym c.in_err-map_err.was ∙ e)
 
 pub fault_of-requires : goal.fault_of-requires
 fault_of-requires c = rw c.shape-shape.ensures (simp length-take (omega (arith, c.requires.few)), c.requires.in_range, to_words c.args.draft c.requires)
 
-pub returns-in_err-fault_of : goal.returns-in_err-fault_of
-returns-in_err-fault_of c =
+pub returns-in_err-map_err-2 : goal.returns-in_err-map_err-2
+returns-in_err-map_err-2 c =
     let p = c.args.draft in
-    let f = c.in_err-fault_of.field-0.0 in
-    let e = found_from p c.requires c.shape-shape.ensures c.fault_in.ensures.found in
-    let g = found_to p c.requires c.shape-shape.ensures c.fault_of.ensures in
-    returned _ f c.from_residual-in_err-fault_of.ensures.1 ∙ closed_to p c.requires (omega arith) f (sym c.in_ok-fault_in.was ∙ e) (sym c.in_err-fault_of.was ∙ g)
+    let f = c.in_err-map_err-2.field-0.0 in
+    let e = found_from p c.requires c.shape-shape.ensures c.fault_in.ensures.found c.map_err.ensures.cases in
+    let g = found_to p c.requires c.shape-shape.ensures c.fault_of.ensures c.map_err-2.ensures.cases in
+    returned _ f c.from_residual-in_err-map_err-2.ensures.1 ∙ closed_to p c.requires (omega arith) f (sym c.in_ok-map_err.was ∙ e) (sym c.in_err-map_err-2.was ∙ g)
 
 pub keep_sorted-requires : goal.keep_sorted-requires
 keep_sorted-requires c =
     let p = c.args.draft in
-    let e = sym c.in_ok-fault_in.was ∙ found_from p c.requires c.shape-shape.ensures c.fault_in.ensures.found in
-    let g = sym c.in_ok-fault_of.was ∙ found_to p c.requires c.shape-shape.ensures c.fault_of.ensures in
+    let e = sym c.in_ok-map_err.was ∙ found_from p c.requires c.shape-shape.ensures c.fault_in.ensures.found c.map_err.ensures.cases in
+    let g = sym c.in_ok-map_err-2.was ∙ found_to p c.requires c.shape-shape.ensures c.fault_of.ensures c.map_err-2.ensures.cases in
     let b = accepted_bases p c.requires (omega arith) e g in
     rw c.shape-shape.ensures
     (draft_reducible p c.requires.few c.requires.in_range b (simp length-take (omega arith)) c.fault_in.ensures.sorts)
@@ -43,8 +43,8 @@ keep_sorted-requires c =
 pub returns : goal.returns
 returns c =
     let p = c.args.draft in
-    let e = sym c.in_ok-fault_in.was ∙ found_from p c.requires c.shape-shape.ensures c.fault_in.ensures.found in
-    let g = sym c.in_ok-fault_of.was ∙ found_to p c.requires c.shape-shape.ensures c.fault_of.ensures in
+    let e = sym c.in_ok-map_err.was ∙ found_from p c.requires c.shape-shape.ensures c.fault_in.ensures.found c.map_err.ensures.cases in
+    let g = sym c.in_ok-map_err-2.was ∙ found_to p c.requires c.shape-shape.ensures c.fault_of.ensures c.map_err-2.ensures.cases in
     let b = accepted_bases p c.requires (omega arith) e g in
     let q = draft_plan p c.requires.few c.requires.in_range b (simp length-take (omega arith)) c.fault_in.ensures.sorts c.shape-shape.ensures c.keep_sorted.ensures in
     ap Ok q ∙ closed p c.requires (omega arith) e g

@@ -17,6 +17,6 @@ pub returns : goal.returns
 returns c =
     let s = shape_of c.args.shape in
     record {
-      found = c.sorted_fault.ensures ∙ ap (fault_of c.args.column) (fault_unordered s (rearranged_keys c.requires.0 c.sort.ensures.rearranged));
+      found = c.sorted_fault.ensures ∙ ap fault_of (fault_unordered s (rearranged_keys c.requires.0 c.sort.ensures.rearranged));
       sorts = c.sort.ensures;
     }

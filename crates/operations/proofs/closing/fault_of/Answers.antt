@@ -17,4 +17,4 @@ pub returns : goal.returns
 returns c =
     let words = c.args.words.now in
     let copied = ap (take (length words)) c.padded-keys.ensures ∙ front_of_filling words in
-    c.fault_in.ensures.found ∙ ap (λ l. fault_of c.args.column (fault (shape_of c.args.shape) (words_of l))) copied
+    c.fault_in.ensures.found ∙ ap (λ l. fault_of (fault (shape_of c.args.shape) (words_of l))) copied

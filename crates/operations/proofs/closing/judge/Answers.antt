@@ -8,12 +8,12 @@ use Rattle.operations.proofs.closing.judge.Goals as goal
 pub fault_of-requires : goal.fault_of-requires
 fault_of-requires c = rw c.shape-shape.ensures (simp length-take (omega (arith, c.requires.few)), c.requires.in_range, from_words c.args.draft c.requires)
 
-pub returns-in_err-fault_of : goal.returns-in_err-fault_of
-returns-in_err-fault_of c =
+pub returns-in_err-map_err : goal.returns-in_err-map_err
+returns-in_err-map_err c =
     let p = c.args.draft in
-    let f = c.in_err-fault_of.field-0.0 in
-    let e = found_from p c.requires c.shape-shape.ensures c.fault_of.ensures in
-    returned _ f c.from_residual.ensures.1 ∙ judged_from p c.requires (omega arith) f (sym c.in_err-fault_of.was ∙ e)
+    let f = c.in_err-map_err.field-0.0 in
+    let e = found_from p c.requires c.shape-shape.ensures c.fault_of.ensures c.map_err.ensures.cases in
+    returned _ f c.from_residual.ensures.1 ∙ judged_from p c.requires (omega arith) f (sym c.in_err-map_err.was ∙ e)
 
 pub fault_of-requires-2 : goal.fault_of-requires-2
 fault_of-requires-2 c = rw c.shape-shape.ensures (simp length-take (omega (arith, c.requires.few)), c.requires.in_range, to_words c.args.draft c.requires)
@@ -21,6 +21,6 @@ fault_of-requires-2 c = rw c.shape-shape.ensures (simp length-take (omega (arith
 pub returns : goal.returns
 returns c =
     let p = c.args.draft in
-    let e = found_from p c.requires c.shape-shape.ensures c.fault_of.ensures in
-    let g = found_to p c.requires c.shape-shape.ensures c.fault_of-2.ensures in
-    g ∙ judged_to p c.requires (omega arith) (sym c.in_ok-fault_of.was ∙ e)
+    let e = found_from p c.requires c.shape-shape.ensures c.fault_of.ensures c.map_err.ensures.cases in
+    let g = found_to p c.requires c.shape-shape.ensures c.fault_of-2.ensures c.map_err-2.ensures.cases in
+    g ∙ judged_to p c.requires (omega arith) (sym c.in_ok-map_err.was ∙ e)
