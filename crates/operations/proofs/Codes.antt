@@ -23,15 +23,15 @@ use Rattle.columns.proofs.Rearranged.{froms_table}
 use Rattle.tables.specs.Routing.{IsCode, Searchable, matched_digits, further, routed_in, routed_into}
 use Rattle.tables.specs.declared.routing.Image.{Image}
 use Rattle.tables.specs.declared.routing.RouteError.{RouteError}
-use Rattle.tables.specs.declared.routing.RouteError.TheVariants.{NoRoom}
+use Rattle.tables.specs.declared.routing.RouteError.TheVariants.{TooShort, NoRoom}
 use Rattle.tables.proofs.Routes.{here}
 use Rattle.std.specs.Prelude.{Result, Ok, Err}
-use Rattle.std.specs.Result.{result_map_both}
-use Rattle.operations.specs.declared.refusals.Refusal.{Refusal}
 use Rattle.operations.specs.declared.refusals.Refusal.TheVariants.{BadWord, BufferTooShort}
 use Rattle.operations.specs.declared.lent.Lent.{Lent}
 use Rattle.operations.specs.Plans.{lent_plan}
-use Rattle.operations.specs.Routing.{matched_in, matched_place_in, unrouted, routing_in, routing_by, image_into}
+use Rattle.operations.specs.declared.Route.{Route}
+use Rattle.operations.specs.declared.Route.TheVariants as Routes
+use Rattle.operations.specs.Routing.{matched_in, matched_place_in, routing_in, routing_by, image_into}
 use Rattle.operations.proofs.KeptValues.{lent_kept, lent_operand}
 
 pub code_limit : max_code ≡ 1024
@@ -61,8 +61,10 @@ module _ (s : Shape) (code : List ℕ) where
       test_of_ways 9 w (ways_of_word s w range.arity_high range.roots_high (word_of_test s w (and_left (is_word s w) (leb (length w) max_code) (T_of h))))
 
 -- the reply to what was found in the columns
-abbrev pub replied : Result Image RouteError → Result Image Refusal
-replied r = result_map_both (λ i. i) unrouted r
+abbrev pub replied : Result Image RouteError → Route
+replied (Ok i) = Routes.Image i
+replied (Err TooShort) = Routes.TooShort
+replied (Err NoRoom) = Routes.Refused BufferTooShort
 
 abbrev found : Option Word → Of.Route
 found o = elim o [ some v ↦ Of.Image v | none ↦ Of.TooShort ]
@@ -72,7 +74,7 @@ replied_is k none room = refl
 replied_is k (some v) room = by_room (leb (length (word_bytes v)) room)
   where
     by_room : (b : Bool) → replied (elim b [ true ↦ Ok (record { length = length (word_bytes v); place = k }) | false ↦ Err NoRoom ])
-        ≡ elim b [ true ↦ Ok (record { length = length (word_bytes v); place = k }) | false ↦ Err BufferTooShort ]
+        ≡ elim b [ true ↦ Routes.Image (record { length = length (word_bytes v); place = k }) | false ↦ Routes.Refused BufferTooShort ]
     by_room true = refl
     by_room false = refl
 
@@ -115,11 +117,11 @@ module _ (lent : Lent) (code : List ℕ) where
       let o = lent_operand lent in
       record { packed = o.plain.from_packed; in_order = o.in_order; apart = o.apart }
 
-  abbrev reply : ℕ → Result Image Refusal
+  abbrev reply : ℕ → Route
   reply room = routing_by (lent_plan lent) (word_of code) room
 
   pub route_no_code : (out : List ℕ) → is_code s (word_of code) ≡ false
-      → (Err BadWord ≡ reply (length out)) × (out ≡ image_into answer out)
+      → (Routes.Refused BadWord ≡ reply (length out)) × (out ≡ image_into answer out)
   unfolding routed
   route_no_code out k = (sym (rw (k, routed)), sym (rw (k, routed)))
 

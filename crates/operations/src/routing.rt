@@ -10,8 +10,8 @@ ghost use Rattle.tables.specs.Routing.{further, at_place};
 ghost use Rattle.operations.specs.Plans.{lent_plan};
 ghost use Rattle.operations.specs.Routing.{matched_in, matched_place_in, routing_by, image_into};
 
-use crate::{Lent, Route};
 use crate::refusals::Refusal;
+use crate::{Lent, Route};
 use tables::routing::{Match, RouteError};
 use words::Shape;
 

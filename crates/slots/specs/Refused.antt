@@ -8,6 +8,7 @@ use Rattle.operations.specs.declared.refusals.Refusal.TheVariants as The
 use Rattle.operations.specs.declared.Column.{Column}
 use Rattle.operations.specs.declared.Column.TheVariants.{From, To}
 use Rattle.operations.specs.declared.Fault.{Fault}
+use Rattle.operations.specs.declared.Fault.TheVariants.{InFrom, InTo}
 use Rattle.operations.specs.Refusals.{number_of}
 use Rattle.operations.specs.Closing.{refusal_of}
 use Rattle.slots.specs.declared.Refused.{Refused}
@@ -22,7 +23,8 @@ refusing n = Err (refused_for n)
 
 -- a refusal for a column: "those of E for a column add ⇥F or ⇥T (from, to)"
 abbrev pub refused_in : Fault → Refused
-refused_in f = record { refusal = refusal_of f.reason; column = Some f.column }
+refused_in (InFrom r) = record { refusal = refusal_of r; column = Some From }
+refused_in (InTo r) = record { refusal = refusal_of r; column = Some To }
 
 -- the letter of a column, and of the one that is named, if one is
 abbrev pub letter : Column → Letter

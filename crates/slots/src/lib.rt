@@ -125,9 +125,13 @@ impl From<Fault> for Refused {
     ghost from_gives = { λ fault refused. refused ≡ refused_in fault };
 
     fn from(fault: Fault) -> Refused {
+        let (column, reason) = match fault {
+            Fault::InFrom(reason) => (Column::From, reason),
+            Fault::InTo(reason) => (Column::To, reason),
+        };
         Refused {
-            refusal: fault.reason.into(),
-            column: Some(fault.column),
+            refusal: reason.into(),
+            column: Some(column),
         }
     }
 }
