@@ -5,7 +5,9 @@ use mathlib.Core.Bool.{Bool, true, false, ◌&&◌}
 use mathlib.Core.List.{List, [], ◌∷◌, ◌++◌}
 use mathlib.Core.Option.{none, some}
 use native.Mathlib.Omega.{arith}
+use borrow.Author.Tests.{le-leb, lt-leb}
 use lib.Dec.{T, leb}
+use Rattle.std.specs.Prelude.{Option, Some, None, is_some, Ok}
 use lib.ListN.{length, set, take, drop, length-set, length-drop}
 use lib.Seq.{get_or-set_same, get_or-set_other, length-take-le, drop-set-add, drop-set-lt, take-set-le, take-set-lt}
 use Rattle.higman.specs.Words.{Shape, is_word}
@@ -15,13 +17,12 @@ use Rattle.higman.specs.Text.{Bytes, word_of}
 use Rattle.higman.proofs.PlanWords.{word_of_plan_word}
 use Rattle.higman.proofs.Tests.{so, T_of}
 use Rattle.desk.specs.Desk.{Draft, Desk, IsDesk, with_draft, with_pair}
-use Rattle.desk.specs.Records.{P, M}
-use Rattle.desk.specs.Replies.{◌>>=◌, refuse, pass, silent, new_draft, job}
+use Rattle.desk.specs.Records.{P, M, kind}
+use Rattle.desk.specs.Replies.{◌>>=◌, refuse, pass, Effect, silent, new_draft, admission, job}
 use Rattle.operations.specs.Plans.{in_table}
 use Rattle.words.specs.Bytes.{shape}
 use Rattle.words.specs.Bytes.{read_word}
 use Rattle.words.specs.Packed.{pack, unpack}
-use Rattle.words.specs.declared.Reading.TheVariants.{Spelled, Bad}
 use Rattle.words.proofs.Codes.{unpack_spelled}
 use Rattle.columns.specs.Packed.{pair_of, rows}
 use Rattle.columns.proofs.Rows.{rows_set}
@@ -30,11 +31,14 @@ use Rattle.slots.specs.declared.Head.{Head}
 use Rattle.slots.specs.Blocks.{no_size, size_at, from_place, to_place, value_at}
 use Rattle.slots.specs.Desks.{draft_block, held_by, slot_at, draft_in, control_of, desk_of, HoldsDesk}
 use Rattle.columns.proofs.Limits.{pair_limit}
-use Rattle.slots.proofs.Held.{slots_eight, same_count}
+use Rattle.slots.specs.declared.Reply.TheVariants.{Silent}
+use Rattle.slots.specs.Works.{Done}
+use Rattle.slots.proofs.Held.{slots_eight, same_count, draft_open, draft_length}
+use Rattle.slots.proofs.Steps.{plan_open, at_end, done_passed}
 
 -- the head with another size of the open plan
 abbrev pub drafted : Head → ℕ → Size → Head
-drafted h slot size = record { sizes = set h.sizes draft_block size; is_open = true; slot = slot; control = h.control }
+drafted h slot size = record { sizes = set h.sizes draft_block size; draft = Some slot; control = h.control }
 
 -- columns that show the same in the blocks of the slots
 pub record SlotsSame (columns columns' : List ℕ) : Type 0 where
@@ -153,46 +157,120 @@ module _ (columns : List ℕ) (sized : length columns ≡ 2304) (n : ℕ) (few :
       ∙ ap (λ t. record { slot = slot; shape = shape a r; rows = t }) table
       ∙ sym (ap (λ (z : Size). record { slot = slot; shape = shape z.arity z.roots; rows = rows z.pairs from to ++ (pair_of x y ∷ []) }) e)
 
+-- what reading a word tells
+no_word : (s : Shape) (code : Bytes) (b : Bool) → is_plan_word s (word_of code) ≡ b
+    → ◌≡◌ {A = Option ℕ} (elim b [ true ↦ Some (pack (word_of code)) | false ↦ None ]) None → is_plan_word s (word_of code) ≡ false
+no_word s code true e q = cc
+no_word s code false e q = e
+
+some_word : (s : Shape) (code : Bytes) (b : Bool) → is_plan_word s (word_of code) ≡ b → (x : ℕ)
+    → ◌≡◌ {A = Option ℕ} (elim b [ true ↦ Some (pack (word_of code)) | false ↦ None ]) (Some x)
+    → (is_plan_word s (word_of code) ≡ true) × (pack (word_of code) ≡ x)
+some_word s code true e x q = (e, cc)
+some_word s code false e x q = cc
+
+module _ (s : Shape) (code : Bytes) where
+  read_none : read_word s code ≡ None → is_plan_word s (word_of code) ≡ false
+  unfolding read_word
+  read_none q = no_word s code (is_plan_word s (word_of code)) refl q
+
+  read_some : (x : ℕ) → read_word s code ≡ Some x → (is_plan_word s (word_of code) ≡ true) × (unpack x ≡ word_of code)
+  unfolding read_word
+  read_some x q =
+      let (h, e) = some_word s code (is_plan_word s (word_of code)) refl x q in
+      (h, ap unpack (sym e) ∙ unpack_spelled s code (so (is_word s (word_of code)) (word_of_plan_word s (word_of code) (T_of h))))
+
 -- M: 4, 5, or the pair is added
 module _ (d : Desk) (o : Draft) (e : d.draft ≡ some o) (from to : Bytes) where
   abbrev are_words : Bool
   are_words = is_plan_word o.shape (word_of from) && is_plan_word o.shape (word_of to)
 
-  pub pair_bad : are_words ≡ false → job d (M from to) ≡ refuse bad_word none
+  pair_bad : are_words ≡ false → job d (M from to) ≡ refuse bad_word none
   unfolding job ◌>>=◌
   pair_bad w = rw (e, w) refl
 
-  pub pair_full : are_words ≡ true → leb max_pairs (length o.rows) ≡ true → job d (M from to) ≡ refuse pairs_full none
+  pair_full : are_words ≡ true → leb max_pairs (length o.rows) ≡ true → job d (M from to) ≡ refuse pairs_full none
   unfolding job ◌>>=◌
   pair_full w f = rw (e, w, f) refl
 
-  pub pair_done : are_words ≡ true → leb max_pairs (length o.rows) ≡ false
+  pair_done : are_words ≡ true → leb max_pairs (length o.rows) ≡ false
       → job d (M from to) ≡ pass (with_draft d (with_pair o (record { from = word_of from; to = word_of to })), silent)
   unfolding job ◌>>=◌
   pair_done w f = rw (e, w, f) refl
 
--- what reading a word tells
-spelled_word : (s : Shape) (code : Bytes) (b : Bool) → is_plan_word s (word_of code) ≡ b → (x : ℕ)
-    → elim b [ true ↦ Spelled (pack (word_of code)) | false ↦ Bad ] ≡ Spelled x → (is_plan_word s (word_of code) ≡ true) × (pack (word_of code) ≡ x)
-spelled_word s code true e x q = (e, cc)
-spelled_word s code false e x q = let z : ◌≡◌ {A = ℕ} 0 1 = cc in absurd (omega arith)
+-- M where a plan is open, by what is read of its words
+module _ (h : Head) (columns : List ℕ) (H : HoldsDesk h columns) (slot : ℕ) (e : h.draft ≡ Some slot) (from to : Bytes) where
+  abbrev d : Desk
+  d = desk_of h columns
 
-bad_word_lem : (s : Shape) (code : Bytes) (b : Bool) → is_plan_word s (word_of code) ≡ b
-    → elim b [ true ↦ Spelled (pack (word_of code)) | false ↦ Bad ] ≡ Bad → is_plan_word s (word_of code) ≡ false
-bad_word_lem s code true e q = let z : ◌≡◌ {A = ℕ} 0 1 = cc in absurd (omega arith)
-bad_word_lem s code false e q = e
+  abbrev plan : Draft
+  plan = draft_in slot (value_at h columns draft_block)
 
-module _ (s : Shape) (code : Bytes) where
-  pub read_bad : read_word s code ≡ Bad → is_plan_word s (word_of code) ≡ false
-  unfolding read_word
-  read_bad q = bad_word_lem s code (is_plan_word s (word_of code)) refl q
+  abbrev size : Size
+  size = size_at h draft_block
 
-  pub read_word_lem : (x : ℕ) → read_word s code ≡ Spelled x → is_plan_word s (word_of code) ≡ true
-  unfolding read_word
-  read_word_lem x q = (spelled_word s code (is_plan_word s (word_of code)) refl x q).0
+  abbrev s : Shape
+  s = shape size.arity size.roots
 
-  pub read_unpacked : (x : ℕ) → read_word s code ≡ Spelled x → unpack x ≡ word_of code
-  unfolding read_word
-  read_unpacked x q =
-      let (h, e) = spelled_word s code (is_plan_word s (word_of code)) refl x q in
-      ap unpack (sym e) ∙ unpack_spelled s code (so (is_word s (word_of code)) (word_of_plan_word s (word_of code) (T_of h)))
+  is_draft : d.draft ≡ some plan
+  is_draft = draft_open h columns slot e
+
+  pub pair_admitted : admission d (M from to) ≡ pass tt
+  unfolding kind
+  pair_admitted = plan_open h columns (M from to) false refl (ap is_some e)
+
+  pub bad_from : read_word s from ≡ None → job d (M from to) ≡ refuse bad_word none
+  unfolding value_at
+  bad_from q = pair_bad d plan is_draft from to (ap (λ b. b && is_plan_word s (word_of to)) (read_none s from q))
+
+  pub bad_to : (x : ℕ) → read_word s from ≡ Some x → read_word s to ≡ None → job d (M from to) ≡ refuse bad_word none
+  unfolding value_at
+  bad_to x p q = pair_bad d plan is_draft from to (ap₂ ◌&&◌ (read_some s from x p).0 (read_none s to q))
+
+  module _ (x y : ℕ) (p : read_word s from ≡ Some x) (q : read_word s to ≡ Some y) where
+    words_are : are_words d plan is_draft from to ≡ true
+    unfolding value_at
+    words_are = ap₂ ◌&&◌ (read_some s from x p).0 (read_some s to y q).0
+
+    pub no_room : 128 ≤ size.pairs → job d (M from to) ≡ refuse pairs_full none
+    no_room many =
+        pair_full d plan is_draft from to words_are
+        (le-leb max_pairs (length plan.rows) (omega (arith, pair_limit, draft_length h columns H slot)))
+
+    -- the pair is set behind the others
+    module _ (few : size.pairs < 128) where
+      abbrev grown : Size
+      grown = record { arity = size.arity; roots = size.roots; pairs = size.pairs + 1 }
+
+      abbrev next : Option ℕ → Head
+      next o = record { sizes = set h.sizes draft_block grown; draft = o; control = h.control }
+
+      abbrev columns' : List ℕ
+      columns' = paired columns H.sized size.pairs few x y
+
+      abbrev with_next : Effect
+      with_next = (with_draft d (with_pair plan (record { from = word_of from; to = word_of to })), silent)
+
+      next_desk : desk_of (drafted h slot grown) columns' ≡ with_next.0
+      unfolding value_at
+      next_desk =
+          let same = paired_slots columns H.sized size.pairs few x y in
+          let from_word = (read_some s from x p).1 in
+          let to_word = (read_some s to y q).1 in
+          let pair : pair_of x y ≡ record { from = word_of from; to = word_of to } = λ i. record { from = from_word i; to = to_word i } in
+          drafted_desk h columns columns' H same slot grown
+          ∙ ap (with_draft d) (draft_paired columns H.sized size.pairs few x y h slot size.arity size.roots refl (drafted h slot grown)
+          (drafted_size h columns columns' H same slot grown) ∙ ap (with_pair plan) pair)
+
+      pub paired_done : (out : List ℕ) → Done (M from to) h columns out (Ok (record { head = next h.draft; reply = Silent })) columns' out
+      unfolding kind
+      paired_done out =
+          let same = paired_slots columns H.sized size.pairs few x y in
+          let room : length plan.rows < max_pairs = omega (arith, pair_limit, draft_length h columns H slot) in
+          let full = lt-leb max_pairs (length plan.rows) room in
+          let step = at_end d (M from to) pair_admitted with_next (pair_done d plan is_draft from to words_are full) refl in
+          let holds : IsDesk with_next.0 → HoldsDesk (drafted h slot grown) columns' =
+          λ k. holds_drafted h columns columns' H same slot grown (omega (arith, pair_limit)) (subst IsDesk (sym next_desk) k) in
+          subst (λ o. Done (M from to) h columns out (Ok (record { head = next o; reply = Silent })) columns' out) (sym e)
+          (done_passed h columns H (M from to) out with_next step (record { head = next (Some slot); reply = Silent }) columns' out
+          holds next_desk refl refl)

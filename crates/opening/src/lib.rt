@@ -6,67 +6,55 @@ ghost use Rattle.desk.specs.Records.{P, M};
 ghost use Rattle.slots.specs.Desks.{HoldsDesk};
 ghost use Rattle.slots.specs.Works.{HeadOfDesk, DoneByHead, DoneSilently};
 
-use operations::{MAX_PAIRS, shapes};
-use slots::{BLOCK, DRAFT, Head, Reply, Size, Work, numbers};
-use words::Reading;
+use operations::MAX_PAIRS;
+use operations::refusals::Refusal;
+use slots::{BLOCK, DRAFT, Head, Refused, Reply, Size, Work};
+use words::Shape;
 
 // P: 2, 8, 20, 3.
-pub fn open(head: Head, slot: u8, arity: u8, roots: u8) -> Work
+pub fn open(head: Head, slot: u8, shape: Shape) -> Result<Work, Refused>
     requires { HeadOfDesk head }
-    ensures { DoneByHead (P slot arity roots) head result }
+    ensures { DoneByHead (P slot shape.arity shape.roots) head result }
 {
-    let refusal = slots::admission(head, &[], &[slot]);
-    if refusal != 0 {
-        return slots::refused(head, refusal);
+    slots::admission(head, &[], &[slot])?;
+    if !shape.is_in_range() {
+        return Err(Refusal::ShapeOutside.into());
     }
-    if !shapes::in_range(arity, roots) {
-        return slots::refused(head, numbers::SHAPE_OUTSIDE);
-    }
-    let mut h = head;
-    h.sizes[DRAFT] = Size {
-        arity: arity,
-        roots: roots,
+    let mut next = head;
+    next.sizes[DRAFT] = Size {
+        arity: shape.arity,
+        roots: shape.roots,
         pairs: 0,
     };
-    h.is_open = true;
-    h.slot = slots::slot_number(slot) as u8;
-    Work {
-        head: h,
+    next.draft = Some(slots::slot_number(slot) as u8);
+    Ok(Work {
+        head: next,
         reply: Reply::Silent,
-    }
+    })
 }
 
 // M: 2, 4, 5.
-pub fn pair(head: Head, columns: &mut [u64], from: &[u8], to: &[u8]) -> Work
+pub fn pair(head: Head, columns: &mut [u64], from: &[u8], to: &[u8]) -> Result<Work, Refused>
     requires { HoldsDesk head columns.old }
     ensures { DoneSilently (M from.now to.now) head columns.old result columns.new }
 {
-    if !head.is_open {
-        return slots::refused(head, numbers::WRONG_STATE);
+    if head.draft.is_none() {
+        return Err(Refusal::WrongState.into());
     }
     let size = head.sizes[DRAFT];
-    let Reading::Spelled(from_word) = words::read(from, size.arity, size.roots) else {
-        return slots::refused(head, operations::numbers::BAD_WORD);
-    };
-    let Reading::Spelled(to_word) = words::read(to, size.arity, size.roots) else {
-        return slots::refused(head, operations::numbers::BAD_WORD);
-    };
-    let n = size.pairs;
-    if MAX_PAIRS <= n {
-        return slots::refused(head, operations::numbers::PAIRS_FULL);
+    let shape = size.shape();
+    let from_word = words::read(from, shape).ok_or(Refusal::BadWord)?;
+    let to_word = words::read(to, shape).ok_or(Refusal::BadWord)?;
+    if MAX_PAIRS <= size.pairs {
+        return Err(Refusal::PairsFull.into());
     }
-    let from_at = DRAFT * BLOCK + n;
-    let to_at = from_at + MAX_PAIRS;
+    let from_at = DRAFT * BLOCK + size.pairs;
     columns[from_at] = from_word;
-    columns[to_at] = to_word;
-    let mut h = head;
-    h.sizes[DRAFT] = Size {
-        arity: size.arity,
-        roots: size.roots,
-        pairs: n + 1,
-    };
-    Work {
-        head: h,
+    columns[from_at + MAX_PAIRS] = to_word;
+    let mut next = head;
+    next.sizes[DRAFT].pairs += 1;
+    Ok(Work {
+        head: next,
         reply: Reply::Silent,
-    }
+    })
 }

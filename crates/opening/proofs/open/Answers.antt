@@ -2,84 +2,71 @@
 use mathlib.Core.Path.{◌≡◌, refl, sym, ◌∙◌, ap, subst}
 use mathlib.Core.Bool.{true, false}
 use mathlib.Core.List.Memᴰ
-use mathlib.Core.List.{List, [], ◌∷◌}
-use Prim.Native.Nat.{ℕ}
+use mathlib.Core.List.{[], ◌∷◌}
 use native.Mathlib.Omega.{arith}
-use Rattle.higman.specs.Refusals.{shape_outside}
+use Rattle.std.specs.Prelude.{Err}
 use Rattle.higman.specs.Listing.{is_slot}
-use Rattle.words.specs.Bytes.{shape}
+use Rattle.words.specs.Bytes.{shape_of}
 use Rattle.desk.specs.Desk.{with_draft, IsDesk}
-use Rattle.desk.specs.Records.{Record, P, kind, writing}
-use Rattle.desk.specs.Replies.{pass, Effect, silent, new_draft, admission}
+use Rattle.desk.specs.Records.{P, kind, writing}
+use Rattle.desk.specs.Replies.{Effect, silent, new_draft}
+use Rattle.operations.specs.declared.refusals.Refusal.TheVariants.{ShapeOutside}
 use Rattle.slots.specs.declared.Size.{Size}
 use Rattle.slots.specs.Desks.{desk_of}
-use Rattle.slots.specs.Works.{admitted_by}
+use Rattle.slots.specs.Refused.{refused_for}
 use Rattle.slots.proofs.Held.{slots_eight}
-use Rattle.slots.proofs.Steps.{slot_below, admitted_named, refused_by_lem, refused_job, at_end, done_passed}
+use Rattle.slots.proofs.Steps.{slot_below, admitted_named, returned, refused_by, refused_job, at_end, done_passed}
 use Rattle.opening.proofs.Drafted.{drafted, slots_untouched, drafted_size, drafted_desk, holds_drafted, draft_empty, open_outside, open_done}
-use Rattle.opening.proofs.open.Goals.{Else-refusal-ne0, Start}
+use Rattle.opening.proofs.open.Goals.{Else-not-is_in_range}
 use Rattle.opening.proofs.open.Goals as goal
 
-abbrev record_of : Start → Record
-record_of s = P s.args.slot s.args.arity s.args.roots
-
-abbrev start : Else-refusal-ne0 → Start
-start c = c.before.before.before.before.before
-
 -- the record is admitted, whatever the columns are, and so the byte names a slot
-admitted : (c : Else-refusal-ne0) (columns : List ℕ) → admission (desk_of (start c).args.head columns) (record_of (start c)) ≡ pass tt
-unfolding kind
-admitted c columns = c.admission-refusal.ensures (record_of (start c)) false columns refl ∙ ap admitted_by c.if-refusal-ne0.false
-
-named : (c : Else-refusal-ne0) → is_slot (start c).args.slot ≡ true
+named : (c : Else-not-is_in_range) → is_slot c.args.slot ≡ true
 unfolding kind
 named c =
-    let s = start c in
-    let columns = s.requires.0 in
-    admitted_named (desk_of s.args.head columns) (record_of s) (admitted c columns) (writing s.args.slot) (Memᴰ.head refl)
+    let a = c.args in
+    let columns = c.requires.0 in
+    let r = P a.slot a.shape.arity a.shape.roots in
+    admitted_named (desk_of a.head columns) r (c.in_ok-admission.ensures r false columns refl) (writing a.slot) (Memᴰ.head refl)
 
-pub returns-then-refusal-ne0 : goal.returns-then-refusal-ne0
+pub returns-in_err-admission : goal.returns-in_err-admission
 unfolding kind
-returns-then-refusal-ne0 c = λ columns out H.
-    let t = c.before.before in
-    let s = t.before.before.before.before in
-    refused_by_lem c.args.head columns H (record_of s) out [] (c.args.slot ∷ []) false refl _ c.admission-refusal.ensures
-    c.if-refusal-ne0.true c.refused.result c.refused.ensures
+returns-in_err-admission c = λ columns out H.
+    let a = c.args in
+    refused_by a.head columns H (P a.slot a.shape.arity a.shape.roots) out [] (a.slot ∷ []) false refl _ c.in_err-admission.ensures _
+    (returned _ _ c.from_residual.ensures.1)
 
-pub returns-then-not-in_range : goal.returns-then-not-in_range
-returns-then-not-in_range c = λ columns out H.
-    let r = c.before.before in
-    let s = start r.before in
-    let no = sym c.in_range.ensures ∙ c.if-not-in_range.true in
-    refused_job s.args.head columns H (record_of s) out (admitted r.before columns) shape_outside
-    (open_outside (desk_of s.args.head columns) s.args.slot s.args.arity s.args.roots no)
-    c.refused-then-not-in_range.result c.refused-then-not-in_range.ensures
+pub returns-then-not-is_in_range : goal.returns-then-not-is_in_range
+unfolding kind
+returns-then-not-is_in_range c = λ columns out H.
+    let a = c.args in
+    let r = P a.slot a.shape.arity a.shape.roots in
+    let no = sym c.is_in_range.ensures ∙ c.if-not-is_in_range.true in
+    refused_job a.head columns H r out (c.in_ok-admission.ensures r false columns refl) (refused_for ShapeOutside)
+    (open_outside (desk_of a.head columns) a.slot a.shape.arity a.shape.roots no) _ (ap Err c.into.ensures)
 
 pub slot_number-requires : goal.slot_number-requires
-slot_number-requires c = named c.before.before
+slot_number-requires c = named c
 
-pub overflow_cast-h : goal.overflow_cast-h
-overflow_cast-h c =
-    let slot = slot_below (start c.before.before.before).args.slot (named c.before.before.before) in
-    record { fits = omega (arith, c.slot_number.ensures, slot, slots_eight) }
+pub overflow_cast-next : goal.overflow_cast-next
+overflow_cast-next c = record { fits = omega (arith, c.slot_number.ensures, slot_below c.args.slot (named c.before), slots_eight) }
 
 pub returns : goal.returns
 unfolding kind
 returns c = λ columns out H.
-    let r = c.before.before in
-    let s = start r.before in
-    let a = s.args in
+    let a = c.args in
     let h = a.head in
     let d = desk_of h columns in
+    let r = P a.slot a.shape.arity a.shape.roots in
     let slot = c.slot_number.result in
-    let size : Size = record { arity = a.arity; roots = a.roots; pairs = 0 } in
-    let yes = sym c.in_range.ensures ∙ c.if-not-in_range.false in
+    let size : Size = record { arity = a.shape.arity; roots = a.shape.roots; pairs = 0 } in
+    let yes = sym c.is_in_range.ensures ∙ c.if-not-is_in_range.false in
     let same = slots_untouched columns in
-    let next : Effect = (with_draft d (new_draft a.slot (shape a.arity a.roots)), silent) in
+    let next : Effect = (with_draft d (new_draft a.slot (shape_of a.shape)), silent) in
     let desk : desk_of (drafted h slot size) columns ≡ next.0 =
     drafted_desk h columns columns H same slot size
-    ∙ ap (with_draft d) (draft_empty (drafted h slot size) columns slot a.arity a.roots (drafted_size h columns columns H same slot size)
-    ∙ ap (λ n. record { slot = n; shape = shape a.arity a.roots; rows = [] }) c.slot_number.ensures) in
-    let step = at_end d (record_of s) (admitted r.before columns) next (open_done d a.slot a.arity a.roots yes) refl in
-    done_passed h columns H (record_of s) out next step _ columns out
+    ∙ ap (with_draft d) (draft_empty (drafted h slot size) columns slot a.shape.arity a.shape.roots (drafted_size h columns columns H same slot size)
+    ∙ ap (λ n. record { slot = n; shape = shape_of a.shape; rows = [] }) c.slot_number.ensures) in
+    let step = at_end d r (c.in_ok-admission.ensures r false columns refl) next (open_done d a.slot a.shape.arity a.shape.roots yes) refl in
+    done_passed h columns H r out next step _ columns out
     (λ k. holds_drafted h columns columns H same slot size (omega arith) (subst IsDesk (sym desk) k)) desk refl refl

@@ -1,0 +1,55 @@
+-- `opening::pair` meets its contract: each word is judged, and then the pair is set behind those of the open plan.
+use mathlib.Core.Path.{refl, sym, ◌∙◌, ap}
+use mathlib.Core.Bool.{false, not}
+use Rattle.std.specs.Prelude.{Err}
+use Rattle.words.specs.Bytes.{read_word}
+use Rattle.desk.specs.Records.{M, kind}
+use Rattle.operations.specs.declared.refusals.Refusal.TheVariants as The
+use Rattle.slots.specs.Refused.{refused_for}
+use Rattle.slots.proofs.Held.{draft_slot}
+use Rattle.slots.proofs.Steps.{no_plan_open, returned, refused_with, refused_admission, refused_job}
+use Rattle.opening.proofs.Drafted.{pair_admitted, bad_from, bad_to, no_room, paired_done}
+use Rattle.opening.proofs.pair.Goals as goal
+
+pub returns-then-is_none : goal.returns-then-is_none
+unfolding kind
+returns-then-is_none c = λ out.
+    let a = c.args in
+    refused_admission a.head a.columns.now c.requires (M a.from.now a.to.now) out (refused_for The.WrongState)
+    (no_plan_open a.head a.columns.now (M a.from.now a.to.now) false refl (c.is_none.ensures ∙ ap not c.if-is_none.true)) _
+    (ap Err c.into.ensures)
+
+pub returns-in_err-from_word : goal.returns-in_err-from_word
+returns-in_err-from_word c = λ out.
+    let a = c.args in
+    let (slot, e) = draft_slot a.head.draft (c.is_none.ensures ∙ ap not c.if-is_none.false) in
+    refused_job a.head a.columns.now c.requires (M a.from.now a.to.now) out
+    (pair_admitted a.head a.columns.now c.requires slot e a.from.now a.to.now) (refused_for The.BadWord)
+    (bad_from a.head a.columns.now c.requires slot e a.from.now a.to.now (ap (λ z. read_word z a.from.now) (sym c.shape-shape.ensures) ∙ sym c.read.ensures ∙ c.in_err-from_word.ensures.ok_part)) _
+    (returned _ _ c.from_residual.ensures.1 ∙ ap Err (refused_with c.read.result _ The.BadWord c.in_err-from_word.ensures.value))
+
+pub returns-in_err-to_word : goal.returns-in_err-to_word
+returns-in_err-to_word c = λ out.
+    let a = c.args in
+    let (slot, e) = draft_slot a.head.draft (c.is_none.ensures ∙ ap not c.if-is_none.false) in
+    refused_job a.head a.columns.now c.requires (M a.from.now a.to.now) out
+    (pair_admitted a.head a.columns.now c.requires slot e a.from.now a.to.now) (refused_for The.BadWord)
+    (bad_to a.head a.columns.now c.requires slot e a.from.now a.to.now _ (ap (λ z. read_word z a.from.now) (sym c.shape-shape.ensures) ∙ sym c.read.ensures ∙ c.in_ok-from_word.ensures.ok_part)
+    (ap (λ z. read_word z a.to.now) (sym c.shape-shape.ensures) ∙ sym c.read-2.ensures ∙ c.in_err-to_word.ensures.ok_part)) _
+    (returned _ _ c.from_residual-in_err-to_word.ensures.1 ∙ ap Err (refused_with c.read-2.result _ The.BadWord c.in_err-to_word.ensures.value))
+
+pub returns-then-size-ge-MAX_PAIRS : goal.returns-then-size-ge-MAX_PAIRS
+returns-then-size-ge-MAX_PAIRS c = λ out.
+    let a = c.args in
+    let (slot, e) = draft_slot a.head.draft (c.is_none.ensures ∙ ap not c.if-is_none.false) in
+    refused_job a.head a.columns.now c.requires (M a.from.now a.to.now) out
+    (pair_admitted a.head a.columns.now c.requires slot e a.from.now a.to.now) (refused_for The.PairsFull)
+    (no_room a.head a.columns.now c.requires slot e a.from.now a.to.now _ _ (ap (λ z. read_word z a.from.now) (sym c.shape-shape.ensures) ∙ sym c.read.ensures ∙ c.in_ok-from_word.ensures.ok_part)
+    (ap (λ z. read_word z a.to.now) (sym c.shape-shape.ensures) ∙ sym c.read-2.ensures ∙ c.in_ok-to_word.ensures.ok_part) c.if-size-ge-MAX_PAIRS.true) _ (ap Err c.into-then-size-ge-MAX_PAIRS.ensures)
+
+pub returns : goal.returns
+returns c = λ out.
+    let a = c.args in
+    let (slot, e) = draft_slot a.head.draft (c.is_none.ensures ∙ ap not c.if-is_none.false) in
+    paired_done a.head a.columns.now c.requires slot e a.from.now a.to.now _ _ (ap (λ z. read_word z a.from.now) (sym c.shape-shape.ensures) ∙ sym c.read.ensures ∙ c.in_ok-from_word.ensures.ok_part)
+    (ap (λ z. read_word z a.to.now) (sym c.shape-shape.ensures) ∙ sym c.read-2.ensures ∙ c.in_ok-to_word.ensures.ok_part) c.if-size-ge-MAX_PAIRS.false out
