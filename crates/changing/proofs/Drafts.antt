@@ -1,26 +1,24 @@
--- Closing the open plan: its block holds words as M takes them, and E's job by the verdict on its pairs.
+-- The open plan in its block: words as M takes them, and what closing keeps of them.
 use Prim.Native.Nat.{ℕ, ◌≤◌}
-use mathlib.Core.Path.{◌≡◌, refl, sym, ◌∙◌, ap, subst}
+use mathlib.Core.Path.{◌≡◌, sym, ◌∙◌, ap, subst}
 use mathlib.Core.Bool.{true}
 use mathlib.Core.List.{List, [], ◌∷◌}
-use mathlib.Core.Option.{none, some}
-use native.Mathlib.Omega.{arith}
 use lib.Dec.{T, leb}
 use lib.ListN.{length}
+use Rattle.std.specs.Prelude.{Some}
 use Rattle.higman.specs.Words.{Shape, is_word}
 use Rattle.higman.specs.Bases.{all}
 use Rattle.higman.specs.Tables.{Table, froms, tos}
-use Rattle.higman.specs.Limits.{Plan, max_pairs, fits, pair_fits, is_plan_word, granted}
-use Rattle.higman.specs.Answers as Of
-use Rattle.higman.specs.Refusals.{wrong_state, Letter}
+use Rattle.higman.specs.Limits.{Kept, max_pairs, fits, pair_fits, is_plan_word, granted}
+use Rattle.higman.specs.Answers.{verdict, Accepted}
 use Rattle.higman.proofs.Tests.{and_left, and_right, and_intro, all_head, all_tail, all_cons}
-use Rattle.desk.specs.Desk.{Draft, Desk, IsDraft}
-use Rattle.desk.specs.Records.{E}
-use Rattle.desk.specs.Replies.{◌>>=◌, Outcome, refuse, pass, Effect, of_verdict, of_answer, keep_in, closed, job}
-use Rattle.operations.specs.declared.Reason.{Reason}
-use Rattle.operations.specs.declared.Verdict.TheVariants as Told
-use Rattle.operations.specs.Plans.{shape_of, rows_of}
-use Rattle.operations.specs.Closing.{reason_of, reason_number, verdict_of, DraftColumns}
+use Rattle.desk.specs.Desk.{IsDraft}
+use Rattle.desk.specs.Replies.{closed as kept_of}
+use Rattle.desk.proofs.Stays.{closed_kept}
+use Rattle.operations.specs.declared.Plan.{Plan}
+use Rattle.operations.specs.Plans.{shape_of, rows_of, plan_of, is_plan, packed}
+use Rattle.operations.specs.Closing.{DraftColumns}
+use Rattle.operations.proofs.Repacked.{holds, packed_is_plan}
 use Rattle.operations.proofs.Verdicts.{froms_rows, tos_rows}
 use Rattle.slots.specs.declared.Head.{Head}
 use Rattle.slots.specs.Blocks.{value_at}
@@ -47,15 +45,15 @@ module _ (s : Shape) where
       (and_right (fits p.from) (fits p.to) (all_head pair_fits p t f)))
       (to_fit t (all_tail (is_word s) p.to (tos t) w) (all_tail pair_fits p t f))
 
-module _ (h : Head) (columns : List ℕ) (H : HoldsDesk h columns) (e : h.is_open ≡ true) where
-  pub open_draft : IsDraft (draft_in h.slot (value_at h columns draft_block))
-  open_draft = H.is_desk_lem.drafted _ (draft_open h columns e)
+module _ (h : Head) (columns : List ℕ) (H : HoldsDesk h columns) (slot : ℕ) (e : h.draft ≡ Some slot) where
+  pub open_draft : IsDraft (draft_in slot (value_at h columns draft_block))
+  open_draft = H.is_desk_lem.drafted _ (draft_open h columns slot e)
 
   few : (value_at h columns draft_block).pairs ≤ max_pairs
   unfolding value_at
   few = H.few
 
-  pub draft_columns : let v = value_at h columns draft_block in DraftColumns (shape_of v) v.pairs v.from v.to
+  pub draft_columns : DraftColumns (value_at h columns draft_block)
   unfolding granted
   draft_columns =
       let v = value_at h columns draft_block in
@@ -70,52 +68,14 @@ module _ (h : Head) (columns : List ℕ) (H : HoldsDesk h columns) (e : h.is_ope
         to_words = subst (λ c. T (all (is_plan_word s) c)) (tos_rows v.pairs v.from v.to even) (to_fit s t open_draft.to_words fit);
       }
 
--- the reason that a verdict tells
-reason_is : (r : Of.Reason) → reason_number (reason_of r) ≡ Of.reason_number r
-reason_is Of.Overlap = refl
-reason_is Of.Gap = refl
+  -- what closing keeps of it, where it is accepted
+  module _ (accepts : let v = value_at h columns draft_block in verdict (shape_of v) (rows_of v) ≡ Accepted) (p : Plan)
+      (packs : p ≡ packed (kept_of (draft_in slot (value_at h columns draft_block)))) where
+    kept_draft : Kept (kept_of (draft_in slot (value_at h columns draft_block)))
+    kept_draft = closed_kept _ open_draft accepts
 
-in_from : (v : Of.Verdict) (x : Reason) → verdict_of v ≡ Told.InFrom x → (r : Of.Reason) × (v ≡ Of.InFrom r) × (x ≡ reason_of r)
-in_from Of.Accepted x e = let z : ◌≡◌ {A = ℕ} 0 1 = cc in absurd (omega arith)
-in_from (Of.InFrom r) x e = (r, refl, cc)
-in_from (Of.InTo r) x e = let z : ◌≡◌ {A = ℕ} 0 1 = cc in absurd (omega arith)
+    pub closed_is : kept_of (draft_in slot (value_at h columns draft_block)) ≡ plan_of p
+    closed_is = sym (ap plan_of packs ∙ holds _ kept_draft)
 
-in_to : (v : Of.Verdict) (x : Reason) → verdict_of v ≡ Told.InTo x → (r : Of.Reason) × (v ≡ Of.InTo r) × (x ≡ reason_of r)
-in_to Of.Accepted x e = let z : ◌≡◌ {A = ℕ} 0 1 = cc in absurd (omega arith)
-in_to (Of.InFrom r) x e = let z : ◌≡◌ {A = ℕ} 0 1 = cc in absurd (omega arith)
-in_to (Of.InTo r) x e = (r, refl, cc)
-
-pub accepted : (v : Of.Verdict) → verdict_of v ≡ Told.Accepted → v ≡ Of.Accepted
-accepted Of.Accepted e = refl
-accepted (Of.InFrom r) e = let z : ◌≡◌ {A = ℕ} 0 1 = cc in absurd (omega arith)
-accepted (Of.InTo r) e = let z : ◌≡◌ {A = ℕ} 0 1 = cc in absurd (omega arith)
-
-pub granted_injective : (p q : Plan) → Of.Granted p ≡ Of.Granted q → p ≡ q
-granted_injective p q e = cc
-
--- E's job by the verdict
-module _ (d : Desk) (o : Draft) (e : d.draft ≡ some o) where
-  abbrev closing : Of.Verdict → Outcome Effect
-  closing v = of_verdict v >>= λ _. pass (keep_in d o.slot (closed o))
-
-  judged : job d E ≡ closing (Of.verdict o.shape o.rows)
-  unfolding job ◌>>=◌
-  judged =
-      ap (λ x. elim x [ none ↦ refuse wrong_state none | some z ↦ pass z ] >>= λ z. of_verdict (Of.verdict z.shape z.rows) >>= λ _. pass (keep_in d z.slot (closed z))) e
-
-  pub close_from : (x : Reason) → verdict_of (Of.verdict o.shape o.rows) ≡ Told.InFrom x → job d E ≡ refuse (reason_number x) (some Letter.F)
-  unfolding ◌>>=◌
-  close_from x q =
-      let (r, v, y) = in_from (Of.verdict o.shape o.rows) x q in
-      judged ∙ ap closing v ∙ ap (λ n. refuse n (some Letter.F)) (sym (reason_is r)) ∙ ap (λ z. refuse (reason_number z) (some Letter.F)) (sym y)
-
-  pub close_to : (x : Reason) → verdict_of (Of.verdict o.shape o.rows) ≡ Told.InTo x → job d E ≡ refuse (reason_number x) (some Letter.T)
-  unfolding ◌>>=◌
-  close_to x q =
-      let (r, v, y) = in_to (Of.verdict o.shape o.rows) x q in
-      judged ∙ ap closing v ∙ ap (λ n. refuse n (some Letter.T)) (sym (reason_is r)) ∙ ap (λ z. refuse (reason_number z) (some Letter.T)) (sym y)
-
-  pub close_keeps : verdict_of (Of.verdict o.shape o.rows) ≡ Told.Accepted
-      → job d E ≡ (of_answer (Of.Granted (closed o)) >>= λ p. pass (keep_in d o.slot p))
-  unfolding ◌>>=◌
-  close_keeps q = judged ∙ ap closing (accepted (Of.verdict o.shape o.rows) q)
+    pub closed_is_plan : is_plan p ≡ true
+    closed_is_plan = ap is_plan packs ∙ packed_is_plan _ kept_draft

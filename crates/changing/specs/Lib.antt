@@ -1,3 +1,3 @@
 -- What the functions beneath the records promise; the records themselves promise what slots' Works.antt says.
-pub mod Faults
+pub mod Filling
 pub mod Operands

@@ -1,107 +1,91 @@
 -- `changing::close` meets its contract: the open plan is judged, and what is kept of it goes into its slot.
 use mathlib.Core.Path.{◌≡◌, refl, sym, ◌∙◌, ap, subst}
 use mathlib.Core.Bool.{true}
-use mathlib.Core.Option.{some}
-use borrow.Author.Tests.{not-true, not-false}
-use Rattle.higman.specs.Limits.{Kept}
-use Rattle.higman.specs.Answers as Of
-use Rattle.higman.specs.Refusals.{wrong_state, Letter}
-use Rattle.desk.specs.Desk.{Draft}
+use native.Mathlib.Omega.{arith}
+use Rattle.std.specs.Prelude.{Err, Some, None, is_some}
 use Rattle.desk.specs.Records.{E, kind}
-use Rattle.desk.specs.Replies.{pass, admission, closed as kept_of}
-use Rattle.desk.proofs.Stays.{closed_kept}
+use Rattle.desk.specs.Replies.{pass, admission, keep_in}
 use Rattle.operations.specs.declared.Plan.{Plan}
-use Rattle.operations.specs.declared.Closed.{Closed}
+use Rattle.operations.specs.declared.refusals.Refusal.TheVariants.{WrongState}
 use Rattle.operations.specs.Plans.{shape_of, rows_of}
-use Rattle.operations.specs.Answers.{granting}
-use Rattle.operations.specs.Closing.{reason_number, verdict_of, kept_by, closing, DraftColumns}
+use Rattle.operations.specs.Closing.{closing, DraftColumns}
 use Rattle.slots.specs.Blocks.{value_at}
 use Rattle.slots.specs.Desks.{draft_block, draft_in, desk_of}
-use Rattle.slots.specs.Works.{Makes}
+use Rattle.slots.specs.Refused.{refused_for}
 use Rattle.slots.proofs.Held.{draft_open}
-use Rattle.slots.proofs.Steps.{no_plan_open, plan_open, refused_admission, refused_column}
-use Rattle.changing.proofs.Drafts.{open_draft, draft_columns, granted_injective, accepted, close_from, close_to, close_keeps}
-use Rattle.changing.proofs.close.Goals.{Else-not-head, After-close-closed, After-granted-made}
+use Rattle.slots.proofs.Steps.{no_plan_open, plan_open, returned, refused_with, refused_admission, refused_job}
+use Rattle.changing.proofs.Answered.{not_closed, closed}
+use Rattle.changing.proofs.Drafts.{open_draft, draft_columns, closed_is, closed_is_plan}
+use Rattle.changing.proofs.Operands.{close_refused, close_keeps}
+use Rattle.changing.proofs.close.Goals.{In_ok-slot, After-value-draft, In_ok-plan}
 use Rattle.changing.proofs.close.Goals as goal
 
-pub returns-then-not-head : goal.returns-then-not-head
+pub returns-in_err-slot : goal.returns-in_err-slot
 unfolding kind
-returns-then-not-head c = λ out.
+returns-in_err-slot c = λ out.
     let a = c.args in
-    refused_admission a.head a.columns.now c.requires E out wrong_state
-    (no_plan_open a.head a.columns.now E true refl (not-true a.head.is_open c.if-not-head.true)) _ c.refused.ensures
+    let none : a.head.draft ≡ None = grind arith in
+    refused_admission a.head a.columns.now c.requires E out (refused_for WrongState)
+    (no_plan_open a.head a.columns.now E true refl (ap is_some none)) _
+    (returned _ _ c.from_residual.ensures.1 ∙ ap Err (refused_with a.head.draft _ WrongState c.in_err-slot.ensures.value))
 
--- a plan is open
-opened : (c : Else-not-head) → c.args.head.is_open ≡ true
-opened c = not-false c.args.head.is_open c.if-not-head.false
+-- the slot of the open plan
+opened : (c : In_ok-slot) → c.args.head.draft ≡ Some c.in_ok-slot.slot
+opened c = grind arith
 
-admitted : (c : Else-not-head) → admission (desk_of c.args.head c.args.columns.now) E ≡ pass tt
+admitted : (c : In_ok-slot) → admission (desk_of c.args.head c.args.columns.now) E ≡ pass tt
 unfolding kind
-admitted c = plan_open c.args.head c.args.columns.now E true refl (opened c)
+admitted c = plan_open c.args.head c.args.columns.now E true refl (ap is_some (opened c))
 
-abbrev draft : Else-not-head → Draft
-draft c = draft_in c.args.head.slot (value_at c.args.head c.args.columns.now draft_block)
+pub close-requires : goal.close-requires
+close-requires c =
+    subst DraftColumns (sym c.value-draft.ensures)
+    (draft_columns c.args.head c.args.columns.now c.requires _ (opened (goal.at.close-requires c).In_ok-slot))
 
-is_draft : (c : Else-not-head) → (desk_of c.args.head c.args.columns.now).draft ≡ some (draft c)
-is_draft c = draft_open c.args.head c.args.columns.now (opened c)
+-- what closing is asked of
+read : (c : After-value-draft) → let v = value_at c.args.head c.args.columns.now draft_block in
+    closing (shape_of c.value-draft.result) (rows_of c.value-draft.result) ≡ closing (shape_of v) (rows_of v)
+read c = ap (λ (x : Plan). closing (shape_of x) (rows_of x)) c.value-draft.ensures
 
-pub close-closed-requires : goal.close-closed-requires
-close-closed-requires c =
-    subst (λ (x : Plan). DraftColumns (shape_of x) x.pairs x.from x.to) (sym c.value-draft.ensures)
-    (draft_columns c.args.head c.args.columns.now c.requires (opened (goal.at.close-closed-requires c).Else-not-head))
-
--- what closing answers for the open plan
-answered : (c : After-close-closed) → let v = value_at c.args.head c.args.columns.now draft_block in c.close-closed.result ≡ closing (shape_of v) (rows_of v)
-answered c = c.close-closed.ensures ∙ ap (λ (x : Plan). closing (shape_of x) (rows_of x)) c.value-draft.ensures
-
-verdict_is : (c : After-close-closed) → let v = value_at c.args.head c.args.columns.now draft_block in verdict_of (Of.verdict (shape_of v) (rows_of v)) ≡ c.close-closed.result.verdict
-unfolding closing
-verdict_is c = sym (ap (λ (z : Closed). z.verdict) (answered c))
-
-pub returns-in-InFrom : goal.returns-in-InFrom
-returns-in-InFrom c = λ out.
-    let at = goal.at.returns-in-InFrom c in
-    let e = at.Else-not-head in
-    refused_column c.args.head c.args.columns.now c.requires E out (admitted e) (reason_number c.in-InFrom.reason) Letter.F
-    (close_from _ (draft e) (is_draft e) c.in-InFrom.reason (verdict_is at.After-close-closed ∙ c.in-InFrom.is)) _ c.faulty.ensures
-
-pub returns-in-InTo : goal.returns-in-InTo
-returns-in-InTo c = λ out.
-    let at = goal.at.returns-in-InTo c in
-    let e = at.Else-not-head in
-    refused_column c.args.head c.args.columns.now c.requires E out (admitted e) (reason_number c.in-InTo.reason) Letter.T
-    (close_to _ (draft e) (is_draft e) c.in-InTo.reason (verdict_is at.After-close-closed ∙ c.in-InTo.is)) _ c.faulty-in-InTo.ensures
-
--- where the open plan was accepted: the answer that is to be kept
-makes : (c : After-granted-made)
-    → Makes c.granted-made.result (Of.Granted (kept_of (draft_in c.args.head.slot (value_at c.args.head c.args.columns.now draft_block))))
-unfolding closing
-makes c =
+pub returns-in_err-plan : goal.returns-in_err-plan
+returns-in_err-plan c = λ out.
     let a = c.args in
-    let o = draft_in a.head.slot (value_at a.head a.columns.now draft_block) in
-    let answered = c.close-closed.ensures ∙ ap (λ (x : Plan). closing (shape_of x) (rows_of x)) c.value-draft.ensures in
-    let accepts = sym (ap (λ (z : Closed). z.verdict) answered) ∙ c.in-Accepted.is in
-    let plan = ap (λ (z : Closed). z.plan) answered ∙ ap (kept_by o.shape o.rows) accepts in
-    let kept = closed_kept o (open_draft a.head a.columns.now c.requires (not-false a.head.is_open c.if-not-head.false))
-    (accepted (Of.verdict o.shape o.rows) accepts) in
-    record { tells = c.granted-made.ensures ∙ ap granting plan; kept = λ p g. subst Kept (granted_injective (kept_of o) p g) kept }
+    let at = goal.at.returns-in_err-plan c in
+    let v = value_at a.head a.columns.now draft_block in
+    refused_job a.head a.columns.now c.requires E out (admitted at.In_ok-slot) _
+    (close_refused _ _ (draft_open a.head a.columns.now _ (opened at.In_ok-slot))
+    (not_closed (shape_of v) (rows_of v) _ (c.in_err-plan.ensures ∙ read at.After-value-draft))) _
+    (returned _ _ c.from_residual-in_err-plan.ensures.1)
 
 pub keep-requires : goal.keep-requires
 keep-requires c =
+    let a = c.args in
     let at = goal.at.keep-requires c in
-    let e = at.Else-not-head in
+    let v = value_at a.head a.columns.now draft_block in
+    let is_open = opened at.In_ok-slot in
+    let (accepted, packs) = closed (shape_of v) (rows_of v) c.in_ok-plan.plan (c.in_ok-plan.ensures ∙ read at.After-value-draft) in
     record {
       holds = c.requires;
-      slot = (open_draft c.args.head c.args.columns.now c.requires (opened e)).slot_named;
-      answer = Of.Granted (kept_of (draft e));
-      makes = makes at.After-granted-made;
+      slot = (open_draft a.head a.columns.now c.requires c.in_ok-slot.slot is_open).slot_named;
+      is_plan_fact = closed_is_plan a.head a.columns.now c.requires c.in_ok-slot.slot is_open accepted c.in_ok-plan.plan packs;
     }
 
-pub returns-in-Accepted : goal.returns-in-Accepted
+pub returns : goal.returns
 unfolding kind
-returns-in-Accepted c =
-    let at = goal.at.returns-in-Accepted c in
-    let e = at.Else-not-head in
-    let accepts = verdict_is at.After-close-closed ∙ c.in-Accepted.is in
-    c.keep.ensures E (Of.Granted (kept_of (draft e))) (makes at.After-granted-made)
-    (record { admitted = admitted e; changes = refl; keeps = close_keeps _ (draft e) (is_draft e) accepts })
+returns c =
+    let a = c.args in
+    let at = goal.at.returns c in
+    let v = value_at a.head a.columns.now draft_block in
+    let d = desk_of a.head a.columns.now in
+    let slot = c.in_ok-slot.slot in
+    let is_open = opened at.In_ok-slot in
+    let (accepted, packs) = closed (shape_of v) (rows_of v) c.in_ok-plan.plan (c.in_ok-plan.ensures ∙ read at.After-value-draft) in
+    let plan = closed_is a.head a.columns.now c.requires slot is_open accepted c.in_ok-plan.plan packs in
+    c.keep.ensures E
+    (record {
+      admitted = admitted at.In_ok-slot;
+      changes = refl;
+      keeps =
+          close_keeps d (draft_in slot v) (draft_open a.head a.columns.now slot is_open) accepted
+          ∙ ap (λ p. pass (keep_in d slot p)) plan;
+    })

@@ -1,14 +1,66 @@
 -- `changing::fill` meets its contract.
-use mathlib.Core.Path.{ap}
+use mathlib.Core.Path.{◌≡◌, sym, ◌∙◌, ap}
 use mathlib.Core.Bool.{false}
+use native.Mathlib.Omega.{arith}
 use lib.ListN.{set}
+use Rattle.std.specs.Prelude.{Ok, Err, None}
 use Rattle.slots.specs.declared.Control.{Control}
+use Rattle.slots.specs.declared.Head.{Head}
 use Rattle.slots.specs.Blocks.{size_of, filled_head}
+use Rattle.slots.specs.Desks.{full_in}
+use Rattle.slots.proofs.Held.{control_held, slots_eight, slot_inside}
+use Rattle.slots.proofs.Sums.{countable}
+use Rattle.changing.proofs.Filling.{filled_none, columns_same, filled_one, columns_put}
+use Rattle.changing.proofs.fill.Goals.{Else-is_full}
 use Rattle.changing.proofs.fill.Goals as goal
+
+pub is_full-requires : goal.is_full-requires
+is_full-requires c = control_held c.args.head c.args.columns.now c.requires.holds
+
+-- there is room for one more change
+room : (c : Else-is_full) → full_in c.args.head.control ≡ false
+room c = sym c.is_full.ensures ∙ c.if-is_full.false
+
+pub put-requires : goal.put-requires
+put-requires c = slot_inside c.args.head c.args.columns.now c.requires.holds c.args.i c.requires.slot
+
+pub offset_bounds-next-i : goal.offset_bounds-next-i
+offset_bounds-next-i c = record { fits = omega (arith, slots_eight) }
+
+pub bounds-next-i : goal.bounds-next-i
+bounds-next-i c = omega (arith, slots_eight)
+
+pub offset_bounds-head-i : goal.offset_bounds-head-i
+offset_bounds-head-i c = record { fits = omega (arith, slots_eight) }
+
+pub bounds-head-i : goal.bounds-head-i
+bounds-head-i c = omega (arith, slots_eight)
+
+pub noted-next-requires : goal.noted-next-requires
+noted-next-requires c =
+    let a = c.args in
+    countable a.head a.columns.now c.requires.holds (room (goal.at.noted-next-requires c).Else-is_full) a.i c.requires.slot a.plan.pairs
+    c.requires.few
 
 pub returns-clause-value : goal.returns-clause-value
 unfolding filled_head
 returns-clause-value c =
-    let h = c.args.head in
-    let sizes = set h.sizes c.args.i (size_of c.args.plan) in
-    ap (λ (k : Control). record { sizes = sizes; is_open = false; slot = h.slot; control = k }) c.noted-h.ensures
+    let a = c.args in
+    let sizes = set a.head.sizes a.i (size_of a.plan) in
+    let next : Control → Head = λ k. record { sizes = sizes; draft = None; control = k } in
+    ap (λ k. Ok (next k)) c.noted-next.ensures
+    ∙ sym (filled_one a.head a.columns.now a.i a.plan (room (goal.at.returns-clause-value c).Else-is_full))
+
+pub returns-clause-columns_after : goal.returns-clause-columns_after
+returns-clause-columns_after c =
+    let a = c.args in
+    c.put.ensures ∙ sym (columns_put a.head a.columns.now a.i a.plan (room (goal.at.returns-clause-columns_after c).Else-is_full))
+
+pub returns-then-is_full : goal.returns-then-is_full
+returns-then-is_full c =
+    let a = c.args in
+    let full = sym c.is_full.ensures ∙ c.if-is_full.true in
+    record {
+      value = ap Err c.into.ensures ∙ sym (filled_none a.head a.columns.now a.i a.plan full);
+      columns_after = sym (columns_same a.head a.columns.now a.i a.plan full);
+    }

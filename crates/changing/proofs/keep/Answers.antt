@@ -1,52 +1,42 @@
 -- `changing::keep` meets its contract, whatever record asks for it.
-use mathlib.Core.Path.{◌≡◌, sym, ◌∙◌, ap}
-use mathlib.Core.Bool.{false}
+use mathlib.Core.Path.{◌≡◌, refl}
 use native.Mathlib.Omega.{arith}
-use Rattle.slots.specs.declared.Reply.TheVariants.{Number}
-use Rattle.slots.specs.Desks.{full_in}
+use lib.ListN.{length}
+use Rattle.higman.specs.Limits.{max_pairs}
 use Rattle.columns.proofs.Limits.{pair_limit}
-use Rattle.slots.proofs.Held.{control_held, slot_inside}
-use Rattle.slots.proofs.Sums.{countable}
-use Rattle.changing.proofs.Keeping.{keep_refused, keep_limit, keep_done, few_made}
-use Rattle.changing.proofs.keep.Goals.{Else-is_full}
+use Rattle.operations.proofs.Sizes.{from_long, to_long}
+use Rattle.slots.proofs.Steps.{returned}
+use Rattle.changing.proofs.Kept.{kept_few, done_keeping}
+use Rattle.changing.proofs.keep.Goals.{Start}
 use Rattle.changing.proofs.keep.Goals as goal
 
-pub is_full-requires : goal.is_full-requires
-is_full-requires c = control_held c.args.head c.args.columns.now c.requires.holds
-
-pub returns-in-Refused : goal.returns-in-Refused
-returns-in-Refused c = λ r answer m t out.
-    let a = c.args in
-    keep_refused a.made answer m a.head a.columns.now c.requires.holds a.i c.requires.slot r t out c.in-Refused.number
-    c.in-Refused.is c.refused.result c.refused.ensures
-
-pub returns-then-is_full : goal.returns-then-is_full
-returns-then-is_full c = λ r answer m t out.
-    let a = c.args in
-    keep_limit a.made answer m a.head a.columns.now c.requires.holds a.i c.requires.slot r t out c.in-Granted.is
-    (sym c.is_full.ensures ∙ c.if-is_full.true) _ c.refused-then-is_full.ensures
-
--- there was room for one more change
-room : (c : Else-is_full) → full_in c.args.head.control ≡ false
-room c = sym c.is_full.ensures ∙ c.if-is_full.false
-
-pub fill-h-requires-clause-in_columns : goal.fill-h-requires-clause-in_columns
-fill-h-requires-clause-in_columns c = slot_inside c.args.head c.args.columns.now c.requires.holds c.args.i c.requires.slot
-
-pub fill-h-requires-clause-countable : goal.fill-h-requires-clause-countable
-fill-h-requires-clause-countable c =
-    let a = c.args in
-    countable a.head a.columns.now c.requires.holds (room (goal.at.fill-h-requires-clause-countable c).Else-is_full) a.i c.requires.slot
-    a.made.plan.pairs (few_made a.made c.requires.answer c.requires.makes c.in-Granted.is)
+pub fill-requires : goal.fill-requires
+fill-requires c =
+    let r = c.requires in record { holds = r.holds; slot = r.slot; few = kept_few c.args.plan r.is_plan_fact }
 
 pub overflow_cast-result : goal.overflow_cast-result
-overflow_cast-result c =
-    record { fits = omega (arith, pair_limit, few_made c.args.made c.requires.answer c.requires.makes c.in-Granted.is) }
+overflow_cast-result c = record { fits = omega (arith, pair_limit, kept_few c.args.plan c.requires.is_plan_fact) }
 
-pub returns-else-is_full : goal.returns-else-is_full
-returns-else-is_full c = λ r answer m t out.
+-- the columns of a plan that is passed by value are long
+from : (c : Start) → length c.args.plan.from ≡ max_pairs
+unfolding max_pairs
+from c = from_long c.args.plan _ c.well_formed.1.1.1.0
+
+to : (c : Start) → length c.args.plan.to ≡ max_pairs
+unfolding max_pairs
+to c = to_long c.args.plan _ c.well_formed.1.1.1.0
+
+pub returns-in_err-next : goal.returns-in_err-next
+returns-in_err-next c = λ r t out.
     let a = c.args in
-    let reply = Number a.made.plan.pairs in
-    keep_done a.made answer m a.head a.columns.now c.requires.holds a.i c.requires.slot r t out c.in-Granted.is
-    (room (goal.at.returns-else-is_full c).Else-is_full) _
-    (ap (λ h. record { head = h; reply = reply }) c.fill-h.ensures.value) _ c.fill-h.ensures.columns_after
+    let s = (goal.at.returns-in_err-next c).Start in
+    let e = c.in_err-next.ensures in
+    done_keeping a.head a.columns.now a.i a.plan c.requires (from s) (to s) r t out _ e.value _ e.columns_after _
+    (returned _ _ c.from_residual.ensures.1)
+
+pub returns : goal.returns
+returns c = λ r t out.
+    let a = c.args in
+    let s = (goal.at.returns c).Start in
+    let e = c.in_ok-next.ensures in
+    done_keeping a.head a.columns.now a.i a.plan c.requires (from s) (to s) r t out _ e.value _ e.columns_after _ refl

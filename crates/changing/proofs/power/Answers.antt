@@ -4,92 +4,99 @@ use mathlib.Core.Bool.{true}
 use mathlib.Core.List.Memᴰ
 use mathlib.Core.List.{[], ◌∷◌}
 use mir.Syntax.{w32}
+use Rattle.std.specs.Prelude.{Err}
 use Rattle.higman.specs.Limits.{power_in_range}
-use Rattle.higman.specs.Answers.{Answer, powered}
-use Rattle.higman.specs.Refusals.{slot_empty, power_outside}
+use Rattle.higman.specs.Answers.{powered}
 use Rattle.higman.specs.Listing.{is_slot}
 use Rattle.higman.proofs.Demand3.{demand3}
 use Rattle.desk.specs.Records.{K, kind, reading, writing}
 use Rattle.desk.specs.Replies.{pass, admission}
 use Rattle.operations.specs.Plans.{plan_of}
+use Rattle.operations.specs.declared.refusals.Refusal.TheVariants.{PowerOutside}
 use Rattle.operations.specs.Answers.{making}
 use Rattle.operations.proofs.Signs.{read_is}
+use Rattle.slots.specs.Refused.{refused_for}
 use Rattle.slots.specs.Desks.{desk_of}
-use Rattle.slots.specs.Works.{admitted_by, Makes}
-use Rattle.slots.proofs.Steps.{admitted_named, refused_by_lem, refused_job}
-use Rattle.changing.specs.Operands.{HeldPlan}
-use Rattle.changing.proofs.Keeping.{keepable, to_keep}
-use Rattle.changing.proofs.Operands.{power_none, power_empty, power_keeps}
-use Rattle.changing.proofs.power.Goals.{Else-refusal-ne0, Else-not-is_power, After-power}
+use Rattle.slots.proofs.Steps.{admitted_named, returned, refused_by, refused_job}
+use Rattle.changing.proofs.Answered.{Made, made, not_made}
+use Rattle.changing.proofs.Kept.{is_kept_plan, keepable, to_keep}
+use Rattle.changing.proofs.Operands.{power_outside_lem, power_none, power_refused, power_keeps}
+use Rattle.changing.proofs.power.Goals.{In_ok-admission, Else-not-is_power, In_ok-raised}
 use Rattle.changing.proofs.power.Goals as goal
 
 -- the record is admitted, and so the two bytes name slots
-admitted : (c : Else-refusal-ne0) → admission (desk_of c.args.head c.args.columns.now) (K c.args.a c.args.k c.args.c) ≡ pass tt
+admitted : (c : In_ok-admission) → admission (desk_of c.args.head c.args.columns.now) (K c.args.a c.args.k c.args.c) ≡ pass tt
 unfolding kind
-admitted c = let a = c.args in c.admission-refusal.ensures (K a.a a.k a.c) true a.columns.now refl ∙ ap admitted_by c.if-refusal-ne0.false
+admitted c = let a = c.args in c.in_ok-admission.ensures (K a.a a.k a.c) true a.columns.now refl
 
-a_named : (c : Else-refusal-ne0) → is_slot c.args.a ≡ true
+a_named : (c : In_ok-admission) → is_slot c.args.a ≡ true
 unfolding kind
 a_named c = admitted_named _ _ (admitted c) (reading c.args.a) (Memᴰ.head refl)
 
-c_named : (c : Else-refusal-ne0) → is_slot c.args.c ≡ true
+c_named : (c : In_ok-admission) → is_slot c.args.c ≡ true
 unfolding kind
 c_named c = admitted_named _ _ (admitted c) (writing c.args.c) (Memᴰ.tail (Memᴰ.head refl))
 
-pub returns-then-refusal-ne0 : goal.returns-then-refusal-ne0
+pub returns-in_err-admission : goal.returns-in_err-admission
 unfolding kind
-returns-then-refusal-ne0 c = λ out.
+returns-in_err-admission c = λ out.
     let a = c.args in
-    refused_by_lem a.head a.columns.now c.requires (K a.a a.k a.c) out (a.a ∷ []) (a.c ∷ []) true refl _
-    c.admission-refusal.ensures c.if-refusal-ne0.true c.refused.result c.refused.ensures
+    refused_by a.head a.columns.now c.requires (K a.a a.k a.c) out (a.a ∷ []) (a.c ∷ []) true refl _ c.in_err-admission.ensures _
+    (returned _ _ c.from_residual.ensures.1)
 
--- the machine reads the number back as it is
+-- the number is one that plans are raised to, or not; the machine reads it back as it is
 pub returns-then-not-is_power : goal.returns-then-not-is_power
 returns-then-not-is_power c = λ out.
     let a = c.args in
     let outside = sym (c.is_power.ensures ∙ ap power_in_range (read_is w32 a.k c.ranges.k)) ∙ c.if-not-is_power.true in
-    refused_job a.head a.columns.now c.requires (K a.a a.k a.c) out (admitted (goal.at.returns-then-not-is_power c).Else-refusal-ne0)
-    power_outside (power_none _ a.a a.k a.c outside) _ c.refused-then-not-is_power.ensures
+    refused_job a.head a.columns.now c.requires (K a.a a.k a.c) out (admitted (goal.at.returns-then-not-is_power c).In_ok-admission)
+    (refused_for PowerOutside) (power_outside_lem _ a.a a.k a.c outside) _ (ap Err c.into.ensures)
 
 in_range : (c : Else-not-is_power) → power_in_range c.args.k ≡ true
 in_range c = sym (c.is_power.ensures ∙ ap power_in_range (read_is w32 c.args.k c.ranges.k)) ∙ c.if-not-is_power.false
 
-pub operand-plan-requires-clause-a_value : goal.operand-plan-requires-clause-a_value
-operand-plan-requires-clause-a_value c = a_named (goal.at.operand-plan-requires-clause-a_value c).Else-refusal-ne0
+pub operand-requires-clause-a_value : goal.operand-requires-clause-a_value
+operand-requires-clause-a_value c = a_named (goal.at.operand-requires-clause-a_value c).In_ok-admission
 
-pub returns-then-plan-eq0 : goal.returns-then-plan-eq0
-returns-then-plan-eq0 c = λ out.
+pub returns-in_err-plan : goal.returns-in_err-plan
+returns-in_err-plan c = λ out.
     let a = c.args in
-    refused_job a.head a.columns.now c.requires (K a.a a.k a.c) out (admitted (goal.at.returns-then-plan-eq0 c).Else-refusal-ne0) slot_empty
-    (power_empty _ a.a a.k a.c (in_range (goal.at.returns-then-plan-eq0 c).Else-not-is_power) (c.operand-plan.ensures.empty c.if-plan-eq0.true)) _ c.refused-then-plan-eq0.ensures
+    let at = goal.at.returns-in_err-plan c in
+    refused_job a.head a.columns.now c.requires (K a.a a.k a.c) out (admitted at.In_ok-admission) _
+    (power_none _ a.a a.k a.c (in_range at.Else-not-is_power) c.in_err-plan.ensures) _ (returned _ _ c.from_residual-in_err-plan.ensures.1)
+
+pub returns-in_err-raised : goal.returns-in_err-raised
+returns-in_err-raised c = λ out.
+    let a = c.args in
+    let at = goal.at.returns-in_err-raised c in
+    let p = plan_of c.in_ok-plan.plan in
+    let same = ap (λ k. making (powered p k)) (read_is w32 a.k c.ranges.k) in
+    refused_job a.head a.columns.now c.requires (K a.a a.k a.c) out (admitted at.In_ok-admission) _
+    (power_refused _ a.a a.k a.c (in_range at.Else-not-is_power) p c.in_ok-plan.ensures.there
+    (not_made (powered p a.k) _ (c.in_err-raised.ensures ∙ same))) _ (returned _ _ c.from_residual-in_err-raised.ensures.1)
 
 pub slot_number-requires : goal.slot_number-requires
-slot_number-requires c = c_named (goal.at.slot_number-requires c).Else-refusal-ne0
+slot_number-requires c = c_named (goal.at.slot_number-requires c).In_ok-admission
 
--- the answer that is to be kept
-abbrev answer : After-power → Answer
-answer c = powered (plan_of c.operand-plan.result) c.args.k
-
-held : (c : After-power) → HeldPlan (desk_of c.args.head c.args.columns.now) c.args.a c.operand-plan.result
-held c = c.operand-plan.ensures.full c.if-plan-eq0.false
-
-makes : (c : After-power) → Makes c.power.result (answer c)
-makes c =
-    record {
-      tells = c.power.ensures ∙ ap (λ k. making (powered (plan_of c.operand-plan.result) k)) (read_is w32 c.args.k c.ranges.k);
-      kept = λ r g. demand3.powered_kept _ r _ (held c).kept g;
-    }
+-- what is kept
+raised : (c : In_ok-raised) → Made (powered (plan_of c.in_ok-plan.plan) c.args.k) c.in_ok-raised.raised
+raised c =
+    let p = plan_of c.in_ok-plan.plan in
+    let same = ap (λ k. making (powered p k)) (read_is w32 c.args.k c.ranges.k) in
+    made (powered p c.args.k) (λ r g. demand3.powered_kept _ r _ (is_kept_plan c.in_ok-plan.plan c.in_ok-plan.ensures.is_plan_fact) g) _
+    (c.in_ok-raised.ensures ∙ same)
 
 pub keep-requires : goal.keep-requires
 keep-requires c =
-    keepable c.args.c c.slot_number.result c.slot_number.ensures c.args.head c.args.columns.now c.requires
-    (c_named (goal.at.keep-requires c).Else-refusal-ne0) c.power.result (answer c) (makes c)
+    let at = goal.at.keep-requires c in
+    keepable c.args.c _ c.slot_number.ensures _ c.args.head c.args.columns.now c.requires (c_named at.In_ok-admission)
+    (raised at.In_ok-raised).is_plan_fact
 
 pub returns : goal.returns
 unfolding kind
 returns c =
     let a = c.args in
-    let e = (goal.at.returns c).After-power in
-    c.keep.ensures (K a.a a.k a.c) (answer e) (makes e)
-    (to_keep a.c c.slot_number.result c.slot_number.ensures (desk_of a.head a.columns.now) (K a.a a.k a.c) (answer e)
-    (admitted (goal.at.returns c).Else-refusal-ne0) refl (power_keeps _ a.a a.k a.c (in_range (goal.at.returns c).Else-not-is_power) _ (held e).there))
+    let at = goal.at.returns c in
+    c.keep.ensures (K a.a a.k a.c)
+    (to_keep a.c _ c.slot_number.ensures _ _ (K a.a a.k a.c) (admitted at.In_ok-admission) refl
+    (power_keeps _ a.a a.k a.c (in_range at.Else-not-is_power) _ c.in_ok-plan.ensures.there _ (raised at.In_ok-raised).granted))
