@@ -1,14 +1,17 @@
 -- In a sorted column a word that begins another begins its right neighbour too, which stands between the two. So a pass over
 -- neighbours finds an overlap if there is one.
-use Prim.Native.Nat.{ℕ, zero, suc, ◌+◌, ◌<◌}
+use Prim.Native.Nat.{ℕ, zero, suc, ◌+◌, ◌-◌, ◌≤◌, ◌<◌}
 use mathlib.Core.Path.{◌≡◌, refl, sym, ◌∙◌, ap, ap₂, subst}
 use mathlib.Core.Logic.{◌⊎◌, inl, inr}
 use mathlib.Core.Bool.{Bool, true, false, ◌||◌, or-true}
 use mathlib.Core.List.{List, [], ◌∷◌, Memᴰ}
 use native.Mathlib.Numerals.{add-one}
 use native.Mathlib.Omega.{arith}
-use lib.ListN.{length}
-use Rattle.std.proofs.Common.{MatchBool}
+use lib.ListN.{length, get_or}
+use Rattle.std.proofs.Common.{MatchBool, Bor}
+use Rattle.std.specs.Prelude.{Option, Some, None, IfSome, IsSomeAnd, option_map}
+use Rattle.std.specs.List.{IsSubsliceAt}
+use Rattle.std.proofs.lemmas.Option.{none-some}
 use Rattle.higman.specs.Words.{Word, begins}
 use Rattle.higman.specs.Bases.{meets, overlap}
 use Rattle.higman.proofs.Tests.{passes, clash, or_cases}
@@ -91,3 +94,38 @@ NoneBegins column = (k : ℕ) → k + 1 < length column → begins (word_at colu
 pub overlap_by_neighbours : (column : List ℕ) (r : Bool) → sorted (words_of column) ≡ true → MatchBool r (SomeBegins column) (NoneBegins column) → r ≡ overlap (words_of column)
 overlap_by_neighbours column true s (k, p, h) = sym (one_begins column k s (omega arith) (rw (← add-one) h))
 overlap_by_neighbours column false s h = sym (none_begins column s (λ k p. rw (← add-one) (h k (omega arith))))
+
+-- what a run over the windows of n numbers reads
+abbrev pub Windows : ℕ → List ℕ → ℕ → Bool → (ℕ → Option (Bor (List ℕ))) → Type 0
+Windows n column len whole at = (whole ≡ true → len ≡ length column + 1 - n)
+    × ((k : ℕ) → IfSome (at k) (λ x. (length x.now ≡ n) × (k + n ≤ length column) × IsSubsliceAt n column k x.now))
+    × ((k d : ℕ) → k < len → option_map (λ x. get_or x.now 0 d) (at k) ≡ Some (get_or column k d))
+
+-- What `any` over the windows of two says of the neighbours, where the test gives Yes or No at a window.
+module _
+    (column : List ℕ)
+    (len : ℕ)
+    (whole : Bool)
+    (at : ℕ → Option (Bor (List ℕ)))
+    (read : Windows 2 column len whole at)
+    (Keeps : Type 0)
+    (keeps : Keeps)
+    (Yes No : Bor (List ℕ) → Type 0)
+    (yes : (x : Bor (List ℕ)) → Yes x → begins (unpack (get_or x.now 0 0)) (unpack (get_or x.now 1 0)) ≡ true)
+    (no : (x : Bor (List ℕ)) → No x → begins (unpack (get_or x.now 0 0)) (unpack (get_or x.now 1 0)) ≡ false) where
+  window_begins : (k : ℕ) (x : Bor (List ℕ)) → IsSubsliceAt 2 column k x.now → begins (word_at column k) (word_at column (k + 1)) ≡ begins (unpack (get_or x.now 0 0)) (unpack (get_or x.now 1 0))
+  window_begins k x sub =
+      let here : k + 0 ≡ k = omega arith in
+      sym (ap₂ (λ m n. begins (unpack m) (unpack n)) (sub.2 0 0 (omega arith) ∙ ap (λ i. get_or column i 0) here) (sub.2 1 0 (omega arith)))
+
+  pub told_by_windows : (r : Bool) → MatchBool r (Keeps → (k : ℕ) × (k < len) × IsSomeAnd (at k) Yes) ((whole ≡ true) × (Keeps → (k : ℕ) → IfSome (at k) No)) → MatchBool r (SomeBegins column) (NoneBegins column)
+  told_by_windows true m = let (k, h, g) = m keeps in go k (at k) g (read.1 k)
+    where
+      go : (k : ℕ) (o : Option (Bor (List ℕ))) → IsSomeAnd o Yes → IfSome o (λ x. (length x.now ≡ 2) × (k + 2 ≤ length column) × IsSubsliceAt 2 column k x.now) → SomeBegins column
+      go k None g w = absurd g
+      go k (Some x) g w = (k, omega (arith, w.1), window_begins k x w.2 ∙ yes x g)
+  told_by_windows false m = λ k h. go k (at k) (read.2 k 0 (omega (arith, read.0 m.0))) (m.1 keeps k) (read.1 k)
+    where
+      go : (k : ℕ) (o : Option (Bor (List ℕ))) → option_map (λ x. get_or x.now 0 0) o ≡ Some (get_or column k 0) → IfSome o No → IfSome o (λ x. (length x.now ≡ 2) × (k + 2 ≤ length column) × IsSubsliceAt 2 column k x.now) → begins (word_at column k) (word_at column (k + 1)) ≡ false
+      go k None f g w = absurd (none-some _ f)
+      go k (Some x) f g w = window_begins k x w.2 ∙ no x g
