@@ -14,10 +14,11 @@ use Rattle.operations.specs.declared.refusals.Refusal.{Refusal}
 use Rattle.operations.specs.Refusals.{number_of, refusal, refusal_numbered}
 use Rattle.operations.specs.Plans.{plan_of, is_plan, packed}
 use Rattle.operations.proofs.Repacked.{holds, packed_is_plan}
-use Rattle.operations.specs.declared.Column.TheVariants.{From, To}
+use Rattle.operations.specs.declared.Reason.TheVariants.{Overlap, Gap}
 use Rattle.operations.specs.declared.Fault.{Fault}
+use Rattle.operations.specs.declared.Fault.TheVariants.{InFrom, InTo}
 use Rattle.operations.specs.Answers.{making}
-use Rattle.operations.specs.Closing.{in_column, verdict_of, closed_by, closing}
+use Rattle.operations.specs.Closing.{verdict_of, closed_by, closing}
 use Rattle.slots.specs.Refused.{refused_in, outcome_of}
 
 pub not_made : (answer : Of.Answer) (r : Refusal) → Err r ≡ making answer → of_answer answer ≡ refuse (number_of r) none
@@ -46,10 +47,10 @@ module _ (s : Shape) (t : Table) where
     where
       by : (v : Of.Verdict) → Err f ≡ closed_by s t (verdict_of v) → of_verdict v ≡ outcome_of (Err (refused_in f))
       by Of.Accepted e = cc
-      by (Of.InFrom Of.Overlap) e = let same : f ≡ in_column From Of.Overlap = cc in ap (λ f. outcome_of (Err (refused_in f))) (sym same)
-      by (Of.InFrom Of.Gap) e = let same : f ≡ in_column From Of.Gap = cc in ap (λ f. outcome_of (Err (refused_in f))) (sym same)
-      by (Of.InTo Of.Overlap) e = let same : f ≡ in_column To Of.Overlap = cc in ap (λ f. outcome_of (Err (refused_in f))) (sym same)
-      by (Of.InTo Of.Gap) e = let same : f ≡ in_column To Of.Gap = cc in ap (λ f. outcome_of (Err (refused_in f))) (sym same)
+      by (Of.InFrom Of.Overlap) e = let same : f ≡ InFrom Overlap = cc in ap (λ f. outcome_of (Err (refused_in f))) (sym same)
+      by (Of.InFrom Of.Gap) e = let same : f ≡ InFrom Gap = cc in ap (λ f. outcome_of (Err (refused_in f))) (sym same)
+      by (Of.InTo Of.Overlap) e = let same : f ≡ InTo Overlap = cc in ap (λ f. outcome_of (Err (refused_in f))) (sym same)
+      by (Of.InTo Of.Gap) e = let same : f ≡ InTo Gap = cc in ap (λ f. outcome_of (Err (refused_in f))) (sym same)
 
   pub closed : (v : Plan) → Ok v ≡ closing s t → (Of.verdict s t ≡ Of.Accepted) × (v ≡ packed (record { shape = s; rows = keep s t }))
   unfolding closing
