@@ -11,6 +11,8 @@ ghost use Rattle.columns.specs.Packed.{table, rows_at};
 ghost use Rattle.tables.specs.Reduction.{prefixed};
 ghost use Rattle.tables.specs.Joining.{joins_first, has_join};
 
+use crate::Pairs;
+
 // Whether x is the i-th part of w.
 fn is_part(x: u64, w: u64, i: u8) -> bool
     requires { 1 ≤ i }
@@ -38,12 +40,12 @@ pub fn are_parts(from: &[u64], to: &[u64], at: usize, w: u64, v: u64, arity: u8)
 
 // Whether the n pairs from the place at on join. Most places are passed at the first digits looked at: only a first part can begin a
 // join.
-fn joins_at(from: &[u64], to: &[u64], at: usize, arity: u8) -> bool
-    requires { (1 ≤ arity) × (arity ≤ 9) × (at + arity ≤ length from.now) × (at + arity ≤ length to.now) }
-    ensures { result ≡ joins_first arity (table (drop at from.now) (drop at to.now)) }
+fn joins_at(pairs: Pairs, at: usize, arity: u8) -> bool
+    requires { (1 ≤ arity) × (arity ≤ 9) × (at + arity ≤ length pairs.from.now) }
+    ensures { result ≡ joins_first arity (table (drop at pairs.entry.from.now) (drop at pairs.entry.to.now)) }
 {
-    let word = from[at];
-    let image = to[at];
+    let word = pairs.from[at];
+    let image = pairs.to[at];
     if words::last(word) != 1 {
         return false;
     }
@@ -58,14 +60,14 @@ fn joins_at(from: &[u64], to: &[u64], at: usize, arity: u8) -> bool
     if v == 0 {
         return false;
     }
-    are_parts(from, to, at, w, v, arity)
+    are_parts(pairs.from, pairs.to, at, w, v, arity)
 }
 
 // Whether the n pairs from some place on join.
-pub fn has_join(from: &[u64], to: &[u64], arity: u8) -> bool
-    requires { (1 ≤ arity) × (arity ≤ 9) × (length from.now ≡ length to.now) }
-    ensures { result ≡ has_join arity (table from.now to.now) }
+pub fn has_join(pairs: Pairs, arity: u8) -> bool
+    requires { (1 ≤ arity) × (arity ≤ 9) }
+    ensures { result ≡ has_join arity (table pairs.entry.from.now pairs.entry.to.now) }
 {
-    let places = (from.len() + 1).saturating_sub(arity as usize);
-    (0..places).any(|at| joins_at(from, to, at, arity))
+    let places = (pairs.from.len() + 1).saturating_sub(arity as usize);
+    (0..places).any(|at| joins_at(pairs, at, arity))
 }

@@ -7,6 +7,9 @@
 pub mod joinable;
 pub mod list;
 pub mod normal;
+pub mod pairs;
 pub mod reduce;
 pub mod routing;
 pub mod spreading;
+
+pub use pairs::Pairs;

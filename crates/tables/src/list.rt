@@ -10,6 +10,7 @@ ghost use Rattle.words.specs.Writing.{Wrote};
 ghost use Rattle.columns.specs.Packed.{pair_of, table};
 ghost use Rattle.tables.specs.Lines.{pair_lines, placed, block_line, block_lines, BlockFits, plan_of_columns};
 
+use crate::Pairs;
 use words::{Shape, writing};
 
 // The bytes of the P record and the E record.
@@ -70,13 +71,13 @@ fn close_line(out: &mut [u8], at: usize) -> usize
 }
 
 // The M records of all pairs.
-fn pair_lines(from: &[u64], to: &[u64], out: &mut [u8], at: usize) -> usize
-    requires { (length from.now ≡ length to.now) × (at + length (pair_lines from.now to.now) ≤ length out.old) }
-    ensures { Wrote (pair_lines from.now to.now) out.old at out.new result }
+fn pair_lines(pairs: Pairs, out: &mut [u8], at: usize) -> usize
+    requires { at + length (pair_lines pairs.from.now pairs.to.now) ≤ length out.old }
+    ensures { Wrote (pair_lines pairs.entry.from.now pairs.entry.to.now) out.old at out.new result }
 {
     let mut next = at;
-    for (&f, &t) in from.iter().zip(to) {
-        next = pair_line(f, t, out, next);
+    for (&from, &to) in pairs.from.iter().zip(pairs.to) {
+        next = pair_line(from, to, out, next);
     }
     next
 }
@@ -101,7 +102,7 @@ pub fn list_into(slot: u8, shape: Shape, from: &[u64], to: &[u64], out: &mut [u8
     ensures { Wrote (listing slot (plan_of_columns shape.arity shape.roots from.now to.now)) out.old 0 out.new result }
 {
     let pairs_at = open_line(slot, shape, out, 0);
-    let close_at = pair_lines(from, to, out, pairs_at);
+    let close_at = pair_lines(Pairs { from, to }, out, pairs_at);
     close_line(out, close_at)
 }
 

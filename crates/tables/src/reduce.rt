@@ -12,7 +12,7 @@ ghost use Rattle.words.specs.Bytes.{shape_of};
 ghost use Rattle.columns.specs.Packed.{table, rows};
 ghost use Rattle.tables.specs.Reduction.{prefixed, Block, Parts, state, Places, ReducesBlock, ReducesParts, Reducible};
 
-use crate::joinable;
+use crate::{Pairs, joinable};
 use words::Shape;
 
 // The places of the next pair to read and of the next pair to write.
@@ -48,8 +48,7 @@ fn join(from: &mut [u64], to: &mut [u64], start: usize, end: usize, w: u64, arit
 // Reduces the block w, whose pairs stand at the cursor and cut it into parts at most `left` ways below.
 #[cycle(reduce_block_reduce_ways)]
 fn reduce_block(
-    from: &[u64],
-    to: &[u64],
+    pairs: Pairs,
     out_from: &mut [u64],
     out_to: &mut [u64],
     w: u64,
@@ -57,13 +56,14 @@ fn reduce_block(
     arity: u8,
     at: Cursor,
 ) -> Cursor
-    requires { Places (state from.now to.now out_from.old out_to.old at.read at.write) × (1 ≤ arity) × (arity ≤ 9)
-        × (length (unpack w) + left ≤ max_digits) × Block arity left (unpack w) (drop at.read (table from.now to.now)) }
-    ensures places { Places (state from.now to.now out_from.new out_to.new result.read result.write) }
+    requires { Places (state pairs.from.now pairs.to.now out_from.old out_to.old at.read at.write) × (1 ≤ arity) × (arity ≤ 9)
+        × (length (unpack w) + left ≤ max_digits) × Block arity left (unpack w) (drop at.read (table pairs.from.now pairs.to.now)) }
+    ensures places { Places (state pairs.entry.from.now pairs.entry.to.now out_from.new out_to.new result.read result.write) }
     ensures reduces { ReducesBlock arity left (unpack w)
-        (state from.now to.now out_from.old out_to.old at.read at.write)
-        (state from.now to.now out_from.new out_to.new result.read result.write) }
+        (state pairs.entry.from.now pairs.entry.to.now out_from.old out_to.old at.read at.write)
+        (state pairs.entry.from.now pairs.entry.to.now out_from.new out_to.new result.read result.write) }
 {
+    let Pairs { from, to } = pairs;
     let Cursor { read, write } = at;
     if from[read] == w {
         out_from[write] = w;
@@ -73,7 +73,7 @@ fn reduce_block(
             write: write + 1,
         };
     }
-    let end = reduce_ways(from, to, out_from, out_to, w, arity, left - 1, arity, at);
+    let end = reduce_ways(pairs, out_from, out_to, w, arity, left - 1, arity, at);
     let joined = join(out_from, out_to, write, end.write, w, arity);
     Cursor {
         read: end.read,
@@ -84,8 +84,7 @@ fn reduce_block(
 // Reduces the parts of w from the first to the last, one after the other, each cut into parts at most `left` ways below.
 #[cycle(reduce_block_reduce_ways)]
 fn reduce_ways(
-    from: &[u64],
-    to: &[u64],
+    pairs: Pairs,
     out_from: &mut [u64],
     out_to: &mut [u64],
     w: u64,
@@ -94,19 +93,18 @@ fn reduce_ways(
     arity: u8,
     at: Cursor,
 ) -> Cursor
-    requires { Places (state from.now to.now out_from.old out_to.old at.read at.write) × (1 ≤ arity) × (arity ≤ 9)
+    requires { Places (state pairs.from.now pairs.to.now out_from.old out_to.old at.read at.write) × (1 ≤ arity) × (arity ≤ 9)
         × (length (unpack w) + left < max_digits) × (last ≤ 9)
-        × Parts arity left (unpack w) 1 last (drop at.read (table from.now to.now)) }
-    ensures places { Places (state from.now to.now out_from.new out_to.new result.read result.write) }
+        × Parts arity left (unpack w) 1 last (drop at.read (table pairs.from.now pairs.to.now)) }
+    ensures places { Places (state pairs.entry.from.now pairs.entry.to.now out_from.new out_to.new result.read result.write) }
     ensures reduces { ReducesParts arity left (unpack w) 1 last
-        (state from.now to.now out_from.old out_to.old at.read at.write)
-        (state from.now to.now out_from.new out_to.new result.read result.write) }
+        (state pairs.entry.from.now pairs.entry.to.now out_from.old out_to.old at.read at.write)
+        (state pairs.entry.from.now pairs.entry.to.now out_from.new out_to.new result.read result.write) }
 {
     let mut next = at;
     for i in 1..=last {
         next = reduce_block(
-            from,
-            to,
+            pairs,
             out_from,
             out_to,
             words::child(w, i),
@@ -118,16 +116,14 @@ fn reduce_ways(
     next
 }
 
-// Writes the pairs of the columns from and to into the lent columns, from their first place on.
-fn copy_pairs(from: &[u64], to: &[u64], out_from: &mut [u64], out_to: &mut [u64])
-    requires { (length from.now ≡ length to.now) × (length from.now ≤ length out_from.old)
-        × (length from.now ≤ length out_to.old) }
-    ensures { rows (length from.now) out_from.new out_to.new
-        ≡ table from.now to.now }
+// Writes the pairs into the lent columns, from their first place on.
+fn copy_pairs(pairs: Pairs, out_from: &mut [u64], out_to: &mut [u64])
+    requires { (length pairs.from.now ≤ length out_from.old) × (length pairs.from.now ≤ length out_to.old) }
+    ensures { rows (length pairs.entry.from.now) out_from.new out_to.new ≡ table pairs.entry.from.now pairs.entry.to.now }
 {
-    let n = from.len();
-    out_from[..n].copy_from_slice(from);
-    out_to[..n].copy_from_slice(to);
+    let n = pairs.from.len();
+    out_from[..n].copy_from_slice(pairs.from);
+    out_to[..n].copy_from_slice(pairs.to);
 }
 
 // Writes the reduced table of the columns from and to into the lent columns, from their first place on, and returns the number of its
@@ -144,14 +140,14 @@ pub fn reduce(
     ensures within { result ≤ length from.now }
     ensures keeps { rows result out_from.new out_to.new ≡ keep (shape_of shape) (table from.now to.now) }
 {
-    if !joinable::has_join(from, to, shape.arity) {
-        copy_pairs(from, to, out_from, out_to);
+    let pairs = Pairs { from, to };
+    if !joinable::has_join(pairs, shape.arity) {
+        copy_pairs(pairs, out_from, out_to);
         return from.len();
     }
     let start = Cursor { read: 0, write: 0 };
     let end = reduce_ways(
-        from,
-        to,
+        pairs,
         out_from,
         out_to,
         0,

@@ -6,6 +6,8 @@ ghost use Rattle.columns.specs.Packed.{table};
 ghost use Rattle.tables.specs.Spread.{beneath, spread_pair, spread};
 ghost use Rattle.tables.specs.Spreading.{pair, Plain, Operand, Unbegun, Room, Spreads};
 
+use crate::Pairs;
+
 // The digits that a plan word has at most, as a number of the type of lengths.
 const MAX_DIGITS: u32 = words::MAX_DIGITS as u32;
 
@@ -40,23 +42,22 @@ fn put(
 fn spread_beneath(
     u: u64,
     v: u64,
-    from: &[u64],
-    to: &[u64],
+    b: Pairs,
     froms: &mut [u64],
     tos: &mut [u64],
     n: usize,
 ) -> Option<usize>
     requires t { T (is_packed u) × T (is_packed v) }
-    requires operand { Operand from.now to.now }
-    requires unbegun { Unbegun from.now v }
-    requires room { Room n (beneath (unpack u) (unpack v) (table from.now to.now)) froms.old tos.old }
-    ensures { Spreads (beneath (unpack u) (unpack v) (table from.now to.now)) n froms.old tos.old froms.new tos.new result }
+    requires operand { Operand b.from.now b.to.now }
+    requires unbegun { Unbegun b.from.now v }
+    requires room { Room n (beneath (unpack u) (unpack v) (table b.from.now b.to.now)) froms.old tos.old }
+    ensures { Spreads (beneath (unpack u) (unpack v) (table b.entry.from.now b.entry.to.now)) n froms.old tos.old froms.new tos.new result }
 {
     let mut rows = n;
-    let run = columns::extending(from, v);
+    let run = columns::extending(b.from, v);
     for i in run.start..run.end {
-        let tail = words::tail(v, from[i]);
-        rows = put(u, tail, to[i], 0, froms, tos, rows)?;
+        let tail = words::tail(v, b.from[i]);
+        rows = put(u, tail, b.to[i], 0, froms, tos, rows)?;
     }
     Some(rows)
 }
@@ -65,23 +66,23 @@ fn spread_beneath(
 fn spread_pair(
     u: u64,
     v: u64,
-    from: &[u64],
-    to: &[u64],
+    b: Pairs,
     froms: &mut [u64],
     tos: &mut [u64],
     n: usize,
 ) -> Option<usize>
     requires t { T (is_packed u) × T (is_packed v) }
-    requires operand { Operand from.now to.now }
-    requires room { Room n (spread_pair (table from.now to.now) (pair (unpack u) (unpack v))) froms.old tos.old }
-    ensures { Spreads (spread_pair (table from.now to.now) (pair (unpack u) (unpack v))) n froms.old tos.old froms.new tos.new result }
+    requires operand { Operand b.from.now b.to.now }
+    requires room { Room n (spread_pair (table b.from.now b.to.now) (pair (unpack u) (unpack v))) froms.old tos.old }
+    ensures { Spreads (spread_pair (table b.entry.from.now b.entry.to.now) (pair (unpack u) (unpack v))) n
+        froms.old tos.old froms.new tos.new result }
 {
-    match columns::begun_by(from, v) {
+    match columns::begun_by(b.from, v) {
         Some(k) => {
-            let tail = words::tail(from[k], v);
-            put(u, 0, to[k], tail, froms, tos, n)
+            let tail = words::tail(b.from[k], v);
+            put(u, 0, b.to[k], tail, froms, tos, n)
         }
-        None => spread_beneath(u, v, from, to, froms, tos, n),
+        None => spread_beneath(u, v, b, froms, tos, n),
     }
 }
 
@@ -99,9 +100,13 @@ pub fn spread_plans(
     requires room { Room 0 (spread (table a_from.now a_to.now) (table b_from.now b_to.now)) froms.old tos.old }
     ensures { Spreads (spread (table a_from.now a_to.now) (table b_from.now b_to.now)) 0 froms.old tos.old froms.new tos.new result }
 {
+    let b = Pairs {
+        from: b_from,
+        to: b_to,
+    };
     let mut rows = 0;
     for (&u, &v) in a_from.iter().zip(a_to) {
-        rows = spread_pair(u, v, b_from, b_to, froms, tos, rows)?;
+        rows = spread_pair(u, v, b, froms, tos, rows)?;
     }
     Some(rows)
 }

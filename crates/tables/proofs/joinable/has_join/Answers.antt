@@ -13,6 +13,6 @@ use Rattle.tables.proofs.joinable.has_join.Goals as goal
 pub returns : goal.returns
 returns c =
     let a = c.args in
-    any_from_yields_List (λ k. joins_first a.arity (table (drop k a.from.now) (drop k a.to.now))) _ _ _ c.any.ensures.ran
+    any_from_yields_List (λ k. joins_first a.arity (table (drop k a.pairs.from.now) (drop k a.pairs.to.now))) _ _ _ c.any.ensures.ran
     (YieldsList-from_range 0 _ c.saturating_sub-places.result refl (omega arith)) (λ x b q k. search rules)
-    ∙ found_somewhere a.arity a.from.now a.to.now c.requires.0 c.requires.2 0 c.saturating_sub-places.result (omega arith)
+    ∙ found_somewhere a.arity a.pairs.from.now a.pairs.to.now c.requires.0 a.pairs.paired 0 c.saturating_sub-places.result (omega arith)

@@ -17,7 +17,7 @@ pub pair_lines-close_at-requires : goal.pair_lines-close_at-requires
 pair_lines-close_at-requires c =
     let a = c.args in
     let size = listing_size a.slot (shape_of a.shape) (table a.from.now a.to.now) in
-    (c.requires.2, omega arith)
+    omega arith
 
 pub close_line-requires : goal.close_line-requires
 close_line-requires c =

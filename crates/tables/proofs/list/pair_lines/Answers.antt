@@ -8,43 +8,46 @@ use Rattle.tables.proofs.Records.{lines_step, lines_none, none_written, line_roo
 use Rattle.tables.proofs.list.pair_lines.Invariants.{lines_from}
 use Rattle.tables.proofs.list.pair_lines.Goals as goal
 
-pub loop-f-init : goal.loop-f-init
-loop-f-init c =
+pub loop-from-init : goal.loop-from-init
+loop-from-init c =
     let a = c.args in
-    none_written (lines_from a.from.now a.to.now) (length a.from.now) a.out.now a.at
+    none_written (lines_from a.pairs.from.now a.pairs.to.now) (length a.pairs.from.now) a.out.now a.at
 
 pub pair_line-next-requires : goal.pair_line-next-requires
 pair_line-next-requires c =
     let a = c.args in
-    let from = a.from.now in
-    let to = a.to.now in
-    let i = length c.loop-f.yielded in
+    let from = a.pairs.from.now in
+    let to = a.pairs.to.now in
+    let i = length c.loop-from.yielded in
     let (h, k, e, e') =
-    zip_turn from to c.loop-f.yielded _ _ c.next.new.self _ (cc) (cc) c.loop-f.yielded_by _
+    zip_turn from to c.loop-from.yielded _ _ c.next.new.self _ (cc) (cc) c.loop-from.yielded_by _
     c.in-Some.is c.next.ensures.steps in
-    line_room (lines_from from to) (length from) a.out.now a.at c.loop-f.invariant
+    line_room (lines_from from to) (length from) a.out.now a.at c.loop-from.invariant
     (pair_record (pair_of c.in-Some.field-0-0.now c.in-Some.field-0-1.now))
     (omega arith) (lines_step from to i h (omega arith) (e 0) (e' 0))
 
-pub loop-f-preserved : goal.loop-f-preserved
-loop-f-preserved c =
+pub loop-from-preserved : goal.loop-from-preserved
+loop-from-preserved c =
     let a = c.args in
-    let from = a.from.now in
-    let to = a.to.now in
-    let i = length c.loop-f.yielded in
+    let from = a.pairs.from.now in
+    let to = a.pairs.to.now in
+    let i = length c.loop-from.yielded in
     let (h, k, e, e') =
-    zip_turn from to c.loop-f.yielded _ _ c.next.new.self _ (cc) (cc) c.loop-f.yielded_by _
+    zip_turn from to c.loop-from.yielded _ _ c.next.new.self _ (cc) (cc) c.loop-from.yielded_by _
     c.in-Some.is c.next.ensures.steps in
-    line_written (lines_from from to) (length from) a.out.now a.at c.loop-f.invariant
+    line_written (lines_from from to) (length from) a.out.now a.at c.loop-from.invariant
     (pair_record (pair_of c.in-Some.field-0-0.now c.in-Some.field-0-1.now))
     (omega arith) (lines_step from to i h (omega arith) (e 0) (e' 0))
-    _ (length-append c.loop-f.yielded _) h (omega arith) c.pair_line-next.ensures
+    _ (length-append c.loop-from.yielded _) h (omega arith) c.pair_line-next.ensures
 
 pub returns : goal.returns
 returns c =
     let a = c.args in
-    let from = a.from.now in
-    let to = a.to.now in
-    all_written (lines_from from to) (length from) a.out.now a.at c.loop-f.invariant
-    (lines_none from to (length c.loop-f.yielded)
-    (omega (arith, zip_end from to c.loop-f.yielded _ _ c.next.new.self _ (cc) (cc) c.loop-f.yielded_by c.in-None.is c.next.ensures.steps)))
+    let from = a.pairs.from.now in
+    let to = a.pairs.to.now in
+    all_written (lines_from from to) (length from) a.out.now a.at c.loop-from.invariant
+    (lines_none from to (length c.loop-from.yielded)
+    (omega (
+      arith,
+      zip_end from to c.loop-from.yielded _ _ c.next.new.self _ (cc) (cc) c.loop-from.yielded_by c.in-None.is c.next.ensures.steps,
+    )))

@@ -11,5 +11,6 @@ use Rattle.tables.proofs.list.pair_lines.Given as goal
 abbrev pub lines_from : List ℕ → List ℕ → ℕ → List ℕ
 lines_from from to i = pair_lines (drop i from) (drop i to)
 
-abbrev pub invariant-loop-f : goal.invariant-loop-f
-invariant-loop-f l = LinesWritten (lines_from l.from l.to) (length l.from) l.initial.out l.at l.out l.next (length l.yielded)
+abbrev pub invariant-loop-from : goal.invariant-loop-from
+invariant-loop-from l =
+    LinesWritten (lines_from l.pairs.from.now l.pairs.to.now) (length l.pairs.from.now) l.initial.out l.at l.out l.next (length l.yielded)

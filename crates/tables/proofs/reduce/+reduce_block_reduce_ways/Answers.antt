@@ -16,13 +16,14 @@ pub reduce_block-bounds-from-read : goal.reduce_block-bounds-from-read
 reduce_block-bounds-from-read t c =
     let a = c.args in
     let p = c.requires in
-    block_place a.arity a.left (unpack a.w) (state a.from.now a.to.now a.out_from.now a.out_to.now a.at.read a.at.write) p.1 p.0.paired p.4
+    let s = state a.pairs.from.now a.pairs.to.now a.out_from.now a.out_to.now a.at.read a.at.write in
+    block_place a.arity a.left (unpack a.w) s p.1 p.0.paired p.4
 
 pub reduce_block-bounds-out_from-write : goal.reduce_block-bounds-out_from-write
 reduce_block-bounds-out_from-write t c =
     let a = c.args in
     let p = c.requires in
-    let s = state a.from.now a.to.now a.out_from.now a.out_to.now a.at.read a.at.write in
+    let s = state a.pairs.from.now a.pairs.to.now a.out_from.now a.out_to.now a.at.read a.at.write in
     let h = block_place a.arity a.left (unpack a.w) s p.1 p.0.paired p.4 in
     omega (arith, h, p.0.within, p.0.from_room, p.0.behind)
 
@@ -30,7 +31,7 @@ pub reduce_block-bounds-to-read : goal.reduce_block-bounds-to-read
 reduce_block-bounds-to-read t c =
     let a = c.args in
     let p = c.requires in
-    let s = state a.from.now a.to.now a.out_from.now a.out_to.now a.at.read a.at.write in
+    let s = state a.pairs.from.now a.pairs.to.now a.out_from.now a.out_to.now a.at.read a.at.write in
     let h = block_place a.arity a.left (unpack a.w) s p.1 p.0.paired p.4 in
     omega (arith, h, p.0.paired)
 
@@ -38,7 +39,7 @@ pub reduce_block-bounds-out_to-write : goal.reduce_block-bounds-out_to-write
 reduce_block-bounds-out_to-write t c =
     let a = c.args in
     let p = c.requires in
-    let s = state a.from.now a.to.now a.out_from.now a.out_to.now a.at.read a.at.write in
+    let s = state a.pairs.from.now a.pairs.to.now a.out_from.now a.out_to.now a.at.read a.at.write in
     let h = block_place a.arity a.left (unpack a.w) s p.1 p.0.paired p.4 in
     omega (arith, h, p.0.within, p.0.to_room, p.0.behind)
 
@@ -46,7 +47,7 @@ pub reduce_block-returns-then-from-read : goal.reduce_block-returns-then-from-re
 reduce_block-returns-then-from-read t c =
     let a = c.args in
     let p = c.requires in
-    let s = state a.from.now a.to.now a.out_from.now a.out_to.now a.at.read a.at.write in
+    let s = state a.pairs.from.now a.pairs.to.now a.out_from.now a.out_to.now a.at.read a.at.write in
     let h = block_place a.arity a.left (unpack a.w) s p.1 p.0.paired p.4 in
     record { places = copy_places s a.w p.0 h; reduces = copied s p.0 a.arity a.left a.w p.1 c.if-from-read.true h }
 
@@ -54,7 +55,7 @@ pub reduce_block-overflow_sub-left : goal.reduce_block-overflow_sub-left
 reduce_block-overflow_sub-left t c =
     let a = c.args in
     let p = c.requires in
-    let s = state a.from.now a.to.now a.out_from.now a.out_to.now a.at.read a.at.write in
+    let s = state a.pairs.from.now a.pairs.to.now a.out_from.now a.out_to.now a.at.read a.at.write in
     let d = divided s p.0 a.arity a.left a.w p.1 c.if-from-read.false p.4 in
     omega (arith, d.deeper)
 
@@ -62,7 +63,7 @@ pub reduce_block-reduce_ways-end-requires : goal.reduce_block-reduce_ways-end-re
 reduce_block-reduce_ways-end-requires t c =
     let a = c.args in
     let p = c.requires in
-    let s = state a.from.now a.to.now a.out_from.now a.out_to.now a.at.read a.at.write in
+    let s = state a.pairs.from.now a.pairs.to.now a.out_from.now a.out_to.now a.at.read a.at.write in
     let d = divided s p.0 a.arity a.left a.w p.1 c.if-from-read.false p.4 in
     (omega (arith, d.deeper, c.decreases, p.2), (p.0, p.1, p.2, omega (arith, d.deeper, p.3), p.2, d.parts))
 
@@ -70,11 +71,11 @@ pub reduce_block-join-joined-requires : goal.reduce_block-join-joined-requires
 reduce_block-join-joined-requires t c =
     let a = c.args in
     let p = c.requires in
-    let s = state a.from.now a.to.now a.out_from.now a.out_to.now a.at.read a.at.write in
+    let s = state a.pairs.from.now a.pairs.to.now a.out_from.now a.out_to.now a.at.read a.at.write in
     let d = divided s p.0 a.arity a.left a.w p.1 c.if-from-read.false p.4 in
     let r = c.reduce_ways-end in
     let q = r.ensures.places in
-    let w = state a.from.now a.to.now r.new.out_from r.new.out_to r.result.read r.result.write in
+    let w = state a.pairs.from.now a.pairs.to.now r.new.out_from r.new.out_to r.result.read r.result.write in
     let g = write_grows s w _ _ p.0 q (r.ensures.reduces d.parts) in
     (p.1, p.2, g, omega (arith, q.from_room, q.within, q.behind), omega (arith, q.to_room, q.within, q.behind))
 
@@ -82,22 +83,23 @@ pub reduce_block-returns : goal.reduce_block-returns
 reduce_block-returns t c =
     let a = c.args in
     let p = c.requires in
-    let s = state a.from.now a.to.now a.out_from.now a.out_to.now a.at.read a.at.write in
+    let s = state a.pairs.from.now a.pairs.to.now a.out_from.now a.out_to.now a.at.read a.at.write in
     let r = c.reduce_ways-end in
-    let w = state a.from.now a.to.now r.new.out_from r.new.out_to r.result.read r.result.write in
+    let w = state a.pairs.from.now a.pairs.to.now r.new.out_from r.new.out_to r.result.read r.result.write in
     let n = c.join-joined in
     record {
       places = join_places w n.new.from n.new.to n.result r.ensures.places n.auto.from n.auto.to n.ensures.within;
       reduces =
           rejoined s p.0 a.arity a.left a.w p.1 c.if-from-read.false
-          w (state a.from.now a.to.now n.new.from n.new.to r.result.read n.result) r.ensures.reduces n.ensures.joins refl;
+          w (state a.pairs.from.now a.pairs.to.now n.new.from n.new.to r.result.read n.result) r.ensures.reduces n.ensures.joins refl;
     }
 
 pub reduce_ways-loop-i-init : goal.reduce_ways-loop-i-init
 reduce_ways-loop-i-init t c =
     let a = c.args in
     let p = c.requires in
-    reducing_start a.arity a.left (unpack a.w) a.last (state a.from.now a.to.now a.out_from.now a.out_to.now a.at.read a.at.write) p.0 p.5
+    let s = state a.pairs.from.now a.pairs.to.now a.out_from.now a.out_to.now a.at.read a.at.write in
+    reducing_start a.arity a.left (unpack a.w) a.last s p.0 p.5
 
 pub reduce_ways-reduce_block-next-requires : goal.reduce_ways-reduce_block-next-requires
 reduce_ways-reduce_block-next-requires t c =

@@ -14,5 +14,5 @@ decreases-reduce_ways l = l.left * 2 + 1
 abbrev pub invariant-reduce_ways-loop-i : goal.invariant-reduce_ways-loop-i
 invariant-reduce_ways-loop-i l =
     Reducing l.arity l.left (unpack l.w) l.last l.i
-    (state l.from l.to l.initial.out_from l.initial.out_to l.initial.next.read l.initial.next.write)
-    (state l.from l.to l.out_from l.out_to l.next.read l.next.write)
+    (state l.pairs.from.now l.pairs.to.now l.initial.out_from l.initial.out_to l.initial.next.read l.initial.next.write)
+    (state l.pairs.from.now l.pairs.to.now l.out_from l.out_to l.next.read l.next.write)

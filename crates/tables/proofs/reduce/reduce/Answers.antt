@@ -42,7 +42,7 @@ module _
 pub has_join-requires : goal.has_join-requires
 has_join-requires c =
     let r = in_range (shape_of c.args.shape) c.requires.3 in
-    (omega (arith, r.arity_low), r.arity_high, c.requires.0)
+    (omega (arith, r.arity_low), r.arity_high)
 
 pub returns-then-not-has_join-clause-keeps : goal.returns-then-not-has_join-clause-keeps
 returns-then-not-has_join-clause-keeps c =

@@ -42,11 +42,11 @@ loop-i-init c =
     let a = c.args in
     let x = c.extending-run.ensures in
     filling_start
-    (beneath (unpack a.u) (unpack a.v) (table a.from.now a.to.now))
-    (left a.u a.v a.from.now a.to.now c.extending-run.result.start)
+    (beneath (unpack a.u) (unpack a.v) (table a.b.from.now a.b.to.now))
+    (left a.u a.v a.b.from.now a.b.to.now c.extending-run.result.start)
     a.n a.froms.now a.tos.now
-    (beneath_skip (unpack a.u) (unpack a.v) c.extending-run.result.start a.from.now a.to.now c.requires.operand.plain.long
-    (none_before a.from.now a.v c.extending-run.result.start c.extending-run.result.end x c.requires.unbegun)
+    (beneath_skip (unpack a.u) (unpack a.v) c.extending-run.result.start a.b.from.now a.b.to.now c.requires.operand.plain.long
+    (none_before a.b.from.now a.v c.extending-run.result.start c.extending-run.result.end x c.requires.unbegun)
     (omega (arith, x.forward, x.within)))
 
 pub tail-tail-requires : goal.tail-tail-requires
@@ -54,19 +54,19 @@ tail-tail-requires c =
     let a = c.args in
     let i = c.loop-i.i in
     let longer = c.extending-run.ensures.inside i (omega arith) (omega arith) in (
-      packed_at a.from.now c.requires.operand.plain.from_packed i (omega arith),
-      begins_of_proper (unpack a.v) (word_at a.from.now i) longer,
+      packed_at a.b.from.now c.requires.operand.plain.from_packed i (omega arith),
+      begins_of_proper (unpack a.v) (word_at a.b.from.now i) longer,
     )
 
 pub put-requires-clause-t : goal.put-requires-clause-t
 put-requires-clause-t c =
     let a = c.args in
     let i = c.loop-i.i in
-    let packed = packed_at a.from.now c.requires.operand.plain.from_packed i (omega arith) in (
+    let packed = packed_at a.b.from.now c.requires.operand.plain.from_packed i (omega arith) in (
       c.requires.t.0,
       (
-        packed_tail (unpack a.v) (get_or a.from.now i 0) c.tail-tail.result packed c.tail-tail.ensures,
-        (packed_at a.to.now c.requires.operand.plain.to_packed i (omega (arith, c.requires.operand.plain.long)), packed_zero),
+        packed_tail (unpack a.v) (get_or a.b.from.now i 0) c.tail-tail.result packed c.tail-tail.ensures,
+        (packed_at a.b.to.now c.requires.operand.plain.to_packed i (omega (arith, c.requires.operand.plain.long)), packed_zero),
       ),
     )
 
@@ -75,7 +75,7 @@ put-requires-clause-n_in_bounds c =
     let a = c.args in
     let i = c.loop-i.i in
     let here =
-    turn a.u a.v a.from.now a.to.now i c.tail-tail.result
+    turn a.u a.v a.b.from.now a.b.to.now i c.tail-tail.result
     (omega arith) (omega (arith, c.requires.operand.plain.long)) c.tail-tail.ensures in
     let room = filling_room c.loop-i.invariant here c.requires.room in
     (omega arith, omega arith)
@@ -85,7 +85,7 @@ returns-in_err-rows c =
     let a = c.args in
     let i = c.loop-i.i in
     let here =
-    turn a.u a.v a.from.now a.to.now i c.tail-tail.result
+    turn a.u a.v a.b.from.now a.b.to.now i c.tail-tail.result
     (omega arith) (omega (arith, c.requires.operand.plain.long)) c.tail-tail.ensures in
     rw c.from_residual.ensures (filling_broken c.loop-i.invariant here c.in_err-rows.ensures)
 
@@ -94,7 +94,7 @@ loop-i-preserved c =
     let a = c.args in
     let i = c.loop-i.i in
     let here =
-    turn a.u a.v a.from.now a.to.now i c.tail-tail.result
+    turn a.u a.v a.b.from.now a.b.to.now i c.tail-tail.result
     (omega arith) (omega (arith, c.requires.operand.plain.long)) c.tail-tail.ensures in
     filling_step c.loop-i.invariant here c.in_ok-rows.ensures c.put.auto.froms c.put.auto.tos
 
@@ -102,6 +102,6 @@ pub returns : goal.returns
 returns c =
     let a = c.args in
     filling_end c.loop-i.invariant
-    (beneath_stop (unpack a.u) (unpack a.v) a.from.now a.to.now c.loop-i.i
-    (λ k h l. none_behind a.from.now a.v c.extending-run.result.start c.extending-run.result.end c.extending-run.ensures c.requires.unbegun
-    k (omega arith) l))
+    (beneath_stop (unpack a.u) (unpack a.v) a.b.from.now a.b.to.now c.loop-i.i
+    (λ k h l. none_behind a.b.from.now a.v c.extending-run.result.start c.extending-run.result.end c.extending-run.ensures
+    c.requires.unbegun k (omega arith) l))

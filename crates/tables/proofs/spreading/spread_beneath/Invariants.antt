@@ -16,5 +16,5 @@ left u v from to i = beneath (unpack u) (unpack v) (table (drop i from) (drop i 
 
 abbrev pub invariant-loop-i : goal.invariant-loop-i
 invariant-loop-i l =
-    Filling (beneath (unpack l.u) (unpack l.v) (table l.from l.to)) (left l.u l.v l.from l.to l.i) l.n
+    Filling (beneath (unpack l.u) (unpack l.v) (table l.b.from.now l.b.to.now)) (left l.u l.v l.b.from.now l.b.to.now l.i) l.n
     l.initial.froms l.initial.tos l.froms l.tos l.rows

@@ -36,20 +36,20 @@ module _ (u v : ℕ) (from to : List ℕ) (long : length from ≡ length to) (k 
 pub tail-tail-requires : goal.tail-tail-requires
 tail-tail-requires c =
     let a = c.args in
-    let (first, within) = first_of_begun a.from.now (unpack a.v) c.in-Some.k (sym c.in-Some.ensures) in
+    let (first, within) = first_of_begun a.b.from.now (unpack a.v) c.in-Some.k (sym c.in-Some.ensures) in
     (c.requires.t.1, first.found within)
 
 pub put-requires-clause-t : goal.put-requires-clause-t
 put-requires-clause-t c =
     let a = c.args in
     let k = c.in-Some.k in
-    let (first, within) = first_of_begun a.from.now (unpack a.v) k (sym c.in-Some.ensures) in (
+    let (first, within) = first_of_begun a.b.from.now (unpack a.v) k (sym c.in-Some.ensures) in (
       c.requires.t.0,
       (
         packed_zero,
         (
-          packed_at a.to.now c.requires.operand.plain.to_packed k (omega (arith, within, c.requires.operand.plain.long)),
-          packed_tail (word_at a.from.now k) a.v c.tail-tail.result c.requires.t.1 c.tail-tail.ensures,
+          packed_at a.b.to.now c.requires.operand.plain.to_packed k (omega (arith, within, c.requires.operand.plain.long)),
+          packed_tail (word_at a.b.from.now k) a.v c.tail-tail.result c.requires.t.1 c.tail-tail.ensures,
         ),
       ),
     )
@@ -58,30 +58,30 @@ pub put-requires-clause-n_in_bounds : goal.put-requires-clause-n_in_bounds
 put-requires-clause-n_in_bounds c =
     let a = c.args in
     let k = c.in-Some.k in
-    let (first, within) = first_of_begun a.from.now (unpack a.v) k (sym c.in-Some.ensures) in
-    let one = single a.u a.v a.from.now a.to.now c.requires.operand.plain.long k first within c.tail-tail.result c.tail-tail.ensures in
+    let (first, within) = first_of_begun a.b.from.now (unpack a.v) k (sym c.in-Some.ensures) in
+    let one = single a.u a.v a.b.from.now a.b.to.now c.requires.operand.plain.long k first within c.tail-tail.result c.tail-tail.ensures in
     let room = subst (λ t. Room a.n t a.froms.now a.tos.now) one c.requires.room in
     (omega arith, omega arith)
 
 pub spread_beneath-requires-clause-room : goal.spread_beneath-requires-clause-room
 spread_beneath-requires-clause-room c =
     let a = c.args in
-    let first = first_of_unbegun a.from.now (unpack a.v) (sym c.in-None.ensures) in
+    let first = first_of_unbegun a.b.from.now (unpack a.v) (sym c.in-None.ensures) in
     subst (λ t. Room a.n t a.froms.now a.tos.now)
-    (parts a.u a.v a.from.now a.to.now c.requires.operand.plain.long _ first refl) c.requires.room
+    (parts a.u a.v a.b.from.now a.b.to.now c.requires.operand.plain.long _ first refl) c.requires.room
 
 pub returns-in-Some : goal.returns-in-Some
 returns-in-Some c =
     let a = c.args in
     let k = c.in-Some.k in
-    let (first, within) = first_of_begun a.from.now (unpack a.v) k (sym c.in-Some.ensures) in
-    let one = single a.u a.v a.from.now a.to.now c.requires.operand.plain.long k first within c.tail-tail.result c.tail-tail.ensures in
+    let (first, within) = first_of_begun a.b.from.now (unpack a.v) k (sym c.in-Some.ensures) in
+    let one = single a.u a.v a.b.from.now a.b.to.now c.requires.operand.plain.long k first within c.tail-tail.result c.tail-tail.ensures in
     subst (λ r. Spreads r a.n a.froms.now a.tos.now c.put.new.froms c.put.new.tos c.put.result) (sym one) c.put.ensures
 
 pub returns-in-None : goal.returns-in-None
 returns-in-None c =
     let a = c.args in
-    let first = first_of_unbegun a.from.now (unpack a.v) (sym c.in-None.ensures) in
+    let first = first_of_unbegun a.b.from.now (unpack a.v) (sym c.in-None.ensures) in
     subst (λ r. Spreads r a.n a.froms.now a.tos.now c.spread_beneath.new.froms c.spread_beneath.new.tos c.spread_beneath.result)
-    (sym (parts a.u a.v a.from.now a.to.now c.requires.operand.plain.long _ first refl))
+    (sym (parts a.u a.v a.b.from.now a.b.to.now c.requires.operand.plain.long _ first refl))
     c.spread_beneath.ensures
