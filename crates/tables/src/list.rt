@@ -82,8 +82,8 @@ fn pair_lines(pairs: Pairs, out: &mut [u8], at: usize) -> usize
     next
 }
 
-// The lines of a block, all pairs of these columns, from the place of the first one on. (Kept beside `pair_lines`: in one function the line
-// would be a closure, and the clauses that say what each call of it writes are longer than this loop.)
+// The lines of a block, all pairs of these columns, from the place of the first one on. (kept: beside `pair_lines`. In one function the
+// line would be a closure, and the clauses that say what each call of it writes would be longer than this loop.)
 pub fn block_lines(from: &[u64], to: &[u64], first: usize, out: &mut [u8], at: usize) -> usize
     requires { BlockFits first from.now to.now at (length out.old) }
     ensures { Wrote (block_lines first from.now to.now) out.old at out.new result }
