@@ -14,15 +14,15 @@ use lib.Dec.{T, leb, eqb, leb→le, le→leb, eqb→eq}
 use lib.ListN.{length, get_or, take, drop, length-drop, length-map}
 use lib.Seq.{length-take-le, get_or-take, get_or-drop, take-append_seam, drop-append_seam}
 use lib.IntN.{ℤ, nat_abs}
+use Rattle.std.proofs.Common.{Result, Ok, Err}
 use Rattle.higman.specs.Words.{Shape, Word, is_word, begins}
 use Rattle.higman.specs.Bases.{Basis, overlap, gap, all}
 use Rattle.higman.specs.Tables.{Pair, first_match, image}
 use Rattle.higman.specs.Normal.{compose, keep}
-use Rattle.higman.specs.Limits.{Plan as PlanOf, Bases, Kept, shape_in_range, is_plan_word, is_code, max_pairs, max_digits, max_code}
+use Rattle.higman.specs.Limits.{Plan as PlanOf, Bases, Kept, shape_in_range, is_plan_word, is_code, max_pairs, max_digits, max_code, max_power}
 use Rattle.higman.specs.Text.{byte, digit_byte, word_bytes, word_of}
 use Rattle.higman.specs.Buffers.{written}
 use Rattle.higman.specs.Listing.{is_slot, listing as lines_of}
-use Rattle.higman.specs.Refusals.{buffer_too_short}
 use Rattle.higman.specs.Answers as Of
 use Rattle.higman.specs.Places.{place_of, AtPlace, RoutesAt}
 use Rattle.higman.proofs.Tests.{passes, so, T_of, and_left, and_right, and_intro, all_head, all_tail, all_cons, clash}
@@ -39,38 +39,45 @@ use Rattle.higman.proofs.Images.{row_of_image}
 use Rattle.words.specs.Packed.{unpack}
 use Rattle.words.proofs.Codes.{digits_drop, after_drop}
 use Rattle.columns.specs.Packed.{words_of}
+use Rattle.tables.specs.declared.routing.Image.{Image}
 use Rattle.tables.specs.Routing.{matched_digits}
 use Rattle.operations.specs.declared.Plan.{Plan}
+use Rattle.operations.specs.declared.Column.{Column}
+use Rattle.operations.specs.declared.Column.TheVariants.{From, To}
+use Rattle.operations.specs.declared.Reason.{Reason}
 use Rattle.operations.specs.declared.Reason.TheVariants.{Overlap, Gap}
-use Rattle.plans.specs.declared.Judgement.{Judgement}
-use Rattle.plans.specs.declared.Judgement.TheVariants.{NotADraft, Accepted, InFrom, InTo}
-use Rattle.operations.specs.declared.Likeness.TheVariants as Like
-use Rattle.operations.specs.declared.Route.TheVariants as Reply
-use Rattle.operations.specs.Plans.{shape_of, rows_of, plan_of, zeros, is_column, in_table, is_draft, is_plan, packed, blank}
-use Rattle.plans.specs.Answers.{judgement_of, judged, keeping, following, raising, alike}
-use Rattle.operations.specs.Answers.{refusing, making}
+use Rattle.operations.specs.declared.refusals.Refusal.{Refusal}
+use Rattle.operations.specs.declared.refusals.Refusal.TheVariants as The
+use Rattle.plans.specs.declared.Rejection.{Rejection}
+use Rattle.plans.specs.declared.Rejection.TheVariants.{NotADraft, Faulty}
+use Rattle.operations.specs.Refusals.{number_of}
+use Rattle.operations.specs.Plans.{shape_of, rows_of, plan_of, zeros, is_column, in_table, is_draft, is_plan}
+use Rattle.plans.specs.Answers.{verdict_in, faulty, judgement_of, judged, keeping, following, raising, alike}
+use Rattle.operations.specs.Answers.{making}
 use Rattle.plans.specs.Routing.{matched, matching, matched_place, routing, routed_buffer}
 use Rattle.operations.specs.Routing.{matched_in, matched_place_in, routing_in, image_into}
 use Rattle.plans.specs.CallsExact.{ColumnFilled, DraftByPlace, from_column, to_column, DraftJudged, DraftKept, KeepingExact}
-use Rattle.plans.specs.CallsExact.{RoutesTo, RouteRefused, ProperBeginning, CodeTaken, RoutingExact}
+use Rattle.plans.specs.CallsExact.{Refuses, RoutesTo, RouteRefused, ProperBeginning, CodeTaken, RoutingExact}
 use Rattle.plans.specs.CallsExact.{MatchedBy, NotMatched, MatchingExact}
 use Rattle.plans.specs.CallsExact.{ListRefused, TwoShapes, FollowBreaks, PowerBreaks, AnswersNumbered, NumbersExact, CallsExact}
 use Rattle.words.proofs.Checks.{check_map}
 use Rattle.plans.proofs.DraftChecks.{draft_of_lem, test_draft, judged_none}
 use Rattle.operations.proofs.Values.{pairs_by_place}
-use Rattle.plans.proofs.Accepted.{keeping_of, none_kept as not_kept}
+use Rattle.plans.proofs.Accepted.{keeping_by, verdict_told, none_kept as not_kept}
 use Rattle.columns.proofs.Limits.{pair_limit}
 use Rattle.operations.proofs.KeptValues.{kept}
 use Rattle.plans.proofs.Answered.{first_no_plan, second_no_plan, both_plans}
-use Rattle.operations.proofs.SameShapes.{shapes_differ_lem}
-use Rattle.plans.proofs.Answered.{first_not_alike, second_not_alike, both_compared}
-use Rattle.operations.proofs.Compared.{not_compared}
-use Rattle.operations.proofs.Powered.{power_limit}
+use Rattle.operations.proofs.SameShapes.{shapes_differ}
+use Rattle.plans.proofs.Answered.{first_not_alike, second_not_alike, both_compared, not_compared}
 use Rattle.plans.proofs.Powered.{inverting_no_plan, raising_no_plan, raising_plan, raising_outside}
 use Rattle.operations.proofs.Codes.{code_limit}
 use Rattle.plans.proofs.Codes.{matched_no_code, matched_no_plan, place_no_code, place_no_plan, routing_no_plan, routing_no_code}
 use Rattle.operations.proofs.Lists.{slot_low, slot_high}
 use Rattle.plans.proofs.Lists.{listing_no_plan, listing_no_slot, listing_no_room}
+
+-- a refusal and its number
+refuses : {A : Type 0} {answer : Result A Refusal} (r : Refusal) → Err r ≡ answer → Refuses answer (number_of r)
+refuses r e = record { refusal = r; refused = sym e; numbered = refl }
 
 -- a test with a limit beside it, and what the limit is
 within_exactly : (b : Bool) (n m limit : ℕ) → m ≡ limit → T (b && leb n m) ↔ (T b × (n ≤ limit))
@@ -180,17 +187,20 @@ fault_by overlaps gaps = elim overlaps [ true ↦ some Of.Overlap | false ↦ el
 abbrev verdict_by : Option Of.Reason → Option Of.Reason → Of.Verdict
 verdict_by from to = elim from [ some r ↦ Of.InFrom r | none ↦ elim to [ some r ↦ Of.InTo r | none ↦ Of.Accepted ] ]
 
-abbrev judged_by : Bool → Bool → Bool → Bool → Judgement
+abbrev judged_by : Bool → Bool → Bool → Bool → Result (Unit {0}) Rejection
 judged_by a b c d = judgement_of (verdict_by (fault_by a b) (fault_by c d))
 
 -- what the checks have found where a draft is judged so
-abbrev Found : Judgement → Bool → Bool → Bool → Bool → Type 0
-Found NotADraft a b c d = ⊥
-Found Accepted a b c d = (a ≡ false) × (b ≡ false) × (c ≡ false) × (d ≡ false)
-Found (InFrom Overlap) a b c d = a ≡ true
-Found (InFrom Gap) a b c d = (a ≡ false) × (b ≡ true)
-Found (InTo Overlap) a b c d = (a ≡ false) × (b ≡ false) × (c ≡ true)
-Found (InTo Gap) a b c d = (a ≡ false) × (b ≡ false) × (c ≡ false) × (d ≡ true)
+abbrev FoundIn : Column → Reason → Bool → Bool → Bool → Bool → Type 0
+FoundIn From Overlap a b c d = a ≡ true
+FoundIn From Gap a b c d = (a ≡ false) × (b ≡ true)
+FoundIn To Overlap a b c d = (a ≡ false) × (b ≡ false) × (c ≡ true)
+FoundIn To Gap a b c d = (a ≡ false) × (b ≡ false) × (c ≡ false) × (d ≡ true)
+
+abbrev Found : Result (Unit {0}) Rejection → Bool → Bool → Bool → Bool → Type 0
+Found (Ok x) a b c d = (a ≡ false) × (b ≡ false) × (c ≡ false) × (d ≡ false)
+Found (Err NotADraft) a b c d = ⊥
+Found (Err (Faulty f)) a b c d = FoundIn f.column f.reason a b c d
 
 found_of_judged : (a b c d : Bool) → Found (judged_by a b c d) a b c d
 found_of_judged true b c d = refl
@@ -199,13 +209,16 @@ found_of_judged false false true d = (refl, refl, refl)
 found_of_judged false false false true = (refl, refl, refl, refl)
 found_of_judged false false false false = (refl, refl, refl, refl)
 
-judged_of_found : (j : Judgement) (a b c d : Bool) → Found j a b c d → judged_by a b c d ≡ j
-judged_of_found NotADraft a b c d f = absurd f
-judged_of_found Accepted a b c d (e, f, g, h) = rw (e, f, g, h, judged_by)
-judged_of_found (InFrom Overlap) a b c d e = rw (e, judged_by)
-judged_of_found (InFrom Gap) a b c d (e, f) = rw (e, f, judged_by)
-judged_of_found (InTo Overlap) a b c d (e, f, g) = rw (e, f, g, judged_by)
-judged_of_found (InTo Gap) a b c d (e, f, g, h) = rw (e, f, g, h, judged_by)
+faulty_of_found : (k : Column) (r : Reason) (a b c d : Bool) → FoundIn k r a b c d → judged_by a b c d ≡ faulty k r
+faulty_of_found From Overlap a b c d e = rw (e, judged_by)
+faulty_of_found From Gap a b c d (e, f) = rw (e, f, judged_by)
+faulty_of_found To Overlap a b c d (e, f, g) = rw (e, f, g, judged_by)
+faulty_of_found To Gap a b c d (e, f, g, h) = rw (e, f, g, h, judged_by)
+
+judged_of_found : (j : Result (Unit {0}) Rejection) (a b c d : Bool) → Found j a b c d → judged_by a b c d ≡ j
+judged_of_found (Ok x) a b c d (e, f, g, h) = rw (e, f, g, h, judged_by)
+judged_of_found (Err NotADraft) a b c d f = absurd f
+judged_of_found (Err (Faulty f)) a b c d k = faulty_of_found f.column f.reason a b c d k
 
 module _ (v : Plan) (draft : is_draft v ≡ true) where
   abbrev s : Shape
@@ -225,7 +238,7 @@ module _ (v : Plan) (draft : is_draft v ≡ true) where
   unfolding judged Rattle.higman.specs.Answers.verdict
   judged_by_lem = rw (draft, judged)
 
-  judged_exactly : (j : Judgement) → (judged v ≡ j) ↔ Found j (overlap from) (gap s from) (overlap to) (gap s to)
+  judged_exactly : (j : Result (Unit {0}) Rejection) → (judged v ≡ j) ↔ Found j (overlap from) (gap s from) (overlap to) (gap s to)
   judged_exactly j =
       let found = found_of_judged (overlap from) (gap s from) (overlap to) (gap s to) in (
         λ e. subst (λ x. Found x (overlap from) (gap s from) (overlap to) (gap s to)) (sym judged_by_lem ∙ e) found,
@@ -246,30 +259,30 @@ module _ (v : Plan) (draft : is_draft v ≡ true) where
   to_basis : Basis s to ↔ ((overlap to ≡ false) × (gap s to ≡ false))
   to_basis = basis_exactly to table.to_words
 
-  accepted_bases : judged v ≡ Accepted → Bases s (rows_of v)
+  accepted_bases : judged v ≡ Ok tt → Bases s (rows_of v)
   accepted_bases e =
-      let (a, b, c, d) = (judged_exactly Accepted).0 e in
+      let (a, b, c, d) = (judged_exactly (Ok tt)).0 e in
       record { from_basis = from_basis.1 (a, b); to_basis = to_basis.1 (c, d) }
 
-  bases_accepted : Bases s (rows_of v) → judged v ≡ Accepted
+  bases_accepted : Bases s (rows_of v) → judged v ≡ Ok tt
   bases_accepted k =
       let (a, b) = from_basis.0 k.from_basis in
       let (c, d) = to_basis.0 k.to_basis in
-      (judged_exactly Accepted).1 (a, b, c, d)
+      (judged_exactly (Ok tt)).1 (a, b, c, d)
 
   draft_judged : DraftJudged v
   draft_judged =
       record {
         accepted = (accepted_bases, bases_accepted);
-        from_overlaps = judged_exactly (InFrom Overlap);
-        from_has_gap = judged_exactly (InFrom Gap);
+        from_overlaps = judged_exactly (faulty From Overlap);
+        from_has_gap = judged_exactly (faulty From Gap);
         to_overlaps = (
-          λ e. let (a, b, c) = (judged_exactly (InTo Overlap)).0 e in (from_basis.1 (a, b), c),
-          λ f. let (a, b) = from_basis.0 f.0 in (judged_exactly (InTo Overlap)).1 (a, b, f.1),
+          λ e. let (a, b, c) = (judged_exactly (faulty To Overlap)).0 e in (from_basis.1 (a, b), c),
+          λ f. let (a, b) = from_basis.0 f.0 in (judged_exactly (faulty To Overlap)).1 (a, b, f.1),
         );
         to_has_gap = (
-          λ e. let (a, b, c, d) = (judged_exactly (InTo Gap)).0 e in (from_basis.1 (a, b), c, d),
-          λ f. let (a, b) = from_basis.0 f.0 in (judged_exactly (InTo Gap)).1 (a, b, f.1, f.2),
+          λ e. let (a, b, c, d) = (judged_exactly (faulty To Gap)).0 e in (from_basis.1 (a, b), c, d),
+          λ f. let (a, b) = from_basis.0 f.0 in (judged_exactly (faulty To Gap)).1 (a, b, f.1, f.2),
         );
       }
 
@@ -279,19 +292,19 @@ module _ (v : Plan) (draft : is_draft v ≡ true) where
   draft_kept : Bases s (rows_of v) → DraftKept v reduced
   draft_kept k =
       record {
-        answer = sym (keeping_of v Accepted (packed reduced) (sym (bases_accepted k)) refl);
+        answer = sym (keeping_by v (Ok tt) (sym (bases_accepted k)));
         shape = refl;
         kept = answers_exact.keeps s table.in_range (rows_of v) k table.within;
         sends = normal_form_lem.acts s (arity_of_range s table.in_range) (rows_of v) k;
       }
 
-verdict_beside : (v : Plan) → (keeping v).judgement ≡ judged v
+verdict_beside : (v : Plan) → verdict_in (keeping v) ≡ judged v
 unfolding keeping
-verdict_beside v = refl
+verdict_beside v = verdict_told v (judged v)
 
-none_kept : (v : Plan) → (judged v ≡ Accepted → ⊥) → (keeping v).plan ≡ blank
+none_kept : (v : Plan) → (judged v ≡ Ok tt → ⊥) → (r : Rejection) × (keeping v ≡ Err r)
 unfolding keeping
-none_kept v h = sym (not_kept v (judged v) h)
+none_kept v h = not_kept v (judged v) h
 
 keeping_exact : KeepingExact
 keeping_exact =
@@ -299,7 +312,7 @@ keeping_exact =
       pairs_held = pairs_by_place;
       drafts = λ v f t. (draft_by_place v f t, draft_of_places v f t);
       plan_words = plan_word_exactly;
-      no_draft = λ v h. sym (keeping_of v NotADraft blank (sym (judged_none v h)) refl);
+      no_draft = λ v h. sym (keeping_by v (Err NotADraft) (sym (judged_none v h)));
       judged_draft = draft_judged;
       kept_draft = λ v d k. (reduced v d, draft_kept v d k);
       verdict_beside = verdict_beside;
@@ -343,21 +356,24 @@ module _ (v : Plan) (code : List ℕ) (y : CodeTaken v code) where
     unfolding routed_buffer
     buffer_by = rw (y.plan, routed_buffer) (ap (λ z. image_into z out) e)
 
-  too_short : (out : List ℕ) → ProperBeginning v code → RouteRefused v code out Reply.TooShort
+  too_short : (out : List ℕ) → ProperBeginning v code → RouteRefused v code out 13
   too_short out b =
       let short = short_exactly.1 (b.pair, b.way, b.ways, b.among, b.longer) in
-      record { answer = routing_by_lem out Of.TooShort short; buffer = buffer_by out Of.TooShort short }
+      record { answer = refuses The.CodeTooShort (sym (routing_by_lem out Of.TooShort short)); buffer = buffer_by out Of.TooShort short }
 
   module _ (out : List ℕ) (x : Word) (e : image (rows_of v) (word_of code) ≡ some x) where
     abbrev size : ℕ
     size = length (word_bytes x)
 
-    no_room : length out < length x → RouteRefused v code out (Reply.Refused 14)
+    abbrev in_front : Image
+    in_front = record { length = size; place = place }
+
+    no_room : length out < length x → RouteRefused v code out 14
     no_room h =
         let over : length out < size = omega (arith, length-map x digit_byte) in
         record {
-          answer = routing_by_lem out (Of.Image x) (routed_by (some x) e)
-              ∙ without_room size (length out) (Reply.Image size place) (Reply.Refused buffer_too_short) over;
+          answer = refuses The.BufferTooShort
+              (sym (routing_by_lem out (Of.Image x) (routed_by (some x) e) ∙ without_room size (length out) (Ok in_front) (Err The.BufferTooShort) over));
           buffer = buffer_by out (Of.Image x) (routed_by (some x) e) ∙ lent_as_it_was (word_bytes x) out over;
         }
 
@@ -373,7 +389,7 @@ module _ (v : Plan) (code : List ℕ) (y : CodeTaken v code) where
         let to : RoutesTo v code out (word_bytes x) place =
         record {
           answer = routing_by_lem out (Of.Image x) (routed_by (some x) e)
-              ∙ with_room size (length out) (Reply.Image size place) (Reply.Refused buffer_too_short) room;
+              ∙ with_room size (length out) (Ok in_front) (Err The.BufferTooShort) room;
           front = ap (take size) held ∙ take-append_seam (word_bytes x) (drop size out);
           rest = ap (drop size) held ∙ drop-append_seam (word_bytes x) (drop size out);
         }
@@ -388,8 +404,8 @@ routing_exact : RoutingExact
 routing_exact =
     record {
       codes = code_exactly;
-      no_plan_lem = λ v code out h. let r = routing_no_plan v code out h in record { answer = sym r.0; buffer = sym r.1 };
-      no_code = λ v code out h k. let r = routing_no_code v code h out k in record { answer = sym r.0; buffer = sym r.1 };
+      no_plan_lem = λ v code out h. let r = routing_no_plan v code out h in record { answer = refuses The.InvalidValue r.0; buffer = sym r.1 };
+      no_code = λ v code out h k. let r = routing_no_code v code h out k in record { answer = refuses The.BadWord r.0; buffer = sym r.1 };
       image_or_short = image_or_short;
       too_short = λ v code out y. too_short v code y out;
       no_room = λ v code out x y. no_room v code y out x;
@@ -483,19 +499,19 @@ matching_exact =
     }
 
 module _ (v w : Plan) where
-  follow_second : is_plan w ≡ false → following v w ≡ refusing 15
+  follow_second : is_plan w ≡ false → Refuses (following v w) 15
   follow_second k = by_first (passes (is_plan v))
     where
-      by_first : (is_plan v ≡ true) ⊎ (is_plan v ≡ false) → following v w ≡ refusing 15
-      by_first (inl h) = sym (second_no_plan v w h k)
-      by_first (inr h) = sym (first_no_plan v w h)
+      by_first : (is_plan v ≡ true) ⊎ (is_plan v ≡ false) → Refuses (following v w) 15
+      by_first (inl h) = refuses The.InvalidValue (second_no_plan v w h k)
+      by_first (inr h) = refuses The.InvalidValue (first_no_plan v w h)
 
-  alike_second : is_plan w ≡ false → alike v w ≡ Like.Refused 15
+  alike_second : is_plan w ≡ false → Refuses (alike v w) 15
   alike_second k = by_first (passes (is_plan v))
     where
-      by_first : (is_plan v ≡ true) ⊎ (is_plan v ≡ false) → alike v w ≡ Like.Refused 15
-      by_first (inl h) = sym (second_not_alike v w h k)
-      by_first (inr h) = sym (first_not_alike v w h)
+      by_first : (is_plan v ≡ true) ⊎ (is_plan v ≡ false) → Refuses (alike v w) 15
+      by_first (inl h) = refuses The.InvalidValue (second_not_alike v w h k)
+      by_first (inr h) = refuses The.InvalidValue (first_not_alike v w h)
 
   shape_test : TwoShapes v w → Of.same_shape (shape_of v) (shape_of w) ≡ false
   shape_test d = by_test (passes (Of.same_shape (shape_of v) (shape_of w)))
@@ -505,28 +521,32 @@ module _ (v w : Plan) where
       by_test (inl t) = absurd (d.differ (shape_path (shape_of v) (shape_of w) (T_of t)))
       by_test (inr f) = f
 
-  follow_shapes : TwoShapes v w → following v w ≡ refusing 10
-  follow_shapes d = sym (shapes_differ_lem v w (shape_test d) ∙ both_plans v w d.first d.second)
+  follow_shapes : TwoShapes v w → Refuses (following v w) 10
+  follow_shapes d = refuses The.ShapesDiffer (shapes_differ v w (shape_test d) ∙ both_plans v w d.first d.second)
 
-  alike_shapes : TwoShapes v w → alike v w ≡ Like.Refused 10
-  alike_shapes d = sym (not_compared (plan_of v) (plan_of w) (shape_test d) ∙ both_compared v w d.first d.second)
+  alike_shapes : TwoShapes v w → Refuses (alike v w) 10
+  alike_shapes d = refuses The.ShapesDiffer (not_compared v w (shape_test d) ∙ both_compared v w d.first d.second)
 
-  follow_limit : FollowBreaks v w → following v w ≡ refusing 11
+  follow_limit : FollowBreaks v w → Refuses (following v w) 11
   follow_limit b =
-      sym (both_plans v w b.first b.second)
-      ∙ ap making (followed_is (plan_of v) (plan_of w) b.one_shape ∙ not_granted)
+      refuses The.LimitBroken
+      (sym (ap making (followed_is (plan_of v) (plan_of w) b.one_shape ∙ not_granted)) ∙ both_plans v w b.first b.second)
     where
       not_granted : Of.grant (shape_of v) (compose (shape_of v) (rows_of v) (rows_of w)) ≡ Of.Refused Of.LimitBroken
       not_granted = rw (b.broken, Of.grant)
 
-power_breaks : (v : Plan) (k : ℤ) → PowerBreaks v k → raising v k ≡ refusing 11
+power_limit : max_power ≡ 1_000
+unfolding max_power
+power_limit = refl
+
+power_breaks : (v : Plan) (k : ℤ) → PowerBreaks v k → Refuses (raising v k) 11
 power_breaks v k b =
     let inside = subst (λ n. T (leb (nat_abs k) n)) (sym power_limit) (le→leb (nat_abs k) 1_000 b.size) in
-    raising_plan v b.plan k
-    ∙ ap making ((answers_exact.power_refused (plan_of v) k).1 (inside, (b.power, b.from_one, b.to_size, b.broken)))
+    refuses The.LimitBroken
+    (sym (raising_plan v b.plan k ∙ ap making ((answers_exact.power_refused (plan_of v) k).1 (inside, (b.power, b.from_one, b.to_size, b.broken)))))
 
-power_outside_lem : (v : Plan) (k : ℤ) → is_plan v ≡ true → 1_000 < nat_abs k → raising v k ≡ refusing 12
-power_outside_lem v k h l = sym (raising_outside v h k (subst (λ n. n < nat_abs k) (sym power_limit) l))
+power_outside_lem : (v : Plan) (k : ℤ) → is_plan v ≡ true → 1_000 < nat_abs k → Refuses (raising v k) 12
+power_outside_lem v k h l = refuses The.PowerOutside (raising_outside v h k (subst (λ n. n < nat_abs k) (sym power_limit) l))
 
 outside_no_slot : (slot : ℕ) → (slot < byte "A") ⊎ (byte "H" < slot) → is_slot slot ≡ false
 outside_no_slot slot (inl h) = sym (slot_low slot h)
@@ -540,28 +560,28 @@ inside_slot slot h k = sym (slot_high slot h) ∙ le-leb slot (byte "H") k
 
 module _ (v : Plan) (slot : ℕ) (out : List ℕ) where
   no_listing : is_plan v ≡ false → ListRefused v slot out 15
-  no_listing h = let r = listing_no_plan v slot out h in record { answer = sym r.0; buffer = sym r.1 }
+  no_listing h = let r = listing_no_plan v slot out h in record { answer = refuses The.InvalidValue r.0; buffer = sym r.1 }
 
   slot_outside_lem : is_plan v ≡ true → (slot < byte "A") ⊎ (byte "H" < slot) → ListRefused v slot out 8
-  slot_outside_lem h o = let r = listing_no_slot v slot out h (outside_no_slot slot o) in record { answer = sym r.0; buffer = sym r.1 }
+  slot_outside_lem h o = let r = listing_no_slot v slot out h (outside_no_slot slot o) in record { answer = refuses The.SlotOutside r.0; buffer = sym r.1 }
 
   no_room_listed : is_plan v ≡ true → byte "A" ≤ slot → slot ≤ byte "H" → length out < length (lines_of slot (plan_of v))
       → ListRefused v slot out 14
   no_room_listed h low high l =
-      let r = listing_no_room v slot out h (inside_slot slot low high) l in record { answer = sym r.0; buffer = sym r.1 }
+      let r = listing_no_room v slot out h (inside_slot slot low high) l in record { answer = refuses The.BufferTooShort r.0; buffer = sym r.1 }
 
 answers_numbered : AnswersNumbered
 answers_numbered =
     record {
-      granted = refl;
-      refused = λ n. refl;
-      compared = λ b. (refl, refl);
-      not_compared = λ n. refl;
-      listed = λ n. (refl, refl);
-      not_listed = λ n. refl;
-      routed = λ n k. (refl, refl, refl);
-      too_short = (refl, refl);
-      not_routed = λ n. (refl, refl);
+      granted = λ p. refl;
+      refused = λ r. refl;
+      compared = λ b. refl;
+      not_compared = λ r. refl;
+      listed = λ n. refl;
+      not_listed = λ r. refl;
+      routed = λ i. refl;
+      not_routed = λ r. refl;
+      numbers = refl;
       verdicts = refl;
       verdict_columns = refl;
     }
@@ -569,11 +589,11 @@ answers_numbered =
 numbers_exact : NumbersExact
 numbers_exact =
     record {
-      follow_first = λ v w h. sym (first_no_plan v w h);
+      follow_first = λ v w h. refuses The.InvalidValue (first_no_plan v w h);
       follow_second = follow_second;
-      no_inverse = λ v h. sym (inverting_no_plan v h);
-      no_power = λ v k h. sym (raising_no_plan v k h);
-      alike_first = λ v w h. sym (first_not_alike v w h);
+      no_inverse = λ v h. refuses The.InvalidValue (inverting_no_plan v h);
+      no_power = λ v k h. refuses The.InvalidValue (raising_no_plan v k h);
+      alike_first = λ v w h. refuses The.InvalidValue (first_not_alike v w h);
       alike_second = alike_second;
       no_listing = no_listing;
       follow_shapes = follow_shapes;

@@ -1,7 +1,7 @@
 -- Drafts by what they mean: the parts of the test `is_draft` as the code makes them, that they say the same as the test, and the
 -- judgement by the test.
 use Prim.Native.Nat.{ℕ, ◌≤◌}
-use mathlib.Core.Path.{◌≡◌, sym, subst}
+use mathlib.Core.Path.{◌≡◌, sym, ◌∙◌, ap, subst}
 use mathlib.Core.Bool.{Bool, true, false, ◌&&◌}
 use mathlib.Core.List.Memᴰ
 use mathlib.Core.List.{List, map, Memᴰ}
@@ -13,14 +13,16 @@ use Rattle.higman.specs.Bases.{all}
 use Rattle.higman.specs.Tables.{Pair, Table, froms, tos}
 use Rattle.higman.specs.Limits.{shape_in_range, granted, max_pairs, fits, pair_fits, is_plan_word}
 use Rattle.higman.specs.Answers as Of
-use Rattle.higman.proofs.Tests.{same_test, and_left, and_right, and_intro, all_at, all_of}
+use Rattle.higman.proofs.Tests.{T_of, same_test, and_left, and_right, and_intro, all_at, all_of}
 use Rattle.higman.proofs.Statements.{TableOf, table_of, test_table}
 use Rattle.operations.specs.declared.Plan.{Plan}
-use Rattle.plans.specs.declared.Judgement.TheVariants.{NotADraft}
+use Rattle.operations.specs.declared.Fault.{Fault}
+use Rattle.std.proofs.Common.{Result, Err}
+use Rattle.plans.specs.declared.Rejection.TheVariants.{NotADraft}
 use Rattle.columns.specs.Packed.{words_of}
 use Rattle.operations.specs.Plans.{shape_of, rows_of, zeros, is_column, in_table, is_draft}
-use Rattle.operations.specs.Closing.{DraftColumns}
-use Rattle.plans.specs.Answers.{judgement_of, judged}
+use Rattle.operations.specs.Closing.{DraftColumns, verdict_of}
+use Rattle.plans.specs.Answers.{judgement_by, judgement_of, judged}
 use Rattle.columns.proofs.Rows.{table_length}
 use Rattle.operations.proofs.Verdicts.{words_of_plan, paired, froms_rows, tos_rows}
 
@@ -124,7 +126,7 @@ module _ (p : Plan) (even : length p.from ≡ length p.to) where
       }))
 
 -- the columns of a draft, as closing asks for them
-pub draft_columns : (p : Plan) → Draft p → DraftColumns (shape_of p) p.pairs p.from p.to
+pub draft_columns : (p : Plan) → Draft p → DraftColumns p
 draft_columns p d =
     let words : List ℕ → Bool = λ column. all (is_plan_word (shape_of p)) (words_of (take p.pairs column)) in
     record {
@@ -135,10 +137,18 @@ draft_columns p d =
     }
 
 -- the judgement, by the test
-pub judged_none : (p : Plan) → is_draft p ≡ false → judged p ≡ NotADraft
+pub judged_none : (p : Plan) → is_draft p ≡ false → judged p ≡ Err NotADraft
 unfolding judged
 judged_none p e = rw (e, judged)
 
 pub judged_draft : (p : Plan) → is_draft p ≡ true → judged p ≡ judgement_of (Of.verdict (shape_of p) (rows_of p))
 unfolding judged
 judged_draft p e = rw (e, judged)
+
+-- a draft is judged as its columns are
+pub judged_as : (p : Plan) (r : Result (Unit {0}) Fault) → is_draft p ≡ true → r ≡ verdict_of (Of.verdict (shape_of p) (rows_of p)) → judgement_by r ≡ judged p
+judged_as p r d e = ap judgement_by e ∙ sym (judged_draft p d)
+
+-- what closing asks for, by the test
+pub draft_closes : (p : Plan) → length p.from ≡ length p.to → is_draft p ≡ true → DraftColumns p
+draft_closes p even e = draft_columns p (draft_of_lem p even (T_of e))

@@ -25,6 +25,7 @@ use Rattle.words.proofs.Sizes.{below_of_length}
 use Rattle.tables.specs.Spreading.{packed_words}
 use Rattle.tables.proofs.Lookup.{packed_at}
 use Rattle.operations.specs.declared.Plan.{Plan}
+use Rattle.operations.specs.declared.lent.Lent.{Lent}
 use Rattle.operations.specs.Plans.{plan_of, pair_at, zeros, in_table, is_plan, column, packed}
 use Rattle.operations.specs.Filled.{filling}
 use Rattle.plans.specs.Theorems.{WordsPack, Handed, ValuesHold}
@@ -33,7 +34,7 @@ use Rattle.operations.proofs.Sizes.{from_long, to_long}
 use Rattle.operations.proofs.Values.{pairs_by_place}
 use Rattle.operations.proofs.Filled.{filled_packed}
 use Rattle.columns.proofs.Limits.{pair_limit}
-use Rattle.operations.proofs.KeptValues.{kept_plan, pairs_few, kept, plain}
+use Rattle.operations.proofs.KeptValues.{kept_plan, pairs_few, kept, is_kept_plan, lent_plain}
 use Rattle.operations.proofs.Repacked.{holds, packed_is_plan}
 
 -- a number that holds a word of at most maxDigits digits has 64 bits
@@ -126,9 +127,20 @@ module _ (v : Plan) (h : Handed v) where
   unused_zero : (i : ℕ) → v.pairs ≤ i → (get_or v.from i 0 ≡ 0) × (get_or v.to i 0 ≡ 0)
   unused_zero i l = (zero_behind v.pairs v.from columns_zero.0 i l, zero_behind v.pairs v.to columns_zero.1 i l)
 
+  -- the pairs as they are lent
+  abbrev lent : Lent
+  lent =
+      record {
+        shape = record { arity = v.arity; roots = v.roots };
+        from = record { ref_ptr = (0, 0); now = take v.pairs v.from };
+        to = record { ref_ptr = (0, 0); now = take v.pairs v.to };
+        paired = length-take-le v.pairs v.from from_room ∙ sym (length-take-le v.pairs v.to to_room);
+        kept = is_kept_plan v h.taken;
+      }
+
   in_64_bits : (i : ℕ) → (get_or v.from i 0 < 2 ^ 64) × (get_or v.to i 0 < 2 ^ 64)
   in_64_bits i =
-      let words = plain v h.taken from_room to_room in (
+      let words = lent_plain lent in (
         number_below v.pairs v.from columns_zero.0 from_room words.from_packed i,
         number_below v.pairs v.to columns_zero.1 to_room words.to_packed i,
       )

@@ -1,12 +1,13 @@
 -- The statements about values, gathered: `library_exact`. Handed.antt ties a value to its plan and ValueLaws.antt has the laws; here
 -- is what L writes, which is the listing of the plan and so determines the value.
 use Prim.Native.Nat.{ℕ, ◌+◌, ◌≤◌}
-use mathlib.Core.Path.{◌≡◌, sym, ◌∙◌, ap, subst}
+use mathlib.Core.Path.{◌≡◌, sym, ◌∙◌, ap}
 use mathlib.Core.Logic.{◌⊎◌, inl, inr}
 use mathlib.Core.Bool.{true, false}
 use mathlib.Core.List.{List, ◌++◌}
 use native.Mathlib.Omega.{arith}
 use borrow.Author.Tests.{leb-true, leb-false}
+use Rattle.std.proofs.Common.{Result, Ok, Err}
 use lib.Dec.{leb}
 use lib.ListN.{length, take, drop}
 use lib.Seq.{take-append_seam, drop-append_seam}
@@ -15,8 +16,7 @@ use Rattle.higman.proofs.Tests.{passes}
 use Rattle.higman.proofs.Listing.{listing_faithful}
 use Rattle.higman.specs.Buffers.{written}
 use Rattle.operations.specs.declared.Plan.{Plan}
-use Rattle.operations.specs.declared.Listed.{Listed}
-use Rattle.operations.specs.declared.Listed.TheVariants.{Bytes, Refused}
+use Rattle.operations.specs.declared.refusals.Refusal.{Refusal}
 use Rattle.operations.specs.Plans.{plan_of, packed}
 use Rattle.plans.specs.Listing.{listing_answer, listed_buffer}
 use Rattle.plans.specs.Theorems.{Handed, Lists, ListingsExact, LibraryExact}
@@ -26,12 +26,8 @@ use Rattle.plans.proofs.Made.{values_granted, values_act}
 use Rattle.plans.proofs.ValueLaws.{value_demand3}
 use Rattle.plans.proofs.CallsExact.{calls_exact}
 
-abbrev IsBytes : Listed → Type 0
-IsBytes (Bytes n) = Unit {0}
-IsBytes (Refused n) = ⊥
-
-not_listed : {n m : ℕ} → Refused n ≡ Bytes m → ⊥
-not_listed e = subst IsBytes (sym e) tt
+not_listed : {e : Refusal} {n : ℕ} → ◌≡◌ {A = Result ℕ Refusal} (Err e) (Ok n) → ⊥
+not_listed e = cc
 
 module _ (v : Plan) (slot : ℕ) (out : List ℕ) (h : Handed v) where
   abbrev lines : List ℕ
@@ -42,7 +38,7 @@ module _ (v : Plan) (slot : ℕ) (out : List ℕ) (h : Handed v) where
     written_in_front : lines ++ drop (length lines) out ≡ written out 0 lines
     written_in_front = let start : length lines ≡ 0 + length lines = omega arith in ap (λ n. lines ++ drop n out) start
 
-    answers : (Bytes (length lines) ≡ listing_answer v slot (length out)) × (lines ++ drop (length lines) out ≡ listed_buffer v slot out)
+    answers : (Ok (length lines) ≡ listing_answer v slot (length out)) × (lines ++ drop (length lines) out ≡ listed_buffer v slot out)
     answers =
         listing_written v slot out h.taken k room (length lines) (lines ++ drop (length lines) out)
         (record { place = omega arith; contents = written_in_front })

@@ -3,6 +3,7 @@
 use mathlib.Core.Path.{◌≡◌, sym, ◌∙◌, ap, subst}
 use mathlib.Core.Logic.{◌↔◌, ◌⊎◌, inl, inr}
 use mathlib.Core.Bool.{Bool, true, false}
+use Rattle.std.proofs.Common.{Result, Ok}
 use lib.Dec.{T}
 use lib.IntN.{ℤ, pos, negsuc, ◌+ℤ◌, ◌*ℤ◌}
 use Rattle.higman.specs.Tables.{same_table}
@@ -13,13 +14,12 @@ use Rattle.higman.proofs.Tests.{passes, so, T_of, clash, same_table_lem, same_ta
 use Rattle.higman.proofs.Demand3.{demand3, alike_rows}
 use Rattle.higman.proofs.Listing.{listing_faithful}
 use Rattle.operations.specs.declared.Plan.{Plan}
-use Rattle.operations.specs.declared.Likeness.TheVariants.{Alike}
+use Rattle.operations.specs.declared.refusals.Refusal.{Refusal}
 use Rattle.operations.specs.Plans.{shape_of, plan_of, packed}
-use Rattle.operations.specs.Answers.{making, granting, likeness_value}
+use Rattle.operations.specs.Answers.{making}
 use Rattle.plans.specs.Answers.{following, inverting, raising, alike}
 use Rattle.plans.specs.Theorems.{Handed, Compared, identity_of, ValueDemand3}
-use Rattle.operations.proofs.Compared.{rows_compared}
-use Rattle.plans.proofs.Answered.{both_compared}
+use Rattle.plans.proofs.Answered.{both_compared, rows_compared}
 use Rattle.operations.proofs.Repacked.{holds}
 use Rattle.plans.proofs.Powered.{raising_plan}
 use Rattle.plans.proofs.Handed.{packed_handed, held_packed}
@@ -27,10 +27,10 @@ use Rattle.plans.proofs.Made.{Made, granting_of, plan_kept, inverting_is, invers
 
 -- two values one after the other, where their plans are granted
 follows : (v w u : Plan) → Handed v → Handed w → Handed u → Of.followed (plan_of v) (plan_of w) ≡ Of.Granted (plan_of u)
-    → following v w ≡ granting u
+    → following v w ≡ Ok u
 follows v w u h k l e = following_is v w h k ∙ granting_of (Of.followed (plan_of v) (plan_of w)) u l e
 
-associative : (v w u vw wu : Plan) → Handed v → Handed w → Handed u → following v w ≡ granting vw → following w u ≡ granting wu
+associative : (v w u vw wu : Plan) → Handed v → Handed w → Handed u → following v w ≡ Ok vw → following w u ≡ Ok wu
     → following vw u ≡ following v wu
 associative v w u vw wu h k l e f =
     let left = follow_made v w h k vw e in
@@ -52,20 +52,20 @@ module _ (v : Plan) (h : Handed v) where
   identity_held : plan_of (identity_of v) ≡ Of.identity_plan (shape_of v)
   identity_held = holds (Of.identity_plan (shape_of v)) identity_kept
 
-  power_zero : raising v (pos 0) ≡ granting (identity_of v)
+  power_zero : raising v (pos 0) ≡ Ok (identity_of v)
   power_zero = raising_plan v h.taken (pos 0) ∙ ap making (demand3.power_zero (plan_of v))
 
-  identity_left : following (identity_of v) v ≡ granting v
+  identity_left : following (identity_of v) v ≡ Ok v
   identity_left =
       follows (identity_of v) v v identity_handed h h
       (ap (λ p. Of.followed p (plan_of v)) identity_held ∙ demand3.identity_left (plan_of v) (plan_kept v h))
 
-  identity_right : following v (identity_of v) ≡ granting v
+  identity_right : following v (identity_of v) ≡ Ok v
   identity_right =
       follows v (identity_of v) v h identity_handed h
       (ap (Of.followed (plan_of v)) identity_held ∙ demand3.identity_right (plan_of v) (plan_kept v h))
 
-  power_one : raising v (pos 1) ≡ granting v
+  power_one : raising v (pos 1) ≡ Ok v
   power_one =
       raising_plan v h.taken (pos 1)
       ∙ granting_of (Of.powered (plan_of v) (pos 1)) v h (demand3.power_one (plan_of v) (plan_kept v h))
@@ -76,18 +76,18 @@ module _ (v : Plan) (h : Handed v) where
       ∙ ap making (demand3.power_minus_one (plan_of v) (plan_kept v h))
       ∙ sym (inverting_is v h)
 
-  module _ (u : Plan) (e : inverting v ≡ granting u) where
+  module _ (u : Plan) (e : inverting v ≡ Ok u) where
     abbrev i : Made (Of.inverted (plan_of v)) u
     i = inverse_made v h u e
 
-    inverse_left : following u v ≡ granting (identity_of v)
+    inverse_left : following u v ≡ Ok (identity_of v)
     inverse_left = following_is u v i.handed h ∙ ap making (demand3.inverse_left (plan_of v) (plan_of u) (plan_kept v h) i.grants)
 
-    inverse_right : following v u ≡ granting (identity_of v)
+    inverse_right : following v u ≡ Ok (identity_of v)
     inverse_right = following_is v u h i.handed ∙ ap making (demand3.inverse_right (plan_of v) (plan_of u) (plan_kept v h) i.grants)
 
-  power_sum : (p q u : Plan) (j k : ℤ) → raising v j ≡ granting p → raising v k ≡ granting q → raising v (j +ℤ k) ≡ granting u
-      → following p q ≡ granting u
+  power_sum : (p q u : Plan) (j k : ℤ) → raising v j ≡ Ok p → raising v k ≡ Ok q → raising v (j +ℤ k) ≡ Ok u
+      → following p q ≡ Ok u
   power_sum p q u j k e f g =
       let P = power_made v h j p e in
       let Q = power_made v h k q f in
@@ -95,7 +95,7 @@ module _ (v : Plan) (h : Handed v) where
       follows p q u P.handed Q.handed U.handed
       (demand3.power_sum (plan_of v) (plan_of p) (plan_of q) (plan_of u) j k (plan_kept v h) P.grants Q.grants U.grants)
 
-  power_product : (p q u : Plan) (j k : ℤ) → raising v j ≡ granting p → raising p k ≡ granting q → raising v (j *ℤ k) ≡ granting u → q ≡ u
+  power_product : (p q u : Plan) (j k : ℤ) → raising v j ≡ Ok p → raising p k ≡ Ok q → raising v (j *ℤ k) ≡ Ok u → q ≡ u
   power_product p q u j k e f g =
       let P = power_made v h j p e in
       let Q = power_made p P.handed k q f in
@@ -105,18 +105,21 @@ module _ (v : Plan) (h : Handed v) where
       ∙ ap packed (law (plan_kept v h) P.grants Q.grants U.grants)
       ∙ held_packed u U.handed
 
+injects : {a b : Bool} → ◌≡◌ {A = Result Bool Refusal} (Ok a) (Ok b) → a ≡ b
+injects e = cc
+
 -- S compares the pairs, which are the same where the records, the actions or the values are
 module _ (v w : Plan) (h : Handed v) (k : Handed w) (e : shape_of v ≡ shape_of w) where
   abbrev test : Bool
   test = same_table (plan_of v).rows (plan_of w).rows
 
-  alike_is : alike v w ≡ Alike test
-  alike_is = sym (rows_compared (plan_of v) (plan_of w) e ∙ both_compared v w h.taken k.taken)
+  alike_is : alike v w ≡ Ok test
+  alike_is = sym (rows_compared v w e ∙ both_compared v w h.taken k.taken)
 
-  says : (b : Bool) → (alike v w ≡ Alike b) ↔ (test ≡ b)
-  says b = (λ a. ap likeness_value (sym alike_is ∙ a), λ t. alike_is ∙ ap Alike t)
+  says : (b : Bool) → (alike v w ≡ Ok b) ↔ (test ≡ b)
+  says b = (λ a. injects (sym alike_is ∙ a), λ t. alike_is ∙ ap Ok t)
 
-  same_rows : (alike v w ≡ Alike true) ↔ ((plan_of v).rows ≡ (plan_of w).rows)
+  same_rows : (alike v w ≡ Ok true) ↔ ((plan_of v).rows ≡ (plan_of w).rows)
   same_rows = (
     λ a. same_table_lem (plan_of v).rows (plan_of w).rows (T_of ((says true).0 a)),
     λ r. (says true).1 (so test (subst (λ t. T (same_table (plan_of v).rows t)) r (same_table_refl (plan_of v).rows))),
@@ -138,7 +141,7 @@ module _ (v w : Plan) (h : Handed v) (k : Handed w) (e : shape_of v ≡ shape_of
         otherwise = (λ a b. clash ((says true).0 (same_rows.1 (acts_alike.1 b))) ((says false).0 a), λ n. differ n (passes test));
       }
     where
-      differ : (ActAlike (plan_of v) (plan_of w) → ⊥) → (test ≡ true) ⊎ (test ≡ false) → alike v w ≡ Alike false
+      differ : (ActAlike (plan_of v) (plan_of w) → ⊥) → (test ≡ true) ⊎ (test ≡ false) → alike v w ≡ Ok false
       differ n (inl t) = absurd (n (acts_alike.0 (same_rows.0 ((says true).1 t))))
       differ n (inr t) = (says false).1 t
 

@@ -1,7 +1,7 @@
 -- What keeping, routing and matching answer, and the number of every refusal as document 01 writes it. A contract is an equality with a
 -- definition, and both could be wrong alike; these statements tie the definitions to the columns of a draft, to the pairs of a plan and
 -- to the paper's figures. `CallsExact` gathers them. Read Theorems.antt next.
-use Rattle.std.specs.Prelude.{ℕ, ◌≤◌, ◌<◌, ◌≡◌, refl, ◌⊎◌, ◌↔◌, Bool, true, false, T, length, get_or, take, drop, ℤ, nat_abs}
+use Rattle.std.specs.Prelude.{ℕ, ◌≤◌, ◌<◌, ◌≡◌, refl, ◌⊎◌, ◌↔◌, Bool, true, false, T, length, get_or, take, drop, ℤ, nat_abs, Result, Ok, Err}
 use mathlib.Core.List.{List, [], ◌∷◌, ◌++◌, map, Memᴰ}
 use Rattle.std.proofs.Math.Option.{some}
 use Rattle.higman.specs.Words.{Shape, Word, count, is_word, begins, spell}
@@ -16,22 +16,20 @@ use Rattle.higman.specs.Listing.{listing as lines_of}
 use Rattle.words.specs.Packed.{pack_on, pack, unpack_in, unpack}
 use Rattle.tables.specs.Routing.{matched_digits}
 use Rattle.operations.specs.declared.Plan.{Plan}
+use Rattle.operations.specs.declared.Column.TheVariants.{From, To}
 use Rattle.operations.specs.declared.Reason.TheVariants.{Overlap, Gap}
-use Rattle.plans.specs.declared.Judgement.TheVariants.{NotADraft, Accepted, InFrom, InTo}
-use Rattle.operations.specs.declared.Answer.TheVariants as Made
-use Rattle.operations.specs.declared.Likeness.TheVariants as Like
-use Rattle.operations.specs.declared.Listed.TheVariants as Listed
-use Rattle.operations.specs.declared.Route.{Route}
-use Rattle.operations.specs.declared.Route.TheVariants as Reply
-use Rattle.operations.specs.Plans.{shape_of, rows_of, plan_of, in_table, is_draft, is_plan, packed, blank}
-use Rattle.plans.specs.Answers.{judged, keeping, following, inverting, raising, alike}
-use Rattle.operations.specs.Answers.{refusing, value21}
-use Rattle.plans.specs.Answers.{judgement_number, judgement_column}
-use Rattle.operations.specs.Answers.{answer_number, likeness_number, likeness_value}
+use Rattle.tables.specs.declared.routing.Image.{Image}
+use Rattle.operations.specs.declared.refusals.Refusal.{Refusal}
+use Rattle.operations.specs.declared.refusals.Refusal.TheVariants as The
+use Rattle.operations.specs.Refusals.{number_of, answer_number}
+use Rattle.plans.specs.declared.Rejection.{Rejection}
+use Rattle.plans.specs.declared.Rejection.TheVariants.{NotADraft}
+use Rattle.operations.specs.Plans.{shape_of, rows_of, plan_of, in_table, is_draft, is_plan, packed}
+use Rattle.plans.specs.Answers.{faulty, judged, keeping, following, inverting, raising, alike}
+use Rattle.operations.specs.Answers.{value21}
+use Rattle.plans.specs.Answers.{verdict_in, judgement_number, judgement_column}
 use Rattle.plans.specs.Routing.{matched, matching, matched_place, routing, routed_buffer}
-use Rattle.operations.specs.Routing.{routing_number, routing_length, routing_place}
 use Rattle.plans.specs.Listing.{listing_answer, listed_buffer}
-use Rattle.operations.specs.Listing.{listed_number, listed_length}
 
 -- A column of a draft: at the first n places words that M takes, not one "that is empty, too long or has a wrong digit", and "its unused
 -- places zero".
@@ -61,16 +59,16 @@ to_column v = tos (rows_of v)
 -- "two checks, both made of the from column and after that both of the to column: 6, one word begins or equals another; 7, a belt isn't
 -- covered": which answer a draft gets. It is one of these five.
 pub record DraftJudged (v : Plan) : Type 0 where
-  pub accepted : (judged v ≡ Accepted) ↔ Bases (shape_of v) (rows_of v)
-  pub from_overlaps : (judged v ≡ InFrom Overlap) ↔ (overlap (from_column v) ≡ true)
-  pub from_has_gap : (judged v ≡ InFrom Gap) ↔ ((overlap (from_column v) ≡ false) × (gap (shape_of v) (from_column v) ≡ true))
-  pub to_overlaps : (judged v ≡ InTo Overlap) ↔ (Basis (shape_of v) (from_column v) × (overlap (to_column v) ≡ true))
-  pub to_has_gap : (judged v ≡ InTo Gap)
+  pub accepted : (judged v ≡ Ok tt) ↔ Bases (shape_of v) (rows_of v)
+  pub from_overlaps : (judged v ≡ faulty From Overlap) ↔ (overlap (from_column v) ≡ true)
+  pub from_has_gap : (judged v ≡ faulty From Gap) ↔ ((overlap (from_column v) ≡ false) × (gap (shape_of v) (from_column v) ≡ true))
+  pub to_overlaps : (judged v ≡ faulty To Overlap) ↔ (Basis (shape_of v) (from_column v) × (overlap (to_column v) ≡ true))
+  pub to_has_gap : (judged v ≡ faulty To Gap)
       ↔ (Basis (shape_of v) (from_column v) × (overlap (to_column v) ≡ false) × (gap (shape_of v) (to_column v) ≡ true))
 
 -- "E closes: reduce and keep": the value of a kept plan that sends each code where the pairs of the draft do.
 pub record DraftKept (v : Plan) (p : PlanOf) : Type 0 where
-  pub answer : keeping v ≡ record { judgement = Accepted; plan = packed p }
+  pub answer : keeping v ≡ Ok (packed p)
   pub shape : p.shape ≡ shape_of v
   pub kept : Kept p
   pub sends : (c x : Word) → T (is_word (shape_of v) c) → image (rows_of v) c ≡ some x → image p.rows c ≡ some x
@@ -84,23 +82,29 @@ pub record KeepingExact : Type 0 where
   pub drafts : (v : Plan) → length v.from ≡ max_pairs → length v.to ≡ max_pairs → (is_draft v ≡ true) ↔ DraftByPlace v
   -- "A word in a plan has at most 16 digits"
   pub plan_words : (s : Shape) (w : Word) → T (is_plan_word s w) ↔ (T (is_word s w) × (length w ≤ 16))
-  pub no_draft : (v : Plan) → is_draft v ≡ false → keeping v ≡ record { judgement = NotADraft; plan = blank }
+  pub no_draft : (v : Plan) → is_draft v ≡ false → keeping v ≡ Err NotADraft
   pub judged_draft : (v : Plan) → is_draft v ≡ true → DraftJudged v
   pub kept_draft : (v : Plan) → is_draft v ≡ true → Bases (shape_of v) (rows_of v) → (p : PlanOf) × DraftKept v p
-  -- the judgement beside a plan is the verdict, and what is not accepted is not kept
-  pub verdict_beside : (v : Plan) → (keeping v).judgement ≡ judged v
-  pub none_kept : (v : Plan) → (judged v ≡ Accepted → ⊥) → (keeping v).plan ≡ blank
+  -- what is kept or refused is so by the verdict, and what is not accepted is not kept
+  pub verdict_beside : (v : Plan) → verdict_in (keeping v) ≡ judged v
+  pub none_kept : (v : Plan) → (judged v ≡ Ok tt → ⊥) → (r : Rejection) × (keeping v ≡ Err r)
+
+-- a refusal "is `no⇥` and its number"
+pub record Refuses {A : Type 0} (answer : Result A Refusal) (number : ℕ) : Type 0 where
+  pub refusal : Refusal
+  pub refused : answer ≡ Err refusal
+  pub numbered : number_of refusal ≡ number
 
 -- W replies with the number of these bytes and this place, and writes the bytes at the front of the buffer: "On success only the bytes of
 -- the output change".
 pub record RoutesTo (v : Plan) (code out output : List ℕ) (k : ℕ) : Type 0 where
-  pub answer : routing v code (length out) ≡ Reply.Image (length output) k
+  pub answer : routing v code (length out) ≡ Ok (record { length = length output; place = k })
   pub front : take (length output) (routed_buffer v code out) ≡ output
   pub rest : drop (length output) (routed_buffer v code out) ≡ drop (length output) out
 
--- another reply, and "a lent buffer then holds what it held before"
-pub record RouteRefused (v : Plan) (code out : List ℕ) (reply : Route) : Type 0 where
-  pub answer : routing v code (length out) ≡ reply
+-- a refusal, and "a lent buffer then holds what it held before"
+pub record RouteRefused (v : Plan) (code out : List ℕ) (number : ℕ) : Type 0 where
+  pub answer : Refuses (routing v code (length out)) number
   pub buffer : routed_buffer v code out ≡ out
 
 -- "the code is a proper beginning of a from-word"
@@ -120,15 +124,15 @@ pub record CodeTaken (v : Plan) (code : List ℕ) : Type 0 where
 pub record RoutingExact : Type 0 where
   -- "A routed code has at most 1,024", and is "a belt from 1 to r, then ways from 1 to n"
   pub codes : (s : Shape) (w : Word) → T (is_code s w) ↔ (T (is_word s w) × (length w ≤ 1_024))
-  pub no_plan_lem : (v : Plan) (code out : List ℕ) → is_plan v ≡ false → RouteRefused v code out (Reply.Refused 15)
+  pub no_plan_lem : (v : Plan) (code out : List ℕ) → is_plan v ≡ false → RouteRefused v code out 15
   pub no_code : (v : Plan) (code out : List ℕ) → is_plan v ≡ true → is_code (shape_of v) (word_of code) ≡ false
-      → RouteRefused v code out (Reply.Refused 4)
+      → RouteRefused v code out 4
   -- a code that is routed has an image or is too short
   pub image_or_short : (v : Plan) (code : List ℕ) → CodeTaken v code
       → ((x : Word) × (image (rows_of v) (word_of code) ≡ some x)) ⊎ ProperBeginning v code
-  pub too_short : (v : Plan) (code out : List ℕ) → CodeTaken v code → ProperBeginning v code → RouteRefused v code out Reply.TooShort
+  pub too_short : (v : Plan) (code out : List ℕ) → CodeTaken v code → ProperBeginning v code → RouteRefused v code out 13
   pub no_room : (v : Plan) (code out : List ℕ) (x : Word) → CodeTaken v code → image (rows_of v) (word_of code) ≡ some x
-      → length out < length x → RouteRefused v code out (Reply.Refused 14)
+      → length out < length x → RouteRefused v code out 14
   -- the place is that of the pair that the image comes from (change request E7)
   pub routes : (v : Plan) (code out : List ℕ) (x : Word) → CodeTaken v code → image (rows_of v) (word_of code) ≡ some x
       → length x ≤ length out → (k : ℕ) × RoutesAt (rows_of v) (word_of code) x k × RoutesTo v code out (word_bytes x) k
@@ -157,7 +161,7 @@ pub record MatchingExact : Type 0 where
 
 -- L refuses, and leaves the buffer as it was
 pub record ListRefused (v : Plan) (slot : ℕ) (out : List ℕ) (number : ℕ) : Type 0 where
-  pub answer : listing_answer v slot (length out) ≡ Listed.Refused number
+  pub answer : Refuses (listing_answer v slot (length out)) number
   pub buffer : listed_buffer v slot out ≡ out
 
 -- two plans of different shapes
@@ -183,40 +187,43 @@ pub record PowerBreaks (v : Plan) (k : ℤ) : Type 0 where
   pub broken : granted (repeated (shape_of v) (repeatable (plan_of v) k) power) ≡ false
 
 -- "If an answer is an enum, a definition gives this paper's number and values for each of its cases": a refusal has its number and any
--- other answer 0, beside what was found or how many bytes were written.
+-- other answer 0; what was found, or how many bytes were written, is the answer itself.
 pub record AnswersNumbered : Type 0 where
-  pub granted : answer_number Made.Granted ≡ 0
-  pub refused : (n : ℕ) → answer_number (Made.Refused n) ≡ n
-  pub compared : (b : Bool) → (likeness_number (Like.Alike b) ≡ 0) × (likeness_value (Like.Alike b) ≡ b)
-  pub not_compared : (n : ℕ) → likeness_number (Like.Refused n) ≡ n
-  pub listed : (n : ℕ) → (listed_number (Listed.Bytes n) ≡ 0) × (listed_length (Listed.Bytes n) ≡ n)
-  pub not_listed : (n : ℕ) → listed_number (Listed.Refused n) ≡ n
-  pub routed : (n k : ℕ)
-      → (routing_number (Reply.Image n k) ≡ 0) × (routing_length (Reply.Image n k) ≡ n) × (routing_place (Reply.Image n k) ≡ k)
-  pub too_short : (routing_number Reply.TooShort ≡ 13) × (routing_place Reply.TooShort ≡ 0)
-  pub not_routed : (n : ℕ) → (routing_number (Reply.Refused n) ≡ n) × (routing_place (Reply.Refused n) ≡ 0)
+  pub granted : (p : Plan) → answer_number (Ok p) ≡ 0
+  pub refused : (r : Refusal) → answer_number {A = Plan} (Err r) ≡ number_of r
+  pub compared : (b : Bool) → answer_number (Ok b) ≡ 0
+  pub not_compared : (r : Refusal) → answer_number {A = Bool} (Err r) ≡ number_of r
+  pub listed : (n : ℕ) → answer_number (Ok n) ≡ 0
+  pub not_listed : (r : Refusal) → answer_number {A = ℕ} (Err r) ≡ number_of r
+  pub routed : (i : Image) → answer_number (Ok i) ≡ 0
+  pub not_routed : (r : Refusal) → answer_number {A = Image} (Err r) ≡ number_of r
+  -- in the order of their numbers
+  pub numbers : map number_of (The.NoRecord ∷ The.WrongState ∷ The.ShapeOutside ∷ The.BadWord ∷ The.PairsFull ∷ The.WordsOverlap ∷ The.RootUncovered
+      ∷ The.SlotOutside ∷ The.SlotEmpty ∷ The.ShapesDiffer ∷ The.LimitBroken ∷ The.PowerOutside ∷ The.CodeTooShort ∷ The.BufferTooShort
+      ∷ The.InvalidValue ∷ The.CountFull ∷ The.SeedOutside ∷ The.StationOutside ∷ The.StationRefused ∷ The.RightMissing ∷ [])
+      ≡ count 1 20
   -- 6 and 7, "those of E for a column add ⇥F or ⇥T (from, to)"
-  pub verdicts : map judgement_number (Accepted ∷ NotADraft ∷ InFrom Overlap ∷ InFrom Gap ∷ InTo Overlap ∷ InTo Gap ∷ [])
+  pub verdicts : map judgement_number (Ok tt ∷ Err NotADraft ∷ faulty From Overlap ∷ faulty From Gap ∷ faulty To Overlap ∷ faulty To Gap ∷ [])
       ≡ 0 ∷ 15 ∷ 6 ∷ 7 ∷ 6 ∷ 7 ∷ []
-  pub verdict_columns : map judgement_column (InFrom Overlap ∷ InFrom Gap ∷ InTo Overlap ∷ InTo Gap ∷ []) ≡ bytes "FFTT"
+  pub verdict_columns : map judgement_column (faulty From Overlap ∷ faulty From Gap ∷ faulty To Overlap ∷ faulty To Gap ∷ []) ≡ bytes "FFTT"
 
 -- The numbers of document 01, "When each operation says no", as its figures; those of W stand in `RoutingExact`.
 pub record NumbersExact : Type 0 where
   -- "15 before all these: a plan or desk handed in isn't one"
-  pub follow_first : (v w : Plan) → is_plan v ≡ false → following v w ≡ refusing 15
-  pub follow_second : (v w : Plan) → is_plan w ≡ false → following v w ≡ refusing 15
-  pub no_inverse : (v : Plan) → is_plan v ≡ false → inverting v ≡ refusing 15
-  pub no_power : (v : Plan) (k : ℤ) → is_plan v ≡ false → raising v k ≡ refusing 15
-  pub alike_first : (v w : Plan) → is_plan v ≡ false → alike v w ≡ Like.Refused 15
-  pub alike_second : (v w : Plan) → is_plan w ≡ false → alike v w ≡ Like.Refused 15
+  pub follow_first : (v w : Plan) → is_plan v ≡ false → Refuses (following v w) 15
+  pub follow_second : (v w : Plan) → is_plan w ≡ false → Refuses (following v w) 15
+  pub no_inverse : (v : Plan) → is_plan v ≡ false → Refuses (inverting v) 15
+  pub no_power : (v : Plan) (k : ℤ) → is_plan v ≡ false → Refuses (raising v k) 15
+  pub alike_first : (v w : Plan) → is_plan v ≡ false → Refuses (alike v w) 15
+  pub alike_second : (v w : Plan) → is_plan w ≡ false → Refuses (alike v w) 15
   pub no_listing : (v : Plan) (slot : ℕ) (out : List ℕ) → is_plan v ≡ false → ListRefused v slot out 15
   -- "10, shapes differ"
-  pub follow_shapes : (v w : Plan) → TwoShapes v w → following v w ≡ refusing 10
-  pub alike_shapes : (v w : Plan) → TwoShapes v w → alike v w ≡ Like.Refused 10
-  pub follow_limit : (v w : Plan) → FollowBreaks v w → following v w ≡ refusing 11
-  pub power_limit : (v : Plan) (k : ℤ) → PowerBreaks v k → raising v k ≡ refusing 11
+  pub follow_shapes : (v w : Plan) → TwoShapes v w → Refuses (following v w) 10
+  pub alike_shapes : (v w : Plan) → TwoShapes v w → Refuses (alike v w) 10
+  pub follow_limit : (v w : Plan) → FollowBreaks v w → Refuses (following v w) 11
+  pub power_limit : (v : Plan) (k : ℤ) → PowerBreaks v k → Refuses (raising v k) 11
   -- "12, k outside −1,000 to 1,000"
-  pub power_outside_lem : (v : Plan) (k : ℤ) → is_plan v ≡ true → 1_000 < nat_abs k → raising v k ≡ refusing 12
+  pub power_outside_lem : (v : Plan) (k : ℤ) → is_plan v ≡ true → 1_000 < nat_abs k → Refuses (raising v k) 12
   -- "8, a slot byte outside A to H"
   pub slot_outside_lem : (v : Plan) (slot : ℕ) (out : List ℕ) → is_plan v ≡ true → (slot < byte "A") ⊎ (byte "H" < slot)
       → ListRefused v slot out 8
@@ -251,10 +258,10 @@ proper_beginning_example : ProperBeginning (value21 ψ) (bytes "11")
 unfolding packed pack pack_on unpack unpack_in max_pairs digit_of
 proper_beginning_example = record { pair = row 111 11; way = 1; ways = []; among = Memᴰ.head refl; longer = refl }
 
-route_refused_example : RouteRefused (value21 ψ) (bytes "11") (7 ∷ 7 ∷ []) Reply.TooShort
+route_refused_example : RouteRefused (value21 ψ) (bytes "11") (7 ∷ 7 ∷ []) 13
 unfolding routing routed_buffer routed is_plan in_table is_kept is_code max_code shape_in_range granted max_pairs max_digits verdict
     keep normal_form normal joined packed pack pack_on unpack unpack_in digit_of
-route_refused_example = record { answer = refl; buffer = refl }
+route_refused_example = record { answer = record { refusal = The.CodeTooShort; refused = refl; numbered = refl }; buffer = refl }
 
 -- 112 begins 1122, and no from-word begins 11
 matched_by_example : MatchedBy (value21 ψ) (bytes "1122") (spell 112) 2

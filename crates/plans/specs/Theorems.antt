@@ -2,7 +2,7 @@
 -- demand 3: so a value is tied to the plan that it holds, place by place and digit by digit, and the laws of demand 3 are said of what
 -- the calls make of values. `LibraryExact` gathers the statements, and proofs/ has one term of it, `library_exact`. What is left of
 -- this folder is what the functions beneath the public calls promise.
-use Rattle.std.specs.Prelude.{ℕ, suc, ◌+◌, ◌*◌, ◌^◌, ◌≤◌, ◌<◌, ◌≡◌, refl, ◌↔◌, true, false, List, [], ◌∷◌, map, T, leb, length, get_or, take, drop, replicate, ℤ, pos, negsuc, nat_abs, ◌+ℤ◌, ◌*ℤ◌}
+use Rattle.std.specs.Prelude.{ℕ, suc, ◌+◌, ◌*◌, ◌^◌, ◌≤◌, ◌<◌, ◌≡◌, refl, ◌↔◌, true, false, List, [], ◌∷◌, map, T, leb, length, get_or, take, drop, replicate, ℤ, pos, negsuc, nat_abs, ◌+ℤ◌, ◌*ℤ◌, Ok, IsOk}
 use Rattle.std.proofs.Math.Option.{some}
 use Rattle.higman.specs.Words.{Word, count, is_ways, is_word, child, spell}
 use Rattle.higman.specs.Tables.{BlockMap, image, row, φ, ψ}
@@ -14,11 +14,8 @@ use Rattle.higman.specs.Theorems.{ActAlike}
 use Rattle.words.specs.Packed.{pack_on, pack, unpack_in, unpack}
 use Rattle.words.specs.Bytes.{shape}
 use Rattle.operations.specs.declared.Plan.{Plan}
-use Rattle.operations.specs.declared.Answer.TheVariants.{Granted}
-use Rattle.operations.specs.declared.Likeness.TheVariants.{Alike}
-use Rattle.operations.specs.declared.Listed.TheVariants.{Bytes}
 use Rattle.operations.specs.Plans.{shape_of, plan_of, pair_at, in_table, is_plan, packed}
-use Rattle.operations.specs.Answers.{granting, value21}
+use Rattle.operations.specs.Answers.{value21}
 use Rattle.plans.specs.Answers.{following, inverting, raising, alike}
 use Rattle.plans.specs.Listing.{listing_answer, listed_buffer}
 use Rattle.plans.specs.CallsExact.{CallsExact}
@@ -69,29 +66,29 @@ pub record PowerWithin (p : PlanOf) (k : ℤ) : Type 0 where
 pub record ValuesGranted : Type 0 where
   -- 11, "the reduced result breaks a limit"
   pub follow_granted : (v w : Plan) → Handed v → Handed w → shape_of v ≡ shape_of w
-      → ((following v w).answer ≡ Granted) ↔ T (granted (compose (shape_of v) (plan_of v).rows (plan_of w).rows))
-  pub inverse_granted : (v : Plan) → Handed v → (inverting v).answer ≡ Granted
+      → IsOk (following v w) ↔ T (granted (compose (shape_of v) (plan_of v).rows (plan_of w).rows))
+  pub inverse_granted : (v : Plan) → Handed v → IsOk (inverting v)
   -- 12, "k outside −1,000 to 1,000"; 11, "some reduced power from 1 up to the size of k breaks a limit"
-  pub power_granted : (v : Plan) (k : ℤ) → Handed v → ((raising v k).answer ≡ Granted) ↔ PowerWithin (plan_of v) k
+  pub power_granted : (v : Plan) (k : ℤ) → Handed v → IsOk (raising v k) ↔ PowerWithin (plan_of v) k
 
 -- "*a then b*, the inverse and a power are those of demand 2": what they do to codes.
 pub record ValuesAct : Type 0 where
-  pub follow_acts : (v w u : Plan) → Handed v → Handed w → following v w ≡ granting u → SendsAs u (and_then (sends v) (sends w))
-  pub inverse_acts : (v u : Plan) → Handed v → inverting v ≡ granting u
+  pub follow_acts : (v w u : Plan) → Handed v → Handed w → following v w ≡ Ok u → SendsAs u (and_then (sends v) (sends w))
+  pub inverse_acts : (v u : Plan) → Handed v → inverting v ≡ Ok u
       → (c x : Word) → T (is_word (shape_of v) c) → sends v c ≡ some x → sends u x ≡ some c
-  pub power_acts : (v u : Plan) (k : ℕ) → Handed v → raising v (pos k) ≡ granting u → SendsAs u (times k (sends v))
+  pub power_acts : (v u : Plan) (k : ℕ) → Handed v → raising v (pos k) ≡ Ok u → SendsAs u (times k (sends v))
   -- "below zero, the power −k of the inverse" (negsuc k is −(k + 1))
-  pub power_acts_below : (v i u : Plan) (k : ℕ) → Handed v → inverting v ≡ granting i → raising v (negsuc k) ≡ granting u
+  pub power_acts_below : (v i u : Plan) (k : ℕ) → Handed v → inverting v ≡ Ok i → raising v (negsuc k) ≡ Ok u
       → SendsAs u (times (suc k) (sends i))
 
 -- What S says of two values of one shape.
 pub record Compared (v w : Plan) : Type 0 where
-  pub acts : (alike v w ≡ Alike true) ↔ ActAlike (plan_of v) (plan_of w)
+  pub acts : (alike v w ≡ Ok true) ↔ ActAlike (plan_of v) (plan_of w)
   -- "Two have the same pairs if these records agree in number, in order and in every digit."
-  pub records : (alike v w ≡ Alike true) ↔ (pair_records (plan_of v).rows ≡ pair_records (plan_of w).rows)
-  pub values : (alike v w ≡ Alike true) ↔ (v ≡ w)
+  pub records : (alike v w ≡ Ok true) ↔ (pair_records (plan_of v).rows ≡ pair_records (plan_of w).rows)
+  pub values : (alike v w ≡ Ok true) ↔ (v ≡ w)
   -- there is no third answer
-  pub otherwise : (alike v w ≡ Alike false) ↔ (ActAlike (plan_of v) (plan_of w) → ⊥)
+  pub otherwise : (alike v w ≡ Ok false) ↔ (ActAlike (plan_of v) (plan_of w) → ⊥)
 
 -- the value of "the plan that moves nothing (each belt to itself)", in the shape of another value
 abbrev pub identity_of : Plan → Plan
@@ -100,34 +97,34 @@ identity_of v = packed (identity_plan (shape_of v))
 -- Demand 3 of values, as `Demand3` of higman has it of plans. A law speaks wherever the values that it names are granted, and these are
 -- taken again by every call.
 pub record ValueDemand3 : Type 0 where
-  pub followed_handed : (v w u : Plan) → Handed v → Handed w → following v w ≡ granting u → Handed u
-  pub inverted_handed : (v u : Plan) → Handed v → inverting v ≡ granting u → Handed u
-  pub raised_handed : (v u : Plan) (k : ℤ) → Handed v → raising v k ≡ granting u → Handed u
+  pub followed_handed : (v w u : Plan) → Handed v → Handed w → following v w ≡ Ok u → Handed u
+  pub inverted_handed : (v u : Plan) → Handed v → inverting v ≡ Ok u → Handed u
+  pub raised_handed : (v u : Plan) (k : ℤ) → Handed v → raising v k ≡ Ok u → Handed u
   -- (a then b) then c is a then (b then c): both are granted and the same value, or both are refused with one number
-  pub associative : (v w u vw wu : Plan) → Handed v → Handed w → Handed u → following v w ≡ granting vw → following w u ≡ granting wu
+  pub associative : (v w u vw wu : Plan) → Handed v → Handed w → Handed u → following v w ≡ Ok vw → following w u ≡ Ok wu
       → following vw u ≡ following v wu
   -- power 0 is the identity, on both sides
-  pub power_zero : (v : Plan) → Handed v → raising v (pos 0) ≡ granting (identity_of v)
-  pub identity_left : (v : Plan) → Handed v → following (identity_of v) v ≡ granting v
-  pub identity_right : (v : Plan) → Handed v → following v (identity_of v) ≡ granting v
+  pub power_zero : (v : Plan) → Handed v → raising v (pos 0) ≡ Ok (identity_of v)
+  pub identity_left : (v : Plan) → Handed v → following (identity_of v) v ≡ Ok v
+  pub identity_right : (v : Plan) → Handed v → following v (identity_of v) ≡ Ok v
   -- power 1 is the plan itself, and power −1 its inverse
-  pub power_one : (v : Plan) → Handed v → raising v (pos 1) ≡ granting v
+  pub power_one : (v : Plan) → Handed v → raising v (pos 1) ≡ Ok v
   pub power_minus_one : (v : Plan) → Handed v → raising v (negsuc 0) ≡ inverting v
   -- the inverse, on both sides
-  pub inverse_left : (v u : Plan) → Handed v → inverting v ≡ granting u → following u v ≡ granting (identity_of v)
-  pub inverse_right : (v u : Plan) → Handed v → inverting v ≡ granting u → following v u ≡ granting (identity_of v)
+  pub inverse_left : (v u : Plan) → Handed v → inverting v ≡ Ok u → following u v ≡ Ok (identity_of v)
+  pub inverse_right : (v u : Plan) → Handed v → inverting v ≡ Ok u → following v u ≡ Ok (identity_of v)
   -- power j then power k is power j + k
-  pub power_sum : (v p q u : Plan) (j k : ℤ) → Handed v → raising v j ≡ granting p → raising v k ≡ granting q
-      → raising v (j +ℤ k) ≡ granting u → following p q ≡ granting u
+  pub power_sum : (v p q u : Plan) (j k : ℤ) → Handed v → raising v j ≡ Ok p → raising v k ≡ Ok q
+      → raising v (j +ℤ k) ≡ Ok u → following p q ≡ Ok u
   -- power k of power j is power jk
-  pub power_product : (v p q u : Plan) (j k : ℤ) → Handed v → raising v j ≡ granting p → raising p k ≡ granting q
-      → raising v (j *ℤ k) ≡ granting u → q ≡ u
+  pub power_product : (v p q u : Plan) (j k : ℤ) → Handed v → raising v j ≡ Ok p → raising p k ≡ Ok q
+      → raising v (j *ℤ k) ≡ Ok u → q ≡ u
   -- S says whether every code long enough for both, whatever its length, is sent to the same place, and so do the M records
   pub compared : (v w : Plan) → Handed v → Handed w → shape_of v ≡ shape_of w → Compared v w
 
 -- L answers the length of these bytes and writes them at the front of the buffer: "On success only the bytes of the output change".
 pub record Lists (v : Plan) (slot : ℕ) (out bytes : List ℕ) : Type 0 where
-  pub answer : listing_answer v slot (length out) ≡ Bytes (length bytes)
+  pub answer : listing_answer v slot (length out) ≡ Ok (length bytes)
   pub front : take (length bytes) (listed_buffer v slot out) ≡ bytes
   pub rest : drop (length bytes) (listed_buffer v slot out) ≡ drop (length bytes) out
 

@@ -3,21 +3,20 @@
 ghost use Rattle.std.specs.Prelude.{◌≡◌, ◌≤◌, length};
 ghost use Rattle.higman.specs.Bases.{all};
 ghost use Rattle.higman.specs.Limits.{is_plan_word};
-ghost use Rattle.words.specs.Bytes.{shape};
+ghost use Rattle.words.specs.Bytes.{shape_of};
 ghost use Rattle.columns.specs.Packed.{words_of};
 ghost use Rattle.operations.specs.Plans.{zeros, is_column, is_draft};
-ghost use Rattle.plans.specs.Answers.{judgement_by, judged};
+ghost use Rattle.plans.specs.Answers.{judged};
 
-use crate::Judgement;
-use operations::{MAX_PAIRS, Plan, Verdict, closing};
+use crate::Rejection;
+use operations::{MAX_PAIRS, Plan, closing};
+use words::Shape;
 
 // Whether each number of a column holds a word that a plan of the shape may hold.
-pub fn are_words(column: &[u64], arity: u8, roots: u8) -> bool
-    ensures { result ≡ all (is_plan_word (shape arity roots)) (words_of column.now) }
+pub fn are_words(column: &[u64], shape: Shape) -> bool
+    ensures { result ≡ all (is_plan_word (shape_of shape)) (words_of column.now) }
 {
-    column
-        .iter()
-        .all(|&word| words::is_word(word, arity, roots))
+    column.iter().all(|&word| words::is_word(word, shape))
 }
 
 // Whether nothing stands in a column.
@@ -28,11 +27,11 @@ pub fn are_zeros(column: &[u64]) -> bool
 }
 
 // Whether the first n numbers of a column hold words that a plan of the shape may hold, with nothing behind them.
-fn is_column(column: &[u64], n: usize, arity: u8, roots: u8) -> bool
+fn is_column(column: &[u64], n: usize, shape: Shape) -> bool
     requires { n ≤ length column.now }
-    ensures { result ≡ is_column (shape arity roots) n column.now }
+    ensures { result ≡ is_column (shape_of shape) n column.now }
 {
-    are_zeros(&column[n..]) && are_words(&column[..n], arity, roots)
+    are_zeros(&column[n..]) && are_words(&column[..n], shape)
 }
 
 // Whether a value is a draft: a shape in range, and pairs of words within the limit, with nothing behind them.
@@ -40,30 +39,17 @@ pub fn is_draft(p: Plan) -> bool
     ensures { result ≡ is_draft p }
 {
     p.pairs <= MAX_PAIRS
-        && operations::shapes::in_range(p.arity, p.roots)
-        && is_column(&p.from, p.pairs, p.arity, p.roots)
-        && is_column(&p.to, p.pairs, p.arity, p.roots)
-}
-
-// The judgement on a draft, by the verdict on its columns.
-pub(crate) fn judgement_by(verdict: Verdict) -> Judgement
-    ensures { result ≡ judgement_by verdict }
-{
-    match verdict {
-        Verdict::Accepted => Judgement::Accepted,
-        Verdict::InFrom(reason) => Judgement::InFrom(reason),
-        Verdict::InTo(reason) => Judgement::InTo(reason),
-    }
+        && p.shape().is_in_range()
+        && is_column(&p.from, p.pairs, p.shape())
+        && is_column(&p.to, p.pairs, p.shape())
 }
 
 // The verdict on a draft: both checks of the from column, and after that both of the to column.
-pub fn verdict(draft: Plan) -> Judgement
+pub fn verdict(draft: Plan) -> Result<(), Rejection>
     ensures { result ≡ judged draft }
 {
     if !is_draft(draft) {
-        return Judgement::NotADraft;
+        return Err(Rejection::NotADraft);
     }
-    let from = draft.from;
-    let to = draft.to;
-    judgement_by(closing::judge(from, to, draft.pairs, draft.arity, draft.roots))
+    Ok(closing::judge(draft)?)
 }

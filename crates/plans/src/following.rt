@@ -4,37 +4,30 @@ ghost use Rattle.std.specs.Prelude.{◌≡◌};
 ghost use Rattle.plans.specs.Answers.{following, inverting, raising};
 
 use crate::kept;
-use operations::{Making, Plan, answers, following, numbers};
+use operations::refusals::Refusal;
+use operations::{Plan, following};
 
 // F: "a then b applies a first". 15, 10, 11.
-pub fn follow(a: Plan, b: Plan) -> Making
+pub fn follow(a: Plan, b: Plan) -> Result<Plan, Refusal>
     ensures { result ≡ following a b }
 {
-    if !kept::is_plan(a) {
-        return answers::refused(numbers::INVALID_VALUE);
-    }
-    if !kept::is_plan(b) {
-        return answers::refused(numbers::INVALID_VALUE);
-    }
+    kept::check(&a)?;
+    kept::check(&b)?;
     following::compose(a, b)
 }
 
 // I: the inverse of a plan. 15.
-pub fn inverse(a: Plan) -> Making
+pub fn inverse(a: Plan) -> Result<Plan, Refusal>
     ensures { result ≡ inverting a }
 {
-    if !kept::is_plan(a) {
-        return answers::refused(numbers::INVALID_VALUE);
-    }
-    following::inverse(a)
+    kept::check(&a)?;
+    Ok(following::inverse(a))
 }
 
 // K: a power; "below zero, the power −k of the inverse". 15, 12, 11.
-pub fn power(a: Plan, k: i32) -> Making
+pub fn power(a: Plan, k: i32) -> Result<Plan, Refusal>
     ensures { result ≡ raising a k }
 {
-    if !kept::is_plan(a) {
-        return answers::refused(numbers::INVALID_VALUE);
-    }
+    kept::check(&a)?;
     following::power(a, k)
 }

@@ -2,46 +2,44 @@
 // kept where it is accepted. A value is a kept plan if it is accepted, its from-words are in order and no pairs of it join.
 ghost use Rattle.std.specs.Prelude.{◌≡◌};
 ghost use Rattle.operations.specs.Plans.{is_plan};
-ghost use Rattle.plans.specs.Answers.{keeping};
+ghost use Rattle.plans.specs.Answers.{keeping, Checked, LentBy};
 
-use crate::{Judgement, Keeping, drafts};
-use operations::{Plan, answers, closing};
+use crate::{Rejection, drafts};
+use operations::refusals::Refusal;
+use operations::{Lent, Plan, closing};
 
-// The verdict on a draft and, where it is Accepted, the plan kept of it.
-pub fn keep(draft: Plan) -> Keeping
+// The plan kept of a draft, where its verdict accepts it.
+pub fn keep(draft: Plan) -> Result<Plan, Rejection>
     ensures { result ≡ keeping draft }
 {
     if !drafts::is_draft(draft) {
-        let plan = answers::blank();
-        return Keeping {
-            judgement: Judgement::NotADraft,
-            plan: plan,
-        };
+        return Err(Rejection::NotADraft);
     }
-    let from = draft.from;
-    let to = draft.to;
-    let closed = closing::close(from, to, draft.pairs, draft.arity, draft.roots);
-    let verdict = closed.verdict;
-    let reduced = closed.plan;
-    let judgement = drafts::judgement_by(verdict);
-    Keeping {
-        judgement: judgement,
-        plan: reduced,
-    }
+    Ok(closing::close(draft)?)
 }
 
 // Whether a value is a kept plan: accepted, reduced, and with its from-words in order. Then keeping it would give it back.
 pub fn is_plan(p: Plan) -> bool
     ensures { result ≡ is_plan p }
 {
-    let judgement = drafts::verdict(p);
-    match judgement {
-        Judgement::Accepted => {
-            let n = p.pairs;
-            let from = p.from;
-            let to = p.to;
-            tables::normal::is_normal(&from[..n], &to[..n], p.arity)
-        }
-        _ => false,
+    drafts::verdict(p).is_ok()
+        && tables::normal::is_normal(&p.from[..p.pairs], &p.to[..p.pairs], p.arity)
+}
+
+// Whether a value is a kept plan. 15.
+pub(crate) fn check(p: &Plan) -> Result<(), Refusal>
+    ensures { Checked p.now result }
+{
+    if !is_plan(*p) {
+        return Err(Refusal::InvalidValue);
     }
+    Ok(())
+}
+
+// The columns that a value lends, if it is a kept plan. 15.
+pub(crate) fn lent(p: &Plan) -> Result<Lent<'_>, Refusal>
+    ensures { LentBy p.now result }
+{
+    check(p)?;
+    Ok(p.lent())
 }

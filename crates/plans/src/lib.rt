@@ -10,21 +10,25 @@ pub mod kept;
 pub mod listing;
 pub mod routing;
 
-pub use operations::{Answer, Likeness, Listed, Making, Plan, Reason, Route};
+pub use operations::refusals::Refusal;
+pub use operations::{Column, Fault, Image, Match, Plan, Reason};
 
-// The verdict on a draft: the column and, within it, the reason.
-#[derive(Drop)]
-pub enum Judgement {
-    // not a draft: no shape, too many pairs, no words, or something behind the pairs
+// Why a draft is not accepted.
+#[derive(Clone, Copy, PartialEq, Eq, Debug)]
+pub enum Rejection {
+    // no shape, too many pairs, no words, or something behind the pairs
     NotADraft,
-    Accepted,
-    InFrom(Reason),
-    InTo(Reason),
+    // "the verdict on a plan names the column and, within it, the reason"
+    Faulty(Fault),
 }
 
-// A judgement and the plan that is kept where it is Accepted.
-#[derive(Drop)]
-pub struct Keeping {
-    pub judgement: Judgement,
-    pub plan: Plan,
+impl From<Fault> for Rejection {
+    ghost use Rattle.std.specs.Prelude.{◌≡◌};
+    ghost use Rattle.plans.specs.declared.Rejection.TheVariants.{Faulty};
+
+    ghost from_gives = { λ fault rejection. rejection ≡ Faulty fault };
+
+    fn from(fault: Fault) -> Rejection {
+        Rejection::Faulty(fault)
+    }
 }

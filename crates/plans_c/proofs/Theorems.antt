@@ -12,10 +12,11 @@ answers_in_c =
         from_gap = refl;
         to_overlap = refl;
         to_gap = refl;
-        kept = λ j p. refl;
+        kept = λ p. refl;
+        not_kept = λ r. refl;
       };
       made = λ p. refl;
-      not_made = λ n p. refl;
+      not_made = λ r. refl;
       compared = λ b. refl;
       not_compared = λ n. refl;
       matched = λ tail k. refl;

@@ -4,15 +4,13 @@
 
 ghost use Rattle.std.specs.Prelude.{◌≡◌, length};
 ghost use Rattle.operations.specs.Plans.{is_plan};
-ghost use Rattle.operations.specs.Answers.{answer_number};
-ghost use Rattle.operations.specs.Closing.{reason_number};
 ghost use Rattle.plans.specs.Answers.{judged, keeping, following, inverting, raising, alike};
 ghost use Rattle.plans.specs.Routing.{matching, matched_place, routing, routed_buffer};
 ghost use Rattle.plans.specs.Listing.{listing_answer, listed_buffer};
 ghost use Rattle.plans_c.specs.Numbers.{verdict_of, kept_of, made_of, compared_of, matched_of, routed_of, listed_of};
 
-use operations::numbers;
-use plans::{Answer, Judgement, Keeping, Likeness, Listed, Making, Plan, Reason, Route};
+use operations::answers::blank;
+use plans::{Image, Plan, Refusal, Rejection};
 
 // The verdict on a draft: 0 for an accepted one, and the letter of the column, F or T, beside 6 and 7.
 #[repr(C)]
@@ -72,127 +70,107 @@ pub struct Routed {
     pub place: usize,
 }
 
-fn reason_number(reason: Reason) -> u8
-    ensures { result ≡ reason_number reason }
-{
-    match reason {
-        Reason::Overlap => numbers::WORDS_OVERLAP,
-        Reason::Gap => numbers::ROOT_UNCOVERED,
-    }
-}
+impl From<Result<(), Rejection>> for Verdict {
+    ghost from_gives = { λ judgement verdict. verdict ≡ verdict_of judgement };
 
-fn verdict_of(judgement: Judgement) -> Verdict
-    ensures { result ≡ verdict_of judgement }
-{
-    match judgement {
-        Judgement::NotADraft => Verdict {
-            number: numbers::INVALID_VALUE,
-            column: 0,
-        },
-        Judgement::Accepted => Verdict {
-            number: 0,
-            column: 0,
-        },
-        Judgement::InFrom(reason) => {
-            let number = reason_number(reason);
-            Verdict {
-                number: number,
-                column: b'F',
-            }
-        }
-        Judgement::InTo(reason) => {
-            let number = reason_number(reason);
-            Verdict {
-                number: number,
-                column: b'T',
-            }
+    fn from(judgement: Result<(), Rejection>) -> Verdict {
+        match judgement {
+            Ok(()) => Verdict {
+                number: 0,
+                column: 0,
+            },
+            Err(Rejection::NotADraft) => Verdict {
+                number: Refusal::InvalidValue.into(),
+                column: 0,
+            },
+            Err(Rejection::Faulty(fault)) => Verdict {
+                number: Refusal::from(fault.reason).into(),
+                column: fault.column.into(),
+            },
         }
     }
 }
 
-fn kept_of(keeping: Keeping) -> Kept
-    ensures { result ≡ kept_of keeping }
-{
-    let judgement = keeping.judgement;
-    let plan = keeping.plan;
-    let verdict = verdict_of(judgement);
-    Kept {
-        number: verdict.number,
-        column: verdict.column,
-        plan: plan,
+impl From<Result<Plan, Rejection>> for Kept {
+    ghost from_gives = { λ keeping kept. kept ≡ kept_of keeping };
+
+    fn from(keeping: Result<Plan, Rejection>) -> Kept {
+        match keeping {
+            Ok(plan) => Kept {
+                number: 0,
+                column: 0,
+                plan,
+            },
+            Err(rejection) => {
+                let verdict = Verdict::from(Err(rejection));
+                Kept {
+                    number: verdict.number,
+                    column: verdict.column,
+                    plan: blank(),
+                }
+            }
+        }
     }
 }
 
-fn answer_number(answer: Answer) -> u8
-    ensures { result ≡ answer_number answer }
-{
-    match answer {
-        Answer::Granted => 0,
-        Answer::Refused(number) => number,
+impl From<Result<Plan, Refusal>> for Made {
+    ghost from_gives = { λ making made. made ≡ made_of making };
+
+    fn from(making: Result<Plan, Refusal>) -> Made {
+        match making {
+            Ok(plan) => Made { number: 0, plan },
+            Err(refusal) => Made {
+                number: refusal.into(),
+                plan: blank(),
+            },
+        }
     }
 }
 
-fn made_of(making: Making) -> Made
-    ensures { result ≡ made_of making }
-{
-    let answer = making.answer;
-    let plan = making.plan;
-    let number = answer_number(answer);
-    Made {
-        number: number,
-        plan: plan,
+impl From<Result<bool, Refusal>> for Compared {
+    ghost from_gives = { λ likeness compared. compared ≡ compared_of likeness };
+
+    fn from(likeness: Result<bool, Refusal>) -> Compared {
+        match likeness {
+            Ok(alike) => Compared { number: 0, alike },
+            Err(refusal) => Compared {
+                number: refusal.into(),
+                alike: false,
+            },
+        }
     }
 }
 
-fn compared_of(likeness: Likeness) -> Compared
-    ensures { result ≡ compared_of likeness }
-{
-    match likeness {
-        Likeness::Alike(alike) => Compared {
-            number: 0,
-            alike: alike,
-        },
-        Likeness::Refused(number) => Compared {
-            number: number,
-            alike: false,
-        },
+impl From<Result<Image, Refusal>> for Routed {
+    ghost from_gives = { λ route routed. routed ≡ routed_of route };
+
+    fn from(route: Result<Image, Refusal>) -> Routed {
+        match route {
+            Ok(image) => Routed {
+                number: 0,
+                length: image.length,
+                place: image.place,
+            },
+            Err(refusal) => Routed {
+                number: refusal.into(),
+                length: 0,
+                place: 0,
+            },
+        }
     }
 }
 
-fn routed_of(route: Route) -> Routed
-    ensures { result ≡ routed_of route }
-{
-    match route {
-        Route::Image(length, place) => Routed {
-            number: 0,
-            length: length,
-            place: place,
-        },
-        Route::TooShort => Routed {
-            number: numbers::CODE_TOO_SHORT,
-            length: 0,
-            place: 0,
-        },
-        Route::Refused(number) => Routed {
-            number: number,
-            length: 0,
-            place: 0,
-        },
-    }
-}
+impl From<Result<usize, Refusal>> for Written {
+    ghost from_gives = { λ listed written. written ≡ listed_of listed };
 
-fn listed_of(listed: Listed) -> Written
-    ensures { result ≡ listed_of listed }
-{
-    match listed {
-        Listed::Bytes(length) => Written {
-            number: 0,
-            length: length,
-        },
-        Listed::Refused(number) => Written {
-            number: number,
-            length: 0,
-        },
+    fn from(listed: Result<usize, Refusal>) -> Written {
+        match listed {
+            Ok(length) => Written { number: 0, length },
+            Err(refusal) => Written {
+                number: refusal.into(),
+                length: 0,
+            },
+        }
     }
 }
 
@@ -201,7 +179,7 @@ fn listed_of(listed: Listed) -> Written
 pub extern "C" fn plans_verdict(draft: Plan) -> Verdict
     ensures { result ≡ verdict_of (judged draft) }
 {
-    verdict_of(plans::drafts::verdict(draft))
+    plans::drafts::verdict(draft).into()
 }
 
 // E: the verdict on a draft and the plan kept of it.
@@ -209,7 +187,7 @@ pub extern "C" fn plans_verdict(draft: Plan) -> Verdict
 pub extern "C" fn plans_keep(draft: Plan) -> Kept
     ensures { result ≡ kept_of (keeping draft) }
 {
-    kept_of(plans::kept::keep(draft))
+    plans::kept::keep(draft).into()
 }
 
 // Whether a value is a kept plan.
@@ -225,7 +203,7 @@ pub extern "C" fn plans_is_plan(p: Plan) -> bool
 pub extern "C" fn plans_follow(a: Plan, b: Plan) -> Made
     ensures { result ≡ made_of (following a b) }
 {
-    made_of(plans::following::follow(a, b))
+    plans::following::follow(a, b).into()
 }
 
 // I: the inverse.
@@ -233,7 +211,7 @@ pub extern "C" fn plans_follow(a: Plan, b: Plan) -> Made
 pub extern "C" fn plans_inverse(a: Plan) -> Made
     ensures { result ≡ made_of (inverting a) }
 {
-    made_of(plans::following::inverse(a))
+    plans::following::inverse(a).into()
 }
 
 // K: a power.
@@ -241,7 +219,7 @@ pub extern "C" fn plans_inverse(a: Plan) -> Made
 pub extern "C" fn plans_power(a: Plan, k: i32) -> Made
     ensures { result ≡ made_of (raising a k) }
 {
-    made_of(plans::following::power(a, k))
+    plans::following::power(a, k).into()
 }
 
 // S: whether two plans act alike.
@@ -249,7 +227,7 @@ pub extern "C" fn plans_power(a: Plan, k: i32) -> Made
 pub extern "C" fn plans_same(a: Plan, b: Plan) -> Compared
     ensures { result ≡ compared_of (alike a b) }
 {
-    compared_of(plans::comparing::same(a, b))
+    plans::comparing::same(a, b).into()
 }
 
 // The length of the unmatched tail, for C has no part of a slice to hand back, and the place of the pair.
@@ -257,11 +235,10 @@ pub extern "C" fn plans_same(a: Plan, b: Plan) -> Compared
 pub extern "C" fn plans_unmatched(p: Plan, code: &[u8]) -> Matched
     ensures { result ≡ matched_of (matching p code.now) (matched_place p code.now) }
 {
-    let mut found = 0;
-    let tail = plans::routing::unmatched(p, code, &mut found);
+    let matched = plans::routing::unmatched(p, code);
     Matched {
-        tail: tail.len(),
-        place: found,
+        tail: matched.tail.len(),
+        place: matched.place.unwrap_or(0),
     }
 }
 
@@ -271,7 +248,7 @@ pub extern "C" fn plans_route(p: Plan, code: &[u8], out: &mut [u8]) -> Routed
     ensures value { result ≡ routed_of (routing p code.now (length out.old)) }
     ensures out_after { out.new ≡ routed_buffer p code.now out.old }
 {
-    routed_of(plans::routing::route(p, code, out))
+    plans::routing::route(p, code, out).into()
 }
 
 // L: the listing of a plan for a slot's letter.
@@ -280,5 +257,5 @@ pub extern "C" fn plans_list(p: Plan, slot: u8, out: &mut [u8]) -> Written
     ensures value { result ≡ listed_of (listing_answer p slot (length out.old)) }
     ensures out_after { out.new ≡ listed_buffer p slot out.old }
 {
-    listed_of(plans::listing::list(p, slot, out))
+    plans::listing::list(p, slot, out).into()
 }

@@ -9,7 +9,7 @@ use lib.Seq.{take_all}
 use Rattle.higman.specs.Words.{Shape}
 use Rattle.higman.specs.Bases.{all}
 use Rattle.higman.specs.Limits.{is_plan_word}
-use Rattle.words.specs.Bytes.{shape}
+use Rattle.words.specs.Bytes.{shape_of}
 use Rattle.columns.specs.Packed.{words_of}
 use Rattle.operations.specs.Plans.{zeros, is_column}
 use Rattle.plans.proofs.drafts.is_column.Goals as goal
@@ -23,9 +23,9 @@ tested_first s n l b e =
 pub returns-then-are_zeros : goal.returns-then-are_zeros
 returns-then-are_zeros c =
     let a = c.args in
-    c.are_words.ensures ∙ tested_first (shape a.arity a.roots) a.n a.column.now _ c.if-are_zeros.ensures
+    c.are_words.ensures ∙ tested_first (shape_of a.shape) a.n a.column.now _ c.if-are_zeros.ensures
 
 pub returns-else-are_zeros : goal.returns-else-are_zeros
 returns-else-are_zeros c =
     let a = c.args in
-    c.if-are_zeros.false ∙ tested_first (shape a.arity a.roots) a.n a.column.now _ c.if-are_zeros.ensures
+    c.if-are_zeros.false ∙ tested_first (shape_of a.shape) a.n a.column.now _ c.if-are_zeros.ensures

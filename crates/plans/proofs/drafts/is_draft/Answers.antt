@@ -4,7 +4,6 @@ use Rattle.std.proofs.lemmas.Grind.{common_steps}
 use Rattle.higman.specs.Limits.{max_pairs}
 use Rattle.operations.proofs.Sizes.{columns_even}
 use Rattle.plans.proofs.DraftChecks.{checked}
-use Rattle.plans.proofs.drafts.is_draft.Goals.{then-p-le-MAX_PAIRS, else-p-le-MAX_PAIRS, then-in_range, else-in_range}
 use Rattle.plans.proofs.drafts.is_draft.Goals as goal
 
 pub returns-then-is_column : goal.returns-then-is_column

@@ -1,13 +1,13 @@
 -- `plans::kept::keep` meets its contract: of no draft nothing is kept, and a draft is closed.
-use mathlib.Core.Path.{◌≡◌, sym, ◌∙◌, ap}
+use mathlib.Core.Path.{◌≡◌, sym, ◌∙◌}
 use mathlib.Core.Bool.{true}
-use Rattle.higman.proofs.Tests.{T_of}
+use Rattle.std.proofs.Common.{Err}
 use Rattle.operations.specs.Plans.{is_draft}
 use Rattle.operations.proofs.Sizes.{columns_even}
-use Rattle.plans.specs.declared.Judgement.TheVariants.{NotADraft}
-use Rattle.plans.specs.declared.Keeping.{Keeping}
-use Rattle.plans.proofs.DraftChecks.{draft_of_lem, draft_columns, judged_none}
-use Rattle.plans.proofs.Accepted.{keeping_of, keeping_closed}
+use Rattle.operations.proofs.Exits.{returned}
+use Rattle.plans.specs.declared.Rejection.TheVariants.{NotADraft, Faulty}
+use Rattle.plans.proofs.DraftChecks.{judged_none, draft_closes}
+use Rattle.plans.proofs.Accepted.{keeping_by, keeping_closed}
 use Rattle.plans.proofs.kept.keep.Goals.{Else-not-is_draft}
 use Rattle.plans.proofs.kept.keep.Goals as goal
 
@@ -17,21 +17,16 @@ passed c = sym c.is_draft.ensures ∙ c.if-not-is_draft.false
 
 pub returns-then-not-is_draft : goal.returns-then-not-is_draft
 returns-then-not-is_draft c =
-    let none = sym c.is_draft.ensures ∙ c.if-not-is_draft.true in
-    let p = c.args.draft in
-    keeping_of p NotADraft c.blank-plan.result (sym (judged_none p none)) c.blank-plan.ensures
+    keeping_by c.args.draft (Err NotADraft) (sym (judged_none c.args.draft (sym c.is_draft.ensures ∙ c.if-not-is_draft.true)))
 
-pub close-closed-requires : goal.close-closed-requires
-close-closed-requires c =
-    let test = c.before.before in
-    let z = test.before.before in
-    let p = c.args.draft in
-    draft_columns p (draft_of_lem p (columns_even p _ z.well_formed.0) (T_of (passed test)))
+pub close-requires : goal.close-requires
+close-requires c = draft_closes c.args.draft (columns_even c.args.draft _ c.well_formed.0) (passed c)
+
+pub returns-in_err-close : goal.returns-in_err-close
+returns-in_err-close c =
+    let f = c.in_err-close.field-0.0 in
+    returned c.from_residual.result (Faulty f) c.from_residual.ensures.1
+    ∙ keeping_closed c.args.draft (Err f) (passed (goal.at.returns-in_err-close c).Else-not-is_draft) c.in_err-close.ensures
 
 pub returns : goal.returns
-returns c =
-    let call = c.before.before in
-    let test = call.before.before.before in
-    let closed = c.close-closed.result in
-    ap {B = Keeping} (λ j. record { judgement = j; plan = closed.plan }) c.judgement_by-judgement.ensures
-    ∙ keeping_closed c.args.draft closed (passed test) c.close-closed.ensures
+returns c = keeping_closed c.args.draft _ (passed (goal.at.returns c).Else-not-is_draft) c.in_ok-close.ensures
