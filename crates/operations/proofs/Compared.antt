@@ -12,7 +12,8 @@ use Rattle.operations.specs.Answers.{likeness}
 use Rattle.operations.proofs.SamePairs.{same_columns}
 
 module _ (a b : Lent) where
-  pub not_compared : same_shape (lent_plan a).shape (lent_plan b).shape ≡ false → Err ShapesDiffer ≡ likeness (same (lent_plan a) (lent_plan b))
+  pub not_compared : same_shape (lent_plan a).shape (lent_plan b).shape ≡ false
+      → Err ShapesDiffer ≡ likeness (same (lent_plan a) (lent_plan b))
   unfolding same
   not_compared h = sym (rw (h, same))
 

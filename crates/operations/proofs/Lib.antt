@@ -4,6 +4,7 @@ pub mod Sizes
 pub mod Unordered
 pub mod Verdicts
 pub mod Reordered
+pub mod Closed
 pub mod Values
 pub mod Filled
 pub mod KeptValues

@@ -74,7 +74,8 @@ module _ (a : Plan) where
       pub inverse_plan : is_plan m ≡ true
       inverse_plan = ap is_plan held ∙ packed_is_plan back back_kept
 
-      pub power_back : (k : ℤ) → k <ℤ pos 0 → power_in_range k ≡ true → repeating (plan_of m) (nat_abs k) ≡ making (powered (plan_of a) k)
+      pub power_back : (k : ℤ) → k <ℤ pos 0 → power_in_range k ≡ true
+          → repeating (plan_of m) (nat_abs k) ≡ making (powered (plan_of a) k)
       power_back (pos n) t l = absurd (omega (arith, ltb→lt n 0 t.lt))
       power_back (negsuc n) t l =
           ap (λ q. repeating q (suc n)) (ap plan_of held ∙ holds back back_kept) ∙ sym (power_within (negsuc n) l)

@@ -1,6 +1,6 @@
 -- The verdict on two columns from what is wrong with each, the from column first, and what closing answers by it. Where it is Accepted,
 -- columns of words are bases.
-use Prim.Native.Nat.{ℕ}
+use Prim.Native.Nat.{ℕ, ◌≤◌}
 use mathlib.Core.Path.{◌≡◌, refl, sym, ◌∙◌, ap, ap₂, subst}
 use mathlib.Core.List.{List}
 use mathlib.Core.Option.{Option, none, some}
@@ -11,7 +11,7 @@ use Rattle.higman.specs.Words.{Shape, Word, is_word}
 use Rattle.higman.specs.Bases.{all}
 use Rattle.higman.specs.Tables.{Table, froms, tos}
 use Rattle.higman.specs.Normal.{keep}
-use Rattle.higman.specs.Limits.{Bases, fits, is_plan_word}
+use Rattle.higman.specs.Limits.{Bases, fits, is_plan_word, max_pairs, shape_in_range}
 use Rattle.higman.specs.Answers as Of
 use Rattle.higman.proofs.Tests.{and_left, all_at, all_of}
 use Rattle.higman.proofs.KeptPlans.{arity_of_range}
@@ -80,32 +80,38 @@ module _ (p : Plan) (d : DraftColumns p) where
   abbrev front : List ℕ → List ℕ
   front column = take p.pairs column
 
-  pub from_words : T (all (is_word s) (words_of (front p.from)))
-  from_words = words_of_plan s (words_of (front p.from)) d.from_words
-
-  pub to_words : T (all (is_word s) (words_of (front p.to)))
-  to_words = words_of_plan s (words_of (front p.to)) d.to_words
-
   abbrev pub from_fault : Result (Unit {0}) Fault
   from_fault = in_from (Of.fault s (words_of (front p.from)))
 
   abbrev pub to_fault : Result (Unit {0}) Fault
   to_fault = in_to (Of.fault s (words_of (front p.to)))
 
-  -- what is wrong with a column, told by a shape that is the draft's, and then by `map_err` as that of a plan
+  -- what is asked of a column, by a shape that is the draft's
+  module _ {u : Shape} (same : u ≡ s) where
+    pub from_asked : (length (front p.from) ≤ max_pairs) × T (shape_in_range u) × T (all (is_word u) (words_of (front p.from)))
+    from_asked = rw same (simp length-take (omega (arith, d.few)), d.in_range, words_of_plan s (words_of (front p.from)) d.from_words)
+
+    pub to_asked : (length (front p.to) ≤ max_pairs) × T (shape_in_range u) × T (all (is_word u) (words_of (front p.to)))
+    to_asked = rw same (simp length-take (omega (arith, d.few)), d.in_range, words_of_plan s (words_of (front p.to)) d.to_words)
+
+  -- what is wrong with it, told by such a shape, and then by `map_err` as the fault of a plan
   module _ {u : Shape} (same : u ≡ s) {r : Result (Unit {0}) Reason} {q : Result (Unit {0}) Fault} where
-    pub found_from : r ≡ fault_of (Of.fault u (words_of (front p.from))) → MatchResult r (λ a. q ≡ Ok a) (λ e. IsErrAnd q (λ d. d ≡ InFrom e))
+    pub found_from : r ≡ fault_of (Of.fault u (words_of (front p.from)))
+        → MatchResult r (λ a. q ≡ Ok a) (λ e. IsErrAnd q (λ d. d ≡ InFrom e))
         → q ≡ from_fault
     found_from e m = mapped InFrom r q m ∙ ap (with_error InFrom) (e ∙ ap (λ u. fault_of (Of.fault u (words_of (front p.from)))) same)
 
-    pub found_to : r ≡ fault_of (Of.fault u (words_of (front p.to))) → MatchResult r (λ a. q ≡ Ok a) (λ e. IsErrAnd q (λ d. d ≡ InTo e))
+    pub found_to : r ≡ fault_of (Of.fault u (words_of (front p.to)))
+        → MatchResult r (λ a. q ≡ Ok a) (λ e. IsErrAnd q (λ d. d ≡ InTo e))
         → q ≡ to_fault
     found_to e m = mapped InTo r q m ∙ ap (with_error InTo) (e ∙ ap (λ u. fault_of (Of.fault u (words_of (front p.to)))) same)
 
   module _ (even : length p.from ≡ length p.to) where
     verdict_by_columns : verdict_of (Of.verdict s t) ≡ result_and from_fault to_fault
     verdict_by_columns =
-        verdict_by_faults s t ∙ ap₂ (λ c e. result_and (in_from (Of.fault s c)) (in_to (Of.fault s e))) (froms_rows p.pairs p.from p.to even) (tos_rows p.pairs p.from p.to even)
+        verdict_by_faults s t
+        ∙ ap₂ (λ c e. result_and (in_from (Of.fault s c)) (in_to (Of.fault s e))) (froms_rows p.pairs p.from p.to even)
+        (tos_rows p.pairs p.from p.to even)
 
     pub judged_from : (f : Fault) → Err f ≡ from_fault → Err f ≡ verdict_of (Of.verdict s t)
     judged_from f e = sym (verdict_by_columns ∙ ap (λ r. result_and r to_fault) (sym e))

@@ -45,7 +45,8 @@ fn fault_in(keys: &mut [u64], values: &mut [u64], shape: Shape) -> Result<(), Re
 // What is wrong with a column. Two copies are sorted, so that the column stays as it came.
 #[tactic(auto, using(columns::proofs::Limits::pair_limit))]
 fn fault_of(words: &[u64], shape: Shape) -> Result<(), Reason>
-    requires { (length words.now ≤ max_pairs) × T (shape_in_range (the_shape shape)) × T (all (is_word (the_shape shape)) (words_of words.now)) }
+    requires { (length words.now ≤ max_pairs) × T (shape_in_range (the_shape shape))
+        × T (all (is_word (the_shape shape)) (words_of words.now)) }
     ensures { result ≡ fault_of (fault (the_shape shape) (words_of words.now)) }
 {
     let n = words.len();

@@ -1,12 +1,11 @@
 -- `operations::closing::judge` meets its contract: the verdict is put together from what is wrong with each column.
 use Rattle.std.proofs.Common.{sym, ◌∙◌, arith}
-use lib.ListN.{length-take}
 use Rattle.operations.proofs.Exits.{returned}
-use Rattle.operations.proofs.Verdicts.{from_words, to_words, found_from, found_to, judged_from, judged_to}
+use Rattle.operations.proofs.Verdicts.{from_asked, to_asked, found_from, found_to, judged_from, judged_to}
 use Rattle.operations.proofs.closing.judge.Goals as goal
 
 pub fault_of-requires : goal.fault_of-requires
-fault_of-requires c = rw c.shape-shape.ensures (simp length-take (omega (arith, c.requires.few)), c.requires.in_range, from_words c.args.draft c.requires)
+fault_of-requires c = from_asked c.args.draft c.requires c.shape-shape.ensures
 
 pub returns-in_err-map_err : goal.returns-in_err-map_err
 returns-in_err-map_err c =
@@ -16,7 +15,7 @@ returns-in_err-map_err c =
     returned _ f c.from_residual.ensures.1 ∙ judged_from p c.requires (omega arith) f (sym c.in_err-map_err.was ∙ e)
 
 pub fault_of-requires-2 : goal.fault_of-requires-2
-fault_of-requires-2 c = rw c.shape-shape.ensures (simp length-take (omega (arith, c.requires.few)), c.requires.in_range, to_words c.args.draft c.requires)
+fault_of-requires-2 c = to_asked c.args.draft c.requires c.shape-shape.ensures
 
 pub returns : goal.returns
 returns c =

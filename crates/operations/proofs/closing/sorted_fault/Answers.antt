@@ -9,7 +9,8 @@ use Rattle.operations.proofs.closing.sorted_fault.Goals as goal
 
 pub returns-then-overlaps : goal.returns-then-overlaps
 returns-then-overlaps c =
-    sym (ap fault_of (fault_overlap (shape_of c.args.shape) (words_of c.args.words.now) (sym c.overlaps.ensures ∙ c.if-overlaps.true)))
+    let meets = sym c.overlaps.ensures ∙ c.if-overlaps.true in
+    sym (ap fault_of (fault_overlap (shape_of c.args.shape) (words_of c.args.words.now) meets))
 
 pub has_gap-requires : goal.has_gap-requires
 has_gap-requires c =
@@ -22,9 +23,11 @@ has_gap-requires c =
 pub returns-then-has_gap : goal.returns-then-has_gap
 returns-then-has_gap c =
     let apart = sym c.overlaps.ensures ∙ c.if-overlaps.false in
-    sym (ap fault_of (fault_gap (shape_of c.args.shape) (words_of c.args.words.now) apart (sym c.has_gap.ensures ∙ c.if-has_gap.true)))
+    let uncovered = sym c.has_gap.ensures ∙ c.if-has_gap.true in
+    sym (ap fault_of (fault_gap (shape_of c.args.shape) (words_of c.args.words.now) apart uncovered))
 
 pub returns : goal.returns
 returns c =
     let apart = sym c.overlaps.ensures ∙ c.if-overlaps.false in
-    sym (ap fault_of (fault_none (shape_of c.args.shape) (words_of c.args.words.now) apart (sym c.has_gap.ensures ∙ c.if-has_gap.false)))
+    let covered = sym c.has_gap.ensures ∙ c.if-has_gap.false in
+    sym (ap fault_of (fault_none (shape_of c.args.shape) (words_of c.args.words.now) apart covered))

@@ -51,7 +51,9 @@ abbrev called : In-Some → After-lent-second
 called c = called_before c.before.before.before
 
 -- what was written before reduction
-known : (c : In-Some) → (all pair_fits (wide (called c)) ≡ true) × Extended (wide (called c)) 0 (replicate 256 0) (replicate 256 0) c.spread_plans.new.froms c.spread_plans.new.tos c.in-Some.n
+known : (c : In-Some)
+    → (all pair_fits (wide (called c)) ≡ true)
+    × Extended (wide (called c)) 0 (replicate 256 0) (replicate 256 0) c.spread_plans.new.froms c.spread_plans.new.tos c.in-Some.n
 known c = c.in-Some.ensures
 
 few : (c : In-Some) → c.in-Some.n ≤ 256

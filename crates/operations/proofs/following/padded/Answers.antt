@@ -7,7 +7,8 @@ use Rattle.operations.proofs.following.padded.Goals as goal
 
 pub returns : goal.returns
 returns c =
-    ap (λ f. f ++ drop c.args.n (replicate 128 0)) c.copy_from_slice.ensures.after ∙ filling_is c.args.n c.args.column.now c.requires.0 c.requires.1
+    ap (λ f. f ++ drop c.args.n (replicate 128 0)) c.copy_from_slice.ensures.after
+    ∙ filling_is c.args.n c.args.column.now c.requires.0 c.requires.1
 
 pub slice_bounds-front-end : goal.slice_bounds-front-end
 slice_bounds-front-end c = simp length-take (omega (arith, pair_limit))

@@ -14,4 +14,5 @@ returns c =
     kept_columns (shape_of a.shape) (table a.keys.now a.values.now) r.new.out_from r.new.out_to
     a.out_from.now a.out_to.now _ _ r.result in_from in_to
     r.ensures.keeps r.auto.out_from r.auto.out_to
-    (cleared r.result r.new.out_from _ (c.fill.ensures.after (λ y e. e))) (cleared r.result r.new.out_to _ (c.fill-2.ensures.after (λ y e. e)))
+    (cleared r.result r.new.out_from _ (c.fill.ensures.after (λ y e. e)))
+    (cleared r.result r.new.out_to _ (c.fill-2.ensures.after (λ y e. e)))

@@ -14,7 +14,8 @@ at_most : (x y : ℕ) → is_le (nat_cmp x y) ≡ leb x y
 at_most x y = grind (arith, common_steps)
 
 -- what `contains` answers at a range that is not used up
-contained : (r : RangeInclusive ℕ) (low high x : ℕ) → range_inclusive_start r ≡ low → range_inclusive_end r ≡ high → range_inclusive_exhausted r ≡ false → range_inclusive_contains (λ a b. Some (nat_cmp a b)) r x ≡ (leb low x && leb x high)
+contained : (r : RangeInclusive ℕ) (low high x : ℕ) → range_inclusive_start r ≡ low → range_inclusive_end r ≡ high
+    → range_inclusive_exhausted r ≡ false → range_inclusive_contains (λ a b. Some (nat_cmp a b)) r x ≡ (leb low x && leb x high)
 contained r low high x a b e = simp (a, b, e, at_most)
 
 pub returns : goal.returns
@@ -22,4 +23,5 @@ unfolding slot_count
 returns c =
     let e = c.new.ensures in
     let slot = c.args.slot in
-    c.contains.ensures.value ∙ contained c.new.result 65 72 slot e.start e.end e.exhausted ∙ ap (λ b. leb 65 slot && b) (sym (leb-suc-suc slot 72))
+    c.contains.ensures.value ∙ contained c.new.result 65 72 slot e.start e.end e.exhausted
+    ∙ ap (λ b. leb 65 slot && b) (sym (leb-suc-suc slot 72))

@@ -8,7 +8,9 @@ use Rattle.operations.proofs.listing.list.Goals as goal
 
 pub returns-then-not-is_slot : goal.returns-then-not-is_slot
 returns-then-not-is_slot c =
-    let (value, out_after) = list_no_slot (lent_plan c.args.plan) c.args.slot c.args.out.now (sym c.is_slot.ensures ∙ c.if-not-is_slot.true) in
+    let a = c.args in
+    let no_slot = sym c.is_slot.ensures ∙ c.if-not-is_slot.true in
+    let (value, out_after) = list_no_slot (lent_plan a.plan) a.slot a.out.now no_slot in
     record { value = value; out_after = out_after }
 
 pub listing_length-requires : goal.listing_length-requires
@@ -18,7 +20,8 @@ pub returns-then-out-listing_length : goal.returns-then-out-listing_length
 returns-then-out-listing_length c =
     let a = c.args in
     let counted = c.listing_length.ensures a.slot (lent_plan a.plan).shape in
-    let (value, out_after) = list_no_room (lent_plan a.plan) a.slot a.out.now (sym c.is_slot.ensures ∙ c.if-not-is_slot.false) (omega (arith, counted)) in
+    let slot = sym c.is_slot.ensures ∙ c.if-not-is_slot.false in
+    let (value, out_after) = list_no_room (lent_plan a.plan) a.slot a.out.now slot (omega (arith, counted)) in
     record { value = value; out_after = out_after }
 
 pub list_into-requires : goal.list_into-requires
@@ -32,6 +35,7 @@ pub returns : goal.returns
 returns c =
     let a = c.args in
     let counted = c.listing_length.ensures a.slot (lent_plan a.plan).shape in
-    let (value, out_after) = list_written (lent_plan a.plan) a.slot a.out.now (sym c.is_slot.ensures ∙ c.if-not-is_slot.false) (omega (arith, counted))
+    let slot = sym c.is_slot.ensures ∙ c.if-not-is_slot.false in
+    let (value, out_after) = list_written (lent_plan a.plan) a.slot a.out.now slot (omega (arith, counted))
     c.list_into.result c.list_into.new.out c.list_into.ensures in
     record { value = value; out_after = out_after }

@@ -13,7 +13,8 @@ returns-then-not-is_code c =
     let s = shape_of c.args.plan.shape in
     let from = words_of c.args.plan.from.now in
     let refused = sym c.is_code.ensures ∙ c.if-not-is_code.true in
-    let whole = whole_code (matched_in s from c.args.code.now) c.args.code.now c.args.code.ref_ptr (matched_no_code s from c.args.code.now refused) in
+    let none = matched_no_code s from c.args.code.now refused in
+    let whole = whole_code (matched_in s from c.args.code.now) c.args.code.now c.args.code.ref_ptr none in
     record { tail = whole.0; tail_ref_ptr = whole.1; place = sym (ap at_place (place_no_code s from c.args.code.now refused)) }
 
 pub unmatched-requires : goal.unmatched-requires
