@@ -16,6 +16,7 @@ use slots::{DRAFT, Head, Refused, Reply, Size, Work, blocks};
 use words::Shape;
 
 // A plan, or no plan, put into a slot: one change, by which the pairs that the slot held are lost and those of the plan kept. 16.
+#[tactic(auto, using(slots::proofs::Held::slots_eight))]
 fn fill(head: Head, columns: &mut [u64], i: usize, plan: Plan) -> Result<Head, Refused>
     requires { Fillable head columns.old i plan }
     ensures value { result ≡ filled head i plan }

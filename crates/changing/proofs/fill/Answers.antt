@@ -1,14 +1,13 @@
 -- `changing::fill` meets its contract.
 use mathlib.Core.Path.{◌≡◌, sym, ◌∙◌, ap}
 use mathlib.Core.Bool.{false}
-use native.Mathlib.Omega.{arith}
 use lib.ListN.{set}
 use Rattle.std.specs.Prelude.{Ok, Err, None}
 use Rattle.slots.specs.declared.Control.{Control}
 use Rattle.slots.specs.declared.Head.{Head}
 use Rattle.slots.specs.Blocks.{size_of, filled_head}
 use Rattle.slots.specs.Desks.{full_in}
-use Rattle.slots.proofs.Held.{control_held, slots_eight, slot_inside}
+use Rattle.slots.proofs.Held.{control_held, slot_inside}
 use Rattle.slots.proofs.Sums.{countable}
 use Rattle.changing.proofs.Filling.{filled_none, columns_same, filled_one, columns_put}
 use Rattle.changing.proofs.fill.Goals.{Else-is_full}
@@ -23,18 +22,6 @@ room c = sym c.is_full.ensures ∙ c.if-is_full.false
 
 pub put-requires : goal.put-requires
 put-requires c = slot_inside c.args.head c.args.columns.now c.requires.holds c.args.i c.requires.slot
-
-pub offset_bounds-next-i : goal.offset_bounds-next-i
-offset_bounds-next-i c = record { fits = omega (arith, slots_eight) }
-
-pub bounds-next-i : goal.bounds-next-i
-bounds-next-i c = omega (arith, slots_eight)
-
-pub offset_bounds-head-i : goal.offset_bounds-head-i
-offset_bounds-head-i c = record { fits = omega (arith, slots_eight) }
-
-pub bounds-head-i : goal.bounds-head-i
-bounds-head-i c = omega (arith, slots_eight)
 
 pub noted-next-requires : goal.noted-next-requires
 noted-next-requires c =
