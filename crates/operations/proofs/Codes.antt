@@ -45,12 +45,16 @@ module _ (s : Shape) (code : List ℕ) where
   pub code_long : max_code < length code → false ≡ is_code s (word_of code)
   unfolding is_code within
   code_long h =
-      sym (ap (λ n. within (leb n max_code)) (length-map code digit_of) ∙ ap within (lt-leb (length code) max_code h) ∙ and-false (is_word s (word_of code)))
+      sym
+      (ap (λ n. within (leb n max_code)) (length-map code digit_of) ∙ ap within (lt-leb (length code) max_code h)
+      ∙ and-false (is_word s (word_of code)))
 
   pub code_short : length code ≤ max_code → is_word s (word_of code) ≡ is_code s (word_of code)
   unfolding is_code within
   code_short h =
-      sym (ap (λ n. within (leb n max_code)) (length-map code digit_of) ∙ ap within (le-leb (length code) max_code h) ∙ and-true (is_word s (word_of code)))
+      sym
+      (ap (λ n. within (leb n max_code)) (length-map code digit_of) ∙ ap within (le-leb (length code) max_code h)
+      ∙ and-true (is_word s (word_of code)))
 
   -- the digits of such a code are those that packed words have
   pub digits_of_code : T (shape_in_range s) → is_code s (word_of code) ≡ true → IsCode code
@@ -58,7 +62,8 @@ module _ (s : Shape) (code : List ℕ) where
   digits_of_code r h =
       let w = word_of code in
       let range = in_range s r in
-      test_of_ways 9 w (ways_of_word s w range.arity_high range.roots_high (word_of_test s w (and_left (is_word s w) (leb (length w) max_code) (T_of h))))
+      let word = word_of_test s w (and_left (is_word s w) (leb (length w) max_code) (T_of h)) in
+      test_of_ways 9 w (ways_of_word s w range.arity_high range.roots_high word)
 
 -- the reply to what was found in the columns
 abbrev pub replied : Result Image RouteError → Route

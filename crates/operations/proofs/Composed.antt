@@ -86,12 +86,15 @@ module _ (a b : Plan) (A : Kept a) (B : Kept b) (same : a.shape ≡ b.shape) whe
 
     -- reduction shortens words
     fitting : all pair_fits t ≡ true → T (all pair_fits u)
-    fitting e = all_of pair_fits u (λ p m. short p (keep_extended s n t (spread_element s n a.rows b.rows first second) p (subst (Memᴰ p) reduced m)))
+    fitting e =
+        let element = spread_element s n a.rows b.rows first second in
+        all_of pair_fits u (λ p m. short p (keep_extended s n t element p (subst (Memᴰ p) reduced m)))
       where
         short : (p : Pair) → Extended t p → T (pair_fits p)
         short p (q, x, m, f, g) =
             let h = all_at pair_fits t (T_of e) q m in
-            and_intro (fits p.from) (fits p.to) (shorter p.from q.from x f (and_left (fits q.from) (fits q.to) h)) (shorter p.to q.to x g (and_right (fits q.from) (fits q.to) h))
+            and_intro (fits p.from) (fits p.to) (shorter p.from q.from x f (and_left (fits q.from) (fits q.to) h))
+            (shorter p.to q.to x g (and_right (fits q.from) (fits q.to) h))
 
     pub within_limits : all pair_fits t ≡ true → length u ≤ max_pairs → followed a b ≡ Granted (record { shape = s; rows = u })
     unfolding granted

@@ -15,7 +15,7 @@ use Rattle.columns.proofs.Rows.{rows_length}
 use Rattle.columns.proofs.Rearranged.{froms_table, tos_table}
 use Rattle.operations.specs.Plans.{column, packed}
 use Rattle.operations.specs.Filled.{filling, filled_plan}
-use Rattle.operations.proofs.Values.{packed_words_lem}
+use Rattle.operations.proofs.Values.{packed_again}
 
 pub filling_is : (n : ℕ) (l : List ℕ) → n ≤ max_pairs → n ≤ length l → take n l ++ drop n (replicate 128 0) ≡ filling n l
 unfolding max_pairs
@@ -23,7 +23,7 @@ filling_is n l h k = ap (λ r. take n l ++ r) (drop-replicate n 128 0)
 
 -- a column of the words that n numbers hold
 column_of : (l : List ℕ) (n : ℕ) → length l ≡ n → column (words_of l) ≡ l ++ replicate (max_pairs - n) 0
-column_of l n e = ap₂ (λ f k. f ++ replicate (max_pairs - k) 0) (packed_words_lem l) (length-map l unpack ∙ e)
+column_of l n e = ap₂ (λ f k. f ++ replicate (max_pairs - k) 0) (packed_again l) (length-map l unpack ∙ e)
 
 pub filled_packed : (arity roots n : ℕ) (from to : List ℕ) → n ≤ length from → n ≤ length to
     → filled_plan arity roots n from to ≡ packed (record { shape = shape arity roots; rows = rows n from to })
@@ -45,4 +45,5 @@ pub filled_table : (arity roots : ℕ) (from to : List ℕ) → length from ≡ 
     → filled_plan arity roots (length from) from to ≡ packed (record { shape = shape arity roots; rows = table from to })
 filled_table arity roots from to e =
     filled_packed arity roots (length from) from to (omega arith) (omega arith)
-    ∙ ap₂ (λ f t. packed (record { shape = shape arity roots; rows = table f t })) (take-length from) (ap (λ n. take n to) e ∙ take-length to)
+    ∙ ap₂ (λ f t. packed (record { shape = shape arity roots; rows = table f t })) (take-length from)
+    (ap (λ n. take n to) e ∙ take-length to)

@@ -70,7 +70,9 @@ module _ (a : Plan) (h : is_plan a ≡ true) where
         pairs = identity s;
         raises = refl;
         held = e;
-        keeps = kept_of_member (shaped (identity s)) K.in_range (identity_granted s K.in_range) (identity_member s (arity_of_range s K.in_range));
+        keeps =
+            kept_of_member (shaped (identity s)) K.in_range (identity_granted s K.in_range)
+            (identity_member s (arity_of_range s K.in_range));
       }
 
   module _ (p : Plan) (i : ℕ) (r : Reached p i) where
@@ -92,7 +94,9 @@ module _ (a : Plan) (h : is_plan a ≡ true) where
       -- what was made, by whether the next power keeps the limits
       made : (b : Bool) → granted next ≡ b
           → m ≡ making (elim b as (λ _. HigmanAnswer) [ true ↦ Of.Granted (shaped next) | false ↦ Of.Refused Of.LimitBroken ])
-      made b g = e ∙ answered ∙ ap (λ b. making (elim b as (λ _. HigmanAnswer) [ true ↦ Of.Granted (shaped next) | false ↦ Of.Refused Of.LimitBroken ])) g
+      made b g =
+          e ∙ answered
+          ∙ ap (λ b. making (elim b as (λ _. HigmanAnswer) [ true ↦ Of.Granted (shaped next) | false ↦ Of.Refused Of.LimitBroken ])) g
 
       pub reached_next : (q : Plan) → m ≡ Ok q → Reached q (i + 1)
       reached_next q f = go (passes (granted next))
@@ -104,7 +108,10 @@ module _ (a : Plan) (h : is_plan a ≡ true) where
                 pairs = next;
                 raises = ap (raised s (rows_of a)) (add-one i) ∙ raised_next s (rows_of a) r.pairs i r.raises true g;
                 held = cc;
-                keeps = kept_of_member (shaped next) K.in_range (T_of g) (compose_member s (arity_of_range s K.in_range) r.pairs (rows_of a) (member_of_kept (shaped r.pairs) r.keeps).element (member_of_kept (plan_of a) K).element);
+                keeps =
+                    kept_of_member (shaped next) K.in_range (T_of g)
+                    (compose_member s (arity_of_range s K.in_range) r.pairs (rows_of a) (member_of_kept (shaped r.pairs) r.keeps).element
+                    (member_of_kept (plan_of a) K).element);
               }
           go (inr g) = let k = sym f ∙ made false g in cc
 
@@ -114,8 +121,8 @@ module _ (a : Plan) (h : is_plan a ≡ true) where
           go : (granted next ≡ true) ⊎ (granted next ≡ false) → Err x ≡ repeating (plan_of a) n
           go (inl g) = let k = sym f ∙ made true g in cc
           go (inr g) =
-              sym f ∙ made false g
-              ∙ sym (ap (λ o. repeated o s) (raised_stays s (rows_of a) (suc i) n (omega arith) (raised_next s (rows_of a) r.pairs i r.raises false g)))
+              let none = raised_next s (rows_of a) r.pairs i r.raises false g in
+              sym f ∙ made false g ∙ sym (ap (λ o. repeated o s) (raised_stays s (rows_of a) (suc i) n (omega arith) none))
 
   -- the power that was asked for
   pub reached_all : (p : Plan) (n : ℕ) → Reached p n → Ok p ≡ repeating (plan_of a) n

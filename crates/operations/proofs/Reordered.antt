@@ -41,22 +41,23 @@ keep_of_perm s n t u h E =
     (λ w v y e. (keep_acts s n t E w v y e, keep_acts s n u U w v y (image_of_perm t u h U.from_proper.apart w v e)))
 
 -- two columns of a table with bases for columns, and the same pairs sorted
-module _ (s : Shape) (n : 1 ≤ s.arity) (ks vs ks' vs' : List ℕ) (same : length ks ≡ length vs) (sorts : SortedPairs ks vs ks' vs') (b : Bases s (table ks vs)) where
+module _ (s : Shape) (n : 1 ≤ s.arity) (ks vs ks' vs' : List ℕ) (same : length ks ≡ length vs) (sorts : SortedPairs ks vs ks' vs')
+    (b : Bases s (table ks vs)) where
   element : Element s (table ks vs)
   element = element_of_bases s (table ks vs) n b
 
   sorted_element : Element s (table ks' vs')
   sorted_element = element_of_perm s (Permᴰ.symm sorts.rearranged.same_pairs) element
 
-  in_order_lem : ordered (froms (table ks' vs')) ≡ true
-  in_order_lem =
+  sorted_in_order : ordered (froms (table ks' vs')) ≡ true
+  sorted_in_order =
       ap ordered (froms_table ks' vs' (omega (arith, sorts.rearranged.keys_long, sorts.rearranged.values_long)))
       ∙ ordered_keys same sorts (subst Apart (froms_table ks vs same) element.from_proper.apart)
 
   pub reducible_sorted : Reducible s (table ks' vs')
   reducible_sorted =
       record {
-        in_order = in_order_lem;
+        in_order = sorted_in_order;
         column = column_of_proper s (froms (table ks' vs')) n sorted_element.from_proper;
         to_words = (column_of_proper s (tos (table ks' vs')) n sorted_element.to_proper).words;
       }
@@ -69,7 +70,8 @@ module _ (p : Plan) (few : p.pairs ≤ max_pairs) (range : T (shape_in_range (sh
   abbrev front : List ℕ → List ℕ
   front column = take p.pairs column
 
-  module _ (same : length (front p.from) ≡ length (front p.to)) {ks vs : List ℕ} (sorts : SortedPairs (front p.from) (front p.to) ks vs) where
+  module _ (same : length (front p.from) ≡ length (front p.to)) {ks vs : List ℕ}
+      (sorts : SortedPairs (front p.from) (front p.to) ks vs) where
     arity_low : 1 ≤ (shape_of p).arity
     arity_low = arity_of_range (shape_of p) range
 

@@ -22,7 +22,8 @@ same_number x y = go (passes (eqb x y)) (passes (same_word (unpack x) (unpack y)
     go : (eqb x y ≡ true) ⊎ (eqb x y ≡ false) → (same_word (unpack x) (unpack y) ≡ true) ⊎ (same_word (unpack x) (unpack y) ≡ false)
         → eqb x y ≡ same_word (unpack x) (unpack y)
     go (inl e) _ =
-        e ∙ sym (so (same_word (unpack x) (unpack x)) (same_word_refl (unpack x))) ∙ ap (λ z. same_word (unpack x) (unpack z)) (eqb-true x y e)
+        e ∙ sym (so (same_word (unpack x) (unpack x)) (same_word_refl (unpack x)))
+        ∙ ap (λ z. same_word (unpack x) (unpack z)) (eqb-true x y e)
     go (inr e) (inl f) = absurd (eqb-false x y e (unpack_injective x y (same_word_lem (unpack x) (unpack y) (T_of f))))
     go (inr e) (inr f) = e ∙ sym f
 

@@ -32,7 +32,8 @@ count_shifted : {A : Type 0} (g : ℕ → A) (a m : ℕ) → map g (count (suc a
 count_shifted g a zero = refl
 count_shifted g a (suc m) = ap (λ l. g (suc a) ∷ l) (count_shifted g (suc a) m)
 
-rows_by_place : (n : ℕ) (f t : List ℕ) → n ≤ length f → n ≤ length t → rows n f t ≡ map (λ i. pair_of (get_or f i 0) (get_or t i 0)) (count 0 n)
+rows_by_place : (n : ℕ) (f t : List ℕ) → n ≤ length f → n ≤ length t
+    → rows n f t ≡ map (λ i. pair_of (get_or f i 0) (get_or t i 0)) (count 0 n)
 rows_by_place zero f t h k = refl
 rows_by_place (suc n) [] t h k = absurd (omega arith)
 rows_by_place (suc n) (x ∷ f) [] h k = absurd (omega arith)
@@ -51,11 +52,12 @@ cleared place l zeros e =
     let long : length (take (length l - place) (drop place l)) ≡ length l - place = simp (length-take, length-drop) (omega arith) in
     let none : length (drop place l) ≤ length l - place = simp length-drop (omega arith) in
     ap (λ x. take place l ++ x)
-    (ap₂ ◌++◌ (e ∙ ap (λ n. replicate n 0) long) (drop_all (length l - place) (drop place l) none) ∙ append-nil (replicate (length l - place) 0))
+    (ap₂ ◌++◌ (e ∙ ap (λ n. replicate n 0) long) (drop_all (length l - place) (drop place l) none)
+    ∙ append-nil (replicate (length l - place) 0))
 
-pub packed_words_lem : (l : List ℕ) → map pack (words_of l) ≡ l
-packed_words_lem [] = refl
-packed_words_lem (x ∷ l) = ap₂ (λ y k. y ∷ k) (pack_unpack x) (packed_words_lem l)
+pub packed_again : (l : List ℕ) → map pack (words_of l) ≡ l
+packed_again [] = refl
+packed_again (x ∷ l) = ap₂ (λ y k. y ∷ k) (pack_unpack x) (packed_again l)
 
 -- the packed columns of the table that two columns hold at their first places
 module _ (k : ℕ) (f t : List ℕ) (h : k ≤ length f) (h' : k ≤ length t) where
@@ -63,10 +65,10 @@ module _ (k : ℕ) (f t : List ℕ) (h : k ≤ length f) (h' : k ≤ length t) w
   paired = length-take-le k f h ∙ sym (length-take-le k t h')
 
   pub packed_froms : map pack (froms (rows k f t)) ≡ take k f
-  packed_froms = ap (map pack) (froms_table (take k f) (take k t) paired) ∙ packed_words_lem (take k f)
+  packed_froms = ap (map pack) (froms_table (take k f) (take k t) paired) ∙ packed_again (take k f)
 
   pub packed_tos : map pack (tos (rows k f t)) ≡ take k t
-  packed_tos = ap (map pack) (tos_table (take k f) (take k t) paired) ∙ packed_words_lem (take k t)
+  packed_tos = ap (map pack) (tos_table (take k f) (take k t) paired) ∙ packed_again (take k t)
 
 -- the columns that a reduction has written, once they are cleared behind its pairs
 pub kept_columns : (s : Shape) (t : Table) (of ot of₀ ot₀ of' ot' : List ℕ) (r : ℕ) → r ≤ length of → r ≤ length ot → rows r of ot

@@ -32,7 +32,8 @@ fn sorted_fault(words: &[u64], shape: Shape) -> Result<(), Reason>
     Ok(())
 }
 
-// What is wrong with a column whose words are the keys of some pairs. The pairs are left sorted by them.
+// What is wrong with a column whose words are the keys of some pairs. The pairs are left sorted by them. (kept: two columns, and not one
+// value of both, since `sort` writes into either.)
 fn fault_in(keys: &mut [u64], values: &mut [u64], shape: Shape) -> Result<(), Reason>
     requires { (length keys.old ≡ length values.old) × T (shape_in_range (the_shape shape)) × (length keys.old ≤ max_pairs)
         × T (all (is_word (the_shape shape)) (words_of keys.old)) }

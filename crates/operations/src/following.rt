@@ -33,7 +33,7 @@ pub fn padded(column: &[u64], n: usize) -> [u64; MAX_PAIRS]
     places
 }
 
-// The plan of the pairs of two columns.
+// The plan of the pairs of two columns. (kept: two columns, and not one value of both, as in keeping.rt.)
 fn filled(from: &[u64], to: &[u64], shape: Shape) -> Plan
     requires { (length from.now ≤ max_pairs) × (length from.now ≡ length to.now) }
     ensures { result ≡ packed (record { shape = the_shape shape; rows = table from.now to.now }) }

@@ -1,5 +1,6 @@
 // Keeping (document 01, "Plans"): "Kept plans are reduced, with from-words in order of the first digit that differs". Pairs are kept by
-// sorting them, reducing them into fresh columns and clearing what joins have left behind the pairs.
+// sorting them, reducing them into fresh columns and clearing what joins have left behind the pairs. (kept: two columns side by side, and
+// not one value of both. They are sorted in place or made apart by those who call, and hold no kept plan yet, as `Lent` does.)
 ghost use Rattle.std.specs.Prelude.{◌≡◌, ◌≤◌, T, length};
 ghost use Rattle.higman.specs.Normal.{keep};
 ghost use Rattle.higman.specs.Limits.{Bases, shape_in_range, max_pairs};

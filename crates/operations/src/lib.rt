@@ -60,7 +60,8 @@ impl Plan {
     }
 }
 
-// "the verdict on a plan names the column and, within it, the reason": kept as cases that hold the reason, since document 01 names this form.
+// "the verdict on a plan names the column and, within it, the reason": kept as cases that hold the reason, since document 01 names this
+// form.
 #[derive(Clone, Copy, PartialEq, Eq, Debug)]
 pub enum Fault {
     InFrom(Reason),
