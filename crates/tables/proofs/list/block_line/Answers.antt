@@ -5,29 +5,8 @@ use Rattle.tables.specs.Lines.{placed}
 use Rattle.tables.proofs.Records.{fields_size, block_size}
 use Rattle.tables.proofs.list.block_line.Goals as goal
 
-pub pair_fields-place_at-requires : goal.pair_fields-place_at-requires
-pair_fields-place_at-requires c =
-    let a = c.args in
-    let l = placed a.place a.from a.to in
-    omega (arith, fields_size 66 l.pair, block_size l)
-
-pub put_decimal-end_at-requires : goal.put_decimal-end_at-requires
-put_decimal-end_at-requires c =
-    let a = c.args in
-    let l = placed a.place a.from a.to in
-    omega (arith, fields_size 66 l.pair, block_size l)
-
-pub put-requires : goal.put-requires
-put-requires c =
-    let a = c.args in
-    let l = placed a.place a.from a.to in
-    omega (arith, fields_size 66 l.pair, block_size l)
-
 pub returns : goal.returns
 returns c =
-    let end = c.before.before in
-    let number = end.before.before.before.before in
-    let fields = number.before.before.before.before in
     let a = c.args in
     let l = placed a.place a.from a.to in
     let first = fields_size 66 l.pair in

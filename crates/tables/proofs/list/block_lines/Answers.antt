@@ -1,23 +1,17 @@
 -- `tables::list::block_lines` meets its contract: each turn writes the line of its pair, the first of those that are left.
 use Prim.Native.Nat.{ℕ, ◌+◌, ◌≤◌, ◌<◌}
-use mathlib.Core.Path.{◌≡◌, refl, ap, subst}
+use mathlib.Core.Path.{◌≡◌, refl, ap}
 use mathlib.Core.List.{List, ◌++◌}
 use native.Mathlib.Omega.{arith}
 use lib.ListN.{length, get_or}
 use Rattle.higman.specs.Limits.{max_pairs}
-use Rattle.words.specs.Writing.{Wrote}
 use Rattle.tables.specs.Lines.{placed, block_line, block_lines, BlockFits}
-use Rattle.tables.proofs.Records.{block_step, block_none, none_written, line_room, line_written, all_written}
+use Rattle.tables.proofs.Records.{block_step, line_room, line_written}
 use Rattle.tables.proofs.list.block_lines.Invariants.{lines_from}
 use Rattle.tables.proofs.list.block_lines.Goals as goal
 
 from_start : (first : ℕ) (from to : List ℕ) → lines_from first from to 0 ≡ block_lines first from to
 from_start first from to = ap (λ k. block_lines k from to) (omega arith)
-
-pub loop-i-init : goal.loop-i-init
-loop-i-init c =
-    let a = c.args in
-    none_written (lines_from a.first a.from.now a.to.now) (length a.from.now) a.out.now a.at
 
 -- places are small
 pub overflow_add-first : goal.overflow_add-first
@@ -57,16 +51,3 @@ loop-i-preserved c =
     let i = c.loop-i.i in
     line_written (lines_from a.first from to) (length from) a.out.now a.at c.loop-i.invariant (line_here a.first from to i)
     (room c.requires) (step i c.requires (omega arith)) _ refl (omega arith) (omega arith) c.block_line-next.ensures
-
-pub shape_of-out : goal.shape_of-out
-shape_of-out c = c.loop-i.invariant.long
-
-pub returns : goal.returns
-returns c =
-    let a = c.args in
-    let from = a.from.now in
-    let to = a.to.now in
-    let first = a.first in
-    subst (λ x. Wrote x a.out.now a.at c.loop-i.out c.loop-i.next) (from_start first from to)
-    (all_written (lines_from first from to) (length from) a.out.now a.at c.loop-i.invariant
-    (block_none from to c.loop-i.i (first + c.loop-i.i) (omega arith)))

@@ -7,29 +7,8 @@ use Rattle.words.proofs.Runs.{wrote_then}
 use Rattle.tables.proofs.Records.{listing_size}
 use Rattle.tables.proofs.list.list_into.Goals as goal
 
-pub open_line-pairs_at-requires : goal.open_line-pairs_at-requires
-open_line-pairs_at-requires c =
-    let a = c.args in
-    let size = listing_size a.slot (shape_of a.shape) (table a.from.now a.to.now) in
-    (c.requires.0, c.requires.1, omega arith)
-
-pub pair_lines-close_at-requires : goal.pair_lines-close_at-requires
-pair_lines-close_at-requires c =
-    let a = c.args in
-    let size = listing_size a.slot (shape_of a.shape) (table a.from.now a.to.now) in
-    omega arith
-
-pub close_line-requires : goal.close_line-requires
-close_line-requires c =
-    let a = c.args in
-    let size = listing_size a.slot (shape_of a.shape) (table a.from.now a.to.now) in
-    omega arith
-
 pub returns : goal.returns
 returns c =
-    let close = c.before.before in
-    let pairs = close.before.before.before.before in
-    let first = pairs.before.before.before.before in
     let a = c.args in
     let size = listing_size a.slot (shape_of a.shape) (table a.from.now a.to.now) in
     wrote_then

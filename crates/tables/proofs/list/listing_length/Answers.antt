@@ -1,12 +1,10 @@
 -- `tables::list::listing_length` meets its contract: each turn adds the length of a record that is left.
 use Prim.Native.Nat.{◌^◌, ◌≤◌, ◌<◌}
-use mathlib.Core.Path.{ap}
 use native.Mathlib.Omega.{arith}
 use lib.ListN.{length, length-append}
-use Rattle.std.proofs.lemmas.Slice.Zip.{zip_turn, zip_end}
+use Rattle.std.proofs.lemmas.Slice.Zip.{zip_turn}
 use Rattle.higman.specs.Limits.{max_pairs}
-use Rattle.columns.specs.Packed.{table}
-use Rattle.tables.proofs.Records.{pair_small, listing_size, lines_size, lines_none}
+use Rattle.tables.proofs.Records.{pair_small, lines_size}
 use Rattle.tables.proofs.list.listing_length.Goals as goal
 
 -- the record of one pair is small
@@ -32,12 +30,3 @@ loop-f-preserved c =
     let rest = lines_size c.args.from.now c.args.to.now (length c.loop-f.yielded) h (omega arith) (e 0) (e' 0) in
     let small = small_record c in
     rw length-append record { sized = omega arith; within = omega arith; small = omega arith }
-
-pub returns : goal.returns
-returns c slot s =
-    let a = c.args in
-    let all =
-    zip_end a.from.now a.to.now c.loop-f.yielded _ _ c.next.new.self _ (cc) (cc) c.loop-f.yielded_by
-    c.in-None.is c.next.ensures.steps in
-    let none = lines_none a.from.now a.to.now (length c.loop-f.yielded) (omega (arith, all)) in
-    omega (arith, ap length none, listing_size slot s (table a.from.now a.to.now))

@@ -1,5 +1,4 @@
--- `tables::list::open_line` meets its contract: the letter, the three fields and the line end are one run. Each of the five calls stands
--- four records behind the next, and the two calls of `byte` before them say the digits' bytes.
+-- `tables::list::open_line` meets its contract: the letter, the three fields and the line end are one run.
 use Prim.Native.Nat.{ℕ}
 use mathlib.Core.Path.{◌≡◌, subst}
 use mathlib.Core.List.{List, [], ◌∷◌}
@@ -15,12 +14,6 @@ field_of {l = l} {l' = l'} {at = at} {e = e} q w = subst (λ x. Wrote (tab ∷ x
 
 pub returns : goal.returns
 returns c =
-    let end = c.before.before in
-    let roots = end.before.before.before.before in
-    let arity = roots.before.before.before.before in
-    let slot = arity.before.before.before.before in
-    let letter = slot.before.before.before.before in
-    let bytes = letter.before.before in
     wrote_then
     (omega arith)
     c.put-slot_at.ensures

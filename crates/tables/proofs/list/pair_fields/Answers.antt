@@ -7,21 +7,8 @@ use Rattle.words.proofs.Runs.{word_size, wrote_then}
 use Rattle.tables.proofs.Records.{fields_size}
 use Rattle.tables.proofs.list.pair_fields.Goals as goal
 
-pub put_word-to_at-requires : goal.put_word-to_at-requires
-put_word-to_at-requires c =
-    let a = c.args in
-    omega (arith, fields_size a.letter (pair_of a.from a.to))
-
-pub put_word-requires : goal.put_word-requires
-put_word-requires c =
-    let a = c.args in
-    omega (arith, fields_size a.letter (pair_of a.from a.to), word_size (unpack a.from))
-
 pub returns : goal.returns
 returns c =
-    let to = c.before.before in
-    let from = to.before.before.before.before in
-    let letter = from.before.before.before.before in
     let a = c.args in
     let size = fields_size a.letter (pair_of a.from a.to) in
     let left = word_size (unpack a.from) in

@@ -14,9 +14,6 @@ use Rattle.tables.proofs.routing.front.Goals as goal
 pub pack-requires : goal.pack-requires
 pack-requires c = omega (arith, limit)
 
-pub slice_bounds-pack-end : goal.slice_bounds-pack-end
-slice_bounds-pack-end c = sym (length-take-le 16 c.args.code.now (omega arith))
-
 pub pack-requires-else-code-le-MAX_DIGITS : goal.pack-requires-else-code-le-MAX_DIGITS
 pack-requires-else-code-le-MAX_DIGITS c = omega (arith, limit, length-take-le 16 c.args.code.now (omega arith))
 

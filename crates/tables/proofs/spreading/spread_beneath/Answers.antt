@@ -17,7 +17,7 @@ use Rattle.tables.specs.Spread.{beneath}
 use Rattle.tables.specs.Spreading.{pair}
 use Rattle.tables.proofs.Lookup.{packed_at, packed_zero, packed_tail}
 use Rattle.tables.proofs.Beneath.{none_before, none_behind, beneath_skip, beneath_stop, beneath_take}
-use Rattle.tables.proofs.Extending.{Lot, filling_start, filling_end, filling_room, filling_broken, filling_step}
+use Rattle.tables.proofs.Extending.{Lot, filling_start, filling_end, filling_broken, filling_step}
 use Rattle.tables.proofs.spreading.spread_beneath.Invariants.{left}
 use Rattle.tables.proofs.spreading.spread_beneath.Goals as goal
 
@@ -69,16 +69,6 @@ put-requires-clause-t c =
         (packed_at a.b.to.now c.requires.operand.plain.to_packed i (omega (arith, c.requires.operand.plain.long)), packed_zero),
       ),
     )
-
-pub put-requires-clause-n_in_bounds : goal.put-requires-clause-n_in_bounds
-put-requires-clause-n_in_bounds c =
-    let a = c.args in
-    let i = c.loop-i.i in
-    let here =
-    turn a.u a.v a.b.from.now a.b.to.now i c.tail-tail.result
-    (omega arith) (omega (arith, c.requires.operand.plain.long)) c.tail-tail.ensures in
-    let room = filling_room c.loop-i.invariant here c.requires.room in
-    (omega arith, omega arith)
 
 pub returns-in_err-rows : goal.returns-in_err-rows
 returns-in_err-rows c =

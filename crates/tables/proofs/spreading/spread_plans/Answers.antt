@@ -2,16 +2,15 @@
 use Prim.Native.Nat.{ℕ, ◌+◌, ◌<◌}
 use mathlib.Core.Path.{◌≡◌, sym, ◌∙◌, ap, ap₂}
 use mathlib.Core.List.{List, ◌++◌}
-use native.Mathlib.Omega.{arith}
-use lib.ListN.{length, get_or, drop, drop_of_length-le, length-append}
-use Rattle.std.proofs.lemmas.Slice.Zip.{zip_turn, zip_end}
+use lib.ListN.{length, get_or, length-append}
+use Rattle.std.proofs.lemmas.Slice.Zip.{zip_turn}
 use Rattle.higman.specs.Tables.{Table}
 use Rattle.words.specs.Packed.{unpack}
 use Rattle.columns.specs.Packed.{table}
 use Rattle.tables.specs.Spread.{spread_pair, spread}
 use Rattle.tables.specs.Spreading.{pair}
 use Rattle.tables.proofs.Lookup.{table_left, packed_at}
-use Rattle.tables.proofs.Extending.{Lot, filling_end, filling_room, filling_broken, filling_step}
+use Rattle.tables.proofs.Extending.{Lot, filling_broken, filling_step}
 use Rattle.tables.proofs.spreading.spread_plans.Invariants.{left}
 use Rattle.tables.proofs.spreading.spread_plans.Goals as goal
 
@@ -33,15 +32,6 @@ spread_pair-requires-clause-t c =
     c.in-Some.is c.next.ensures.steps in
     rw (e 0, e' 0) (packed_at a.a_from.now c.requires.plain.from_packed _ h, packed_at a.a_to.now c.requires.plain.to_packed _ k)
 
-pub spread_pair-requires-clause-room : goal.spread_pair-requires-clause-room
-spread_pair-requires-clause-room c =
-    let a = c.args in
-    let (h, k, e, e') =
-    zip_turn a.a_from.now a.a_to.now c.loop-u.yielded _ _ c.next.new.self _ (cc) (cc) c.loop-u.yielded_by _
-    c.in-Some.is c.next.ensures.steps in
-    let here = turn a.a_from.now a.a_to.now (table a.b_from.now a.b_to.now) (length c.loop-u.yielded) _ _ h k (e 0) (e' 0) in
-    filling_room c.loop-u.invariant here c.requires.room
-
 pub returns-in_err-rows : goal.returns-in_err-rows
 returns-in_err-rows c =
     let a = c.args in
@@ -59,13 +49,3 @@ loop-u-preserved c =
     c.in-Some.is c.next.ensures.steps in
     let here = turn a.a_from.now a.a_to.now (table a.b_from.now a.b_to.now) (length c.loop-u.yielded) _ _ h k (e 0) (e' 0) in
     rw length-append (filling_step c.loop-u.invariant here c.in_ok-rows.ensures c.spread_pair.auto.froms c.spread_pair.auto.tos)
-
-pub returns : goal.returns
-returns c =
-    let a = c.args in
-    let all =
-    zip_end a.a_from.now a.a_to.now c.loop-u.yielded _ _ c.next.new.self _ (cc) (cc) c.loop-u.yielded_by
-    c.in-None.is c.next.ensures.steps in
-    filling_end c.loop-u.invariant
-    (ap (λ f. spread (table f (drop (length c.loop-u.yielded) a.a_to.now)) (table a.b_from.now a.b_to.now))
-    (drop_of_length-le a.a_from.now (omega (arith, all, c.requires.plain.long))))
