@@ -1,6 +1,7 @@
 -- What is answered where a plan is made or two are compared: the answers of higman, with the plan that is made or the refusal. Read
 -- Closing.antt next.
-use Rattle.std.specs.Prelude.{ℕ, ◌≡◌, refl, Bool, true, [], ◌∷◌, map, Result, Ok, Err}
+use Rattle.std.specs.Prelude.{ℕ, ◌≡◌, refl, Bool, true, false, [], ◌∷◌, map, Result, Ok, Err}
+use Rattle.std.specs.Result.{result_unwrap_or}
 use Rattle.std.proofs.Math.Option.{Option, none, some}
 use Rattle.higman.specs.Words.{Shape}
 use Rattle.higman.specs.Tables.{Table, row, φ, ψ}
@@ -12,7 +13,7 @@ use Rattle.words.specs.Bytes.{shape}
 use Rattle.operations.specs.declared.Plan.{Plan}
 use Rattle.operations.specs.declared.refusals.Refusal.{Refusal}
 use Rattle.operations.specs.declared.refusals.Refusal.TheVariants as The
-use Rattle.operations.specs.Refusals.{refusal}
+use Rattle.operations.specs.Refusals.{refusal, answer_number}
 use Rattle.operations.specs.Plans.{plan_of, packed}
 
 -- the plan that is made, or the refusal
@@ -40,6 +41,11 @@ likeness (Of.NotCompared r) = Err (refusal r)
 
 likeness_example : map likeness (Of.Alike true ∷ Of.NotCompared Of.ShapesDiffer ∷ []) ≡ Ok true ∷ Err The.ShapesDiffer ∷ []
 likeness_example = refl
+
+-- the number of a refusal, 0 where plans were compared, and what the comparison found
+likeness_number_example : (map answer_number (Ok true ∷ Err The.ShapesDiffer ∷ []) ≡ 0 ∷ 10 ∷ [])
+    × (map (λ r. result_unwrap_or r false) (Ok true ∷ Err The.ShapesDiffer ∷ []) ≡ true ∷ false ∷ [])
+likeness_number_example = (refl, refl)
 
 -- a value of shape (2,1), for examples
 abbrev pub value21 : Table → Plan
