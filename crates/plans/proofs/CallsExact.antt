@@ -42,10 +42,9 @@ use Rattle.columns.specs.Packed.{words_of}
 use Rattle.tables.specs.declared.routing.Image.{Image}
 use Rattle.tables.specs.Routing.{matched_digits}
 use Rattle.operations.specs.declared.Plan.{Plan}
-use Rattle.operations.specs.declared.Column.{Column}
-use Rattle.operations.specs.declared.Column.TheVariants.{From, To}
-use Rattle.operations.specs.declared.Reason.{Reason}
+use Rattle.operations.specs.declared.Fault.TheVariants.{InFrom, InTo}
 use Rattle.operations.specs.declared.Reason.TheVariants.{Overlap, Gap}
+use Rattle.operations.specs.declared.Route.TheVariants as Reply
 use Rattle.operations.specs.declared.refusals.Refusal.{Refusal}
 use Rattle.operations.specs.declared.refusals.Refusal.TheVariants as The
 use Rattle.plans.specs.declared.Rejection.{Rejection}
@@ -191,16 +190,13 @@ abbrev judged_by : Bool → Bool → Bool → Bool → Result (Unit {0}) Rejecti
 judged_by a b c d = judgement_of (verdict_by (fault_by a b) (fault_by c d))
 
 -- what the checks have found where a draft is judged so
-abbrev FoundIn : Column → Reason → Bool → Bool → Bool → Bool → Type 0
-FoundIn From Overlap a b c d = a ≡ true
-FoundIn From Gap a b c d = (a ≡ false) × (b ≡ true)
-FoundIn To Overlap a b c d = (a ≡ false) × (b ≡ false) × (c ≡ true)
-FoundIn To Gap a b c d = (a ≡ false) × (b ≡ false) × (c ≡ false) × (d ≡ true)
-
 abbrev Found : Result (Unit {0}) Rejection → Bool → Bool → Bool → Bool → Type 0
 Found (Ok x) a b c d = (a ≡ false) × (b ≡ false) × (c ≡ false) × (d ≡ false)
 Found (Err NotADraft) a b c d = ⊥
-Found (Err (Faulty f)) a b c d = FoundIn f.column f.reason a b c d
+Found (Err (Faulty (InFrom Overlap))) a b c d = a ≡ true
+Found (Err (Faulty (InFrom Gap))) a b c d = (a ≡ false) × (b ≡ true)
+Found (Err (Faulty (InTo Overlap))) a b c d = (a ≡ false) × (b ≡ false) × (c ≡ true)
+Found (Err (Faulty (InTo Gap))) a b c d = (a ≡ false) × (b ≡ false) × (c ≡ false) × (d ≡ true)
 
 found_of_judged : (a b c d : Bool) → Found (judged_by a b c d) a b c d
 found_of_judged true b c d = refl
@@ -209,16 +205,13 @@ found_of_judged false false true d = (refl, refl, refl)
 found_of_judged false false false true = (refl, refl, refl, refl)
 found_of_judged false false false false = (refl, refl, refl, refl)
 
-faulty_of_found : (k : Column) (r : Reason) (a b c d : Bool) → FoundIn k r a b c d → judged_by a b c d ≡ faulty k r
-faulty_of_found From Overlap a b c d e = rw (e, judged_by)
-faulty_of_found From Gap a b c d (e, f) = rw (e, f, judged_by)
-faulty_of_found To Overlap a b c d (e, f, g) = rw (e, f, g, judged_by)
-faulty_of_found To Gap a b c d (e, f, g, h) = rw (e, f, g, h, judged_by)
-
 judged_of_found : (j : Result (Unit {0}) Rejection) (a b c d : Bool) → Found j a b c d → judged_by a b c d ≡ j
 judged_of_found (Ok x) a b c d (e, f, g, h) = rw (e, f, g, h, judged_by)
 judged_of_found (Err NotADraft) a b c d f = absurd f
-judged_of_found (Err (Faulty f)) a b c d k = faulty_of_found f.column f.reason a b c d k
+judged_of_found (Err (Faulty (InFrom Overlap))) a b c d e = rw (e, judged_by)
+judged_of_found (Err (Faulty (InFrom Gap))) a b c d (e, f) = rw (e, f, judged_by)
+judged_of_found (Err (Faulty (InTo Overlap))) a b c d (e, f, g) = rw (e, f, g, judged_by)
+judged_of_found (Err (Faulty (InTo Gap))) a b c d (e, f, g, h) = rw (e, f, g, h, judged_by)
 
 module _ (v : Plan) (draft : is_draft v ≡ true) where
   abbrev s : Shape
@@ -274,15 +267,15 @@ module _ (v : Plan) (draft : is_draft v ≡ true) where
   draft_judged =
       record {
         accepted = (accepted_bases, bases_accepted);
-        from_overlaps = judged_exactly (faulty From Overlap);
-        from_has_gap = judged_exactly (faulty From Gap);
+        from_overlaps = judged_exactly (faulty (InFrom Overlap));
+        from_has_gap = judged_exactly (faulty (InFrom Gap));
         to_overlaps = (
-          λ e. let (a, b, c) = (judged_exactly (faulty To Overlap)).0 e in (from_basis.1 (a, b), c),
-          λ f. let (a, b) = from_basis.0 f.0 in (judged_exactly (faulty To Overlap)).1 (a, b, f.1),
+          λ e. let (a, b, c) = (judged_exactly (faulty (InTo Overlap))).0 e in (from_basis.1 (a, b), c),
+          λ f. let (a, b) = from_basis.0 f.0 in (judged_exactly (faulty (InTo Overlap))).1 (a, b, f.1),
         );
         to_has_gap = (
-          λ e. let (a, b, c, d) = (judged_exactly (faulty To Gap)).0 e in (from_basis.1 (a, b), c, d),
-          λ f. let (a, b) = from_basis.0 f.0 in (judged_exactly (faulty To Gap)).1 (a, b, f.1, f.2),
+          λ e. let (a, b, c, d) = (judged_exactly (faulty (InTo Gap))).0 e in (from_basis.1 (a, b), c, d),
+          λ f. let (a, b) = from_basis.0 f.0 in (judged_exactly (faulty (InTo Gap))).1 (a, b, f.1, f.2),
         );
       }
 
@@ -356,10 +349,10 @@ module _ (v : Plan) (code : List ℕ) (y : CodeTaken v code) where
     unfolding routed_buffer
     buffer_by = rw (y.plan, routed_buffer) (ap (λ z. image_into z out) e)
 
-  too_short : (out : List ℕ) → ProperBeginning v code → RouteRefused v code out 13
+  too_short : (out : List ℕ) → ProperBeginning v code → RouteRefused v code out Reply.TooShort 13
   too_short out b =
       let short = short_exactly.1 (b.pair, b.way, b.ways, b.among, b.longer) in
-      record { answer = refuses The.CodeTooShort (sym (routing_by_lem out Of.TooShort short)); buffer = buffer_by out Of.TooShort short }
+      record { answer = routing_by_lem out Of.TooShort short; numbered = refl; buffer = buffer_by out Of.TooShort short }
 
   module _ (out : List ℕ) (x : Word) (e : image (rows_of v) (word_of code) ≡ some x) where
     abbrev size : ℕ
@@ -368,12 +361,13 @@ module _ (v : Plan) (code : List ℕ) (y : CodeTaken v code) where
     abbrev in_front : Image
     in_front = record { length = size; place = place }
 
-    no_room : length out < length x → RouteRefused v code out 14
+    no_room : length out < length x → RouteRefused v code out (Reply.Refused The.BufferTooShort) 14
     no_room h =
         let over : length out < size = omega (arith, length-map x digit_byte) in
         record {
-          answer = refuses The.BufferTooShort
-              (sym (routing_by_lem out (Of.Image x) (routed_by (some x) e) ∙ without_room size (length out) (Ok in_front) (Err The.BufferTooShort) over));
+          answer = routing_by_lem out (Of.Image x) (routed_by (some x) e)
+              ∙ without_room size (length out) (Reply.Image in_front) (Reply.Refused The.BufferTooShort) over;
+          numbered = refl;
           buffer = buffer_by out (Of.Image x) (routed_by (some x) e) ∙ lent_as_it_was (word_bytes x) out over;
         }
 
@@ -389,7 +383,7 @@ module _ (v : Plan) (code : List ℕ) (y : CodeTaken v code) where
         let to : RoutesTo v code out (word_bytes x) place =
         record {
           answer = routing_by_lem out (Of.Image x) (routed_by (some x) e)
-              ∙ with_room size (length out) (Ok in_front) (Err The.BufferTooShort) room;
+              ∙ with_room size (length out) (Reply.Image in_front) (Reply.Refused The.BufferTooShort) room;
           front = ap (take size) held ∙ take-append_seam (word_bytes x) (drop size out);
           rest = ap (drop size) held ∙ drop-append_seam (word_bytes x) (drop size out);
         }
@@ -404,8 +398,8 @@ routing_exact : RoutingExact
 routing_exact =
     record {
       codes = code_exactly;
-      no_plan_lem = λ v code out h. let r = routing_no_plan v code out h in record { answer = refuses The.InvalidValue r.0; buffer = sym r.1 };
-      no_code = λ v code out h k. let r = routing_no_code v code h out k in record { answer = refuses The.BadWord r.0; buffer = sym r.1 };
+      no_plan_lem = λ v code out h. let r = routing_no_plan v code out h in record { answer = sym r.0; numbered = refl; buffer = sym r.1 };
+      no_code = λ v code out h k. let r = routing_no_code v code h out k in record { answer = sym r.0; numbered = refl; buffer = sym r.1 };
       image_or_short = image_or_short;
       too_short = λ v code out y. too_short v code y out;
       no_room = λ v code out x y. no_room v code y out x;
@@ -579,8 +573,9 @@ answers_numbered =
       not_compared = λ r. refl;
       listed = λ n. refl;
       not_listed = λ r. refl;
-      routed = λ i. refl;
-      not_routed = λ r. refl;
+      routed = λ i. (refl, refl, refl);
+      too_short = (refl, refl);
+      not_routed = λ r. (refl, refl);
       numbers = refl;
       verdicts = refl;
       verdict_columns = refl;

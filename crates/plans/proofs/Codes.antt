@@ -4,7 +4,6 @@ use mathlib.Core.Path.{◌≡◌, sym, ◌∙◌, ap, ap₂}
 use mathlib.Core.Bool.{true, false}
 use mathlib.Core.List.{List}
 use lib.ListN.{length}
-use Rattle.std.proofs.Common.{Err}
 use Rattle.higman.specs.Tables.{froms}
 use Rattle.higman.specs.Limits.{is_code}
 use Rattle.higman.specs.Answers.{routed}
@@ -14,6 +13,7 @@ use Rattle.columns.specs.Packed.{words_of}
 use Rattle.columns.proofs.Rearranged.{froms_table}
 use Rattle.operations.specs.declared.Plan.{Plan}
 use Rattle.operations.specs.declared.lent.Lent.{Lent}
+use Rattle.operations.specs.declared.Route.TheVariants.{Refused}
 use Rattle.operations.specs.declared.refusals.Refusal.TheVariants.{BadWord, InvalidValue}
 use Rattle.operations.specs.Plans.{shape_of, rows_of, plan_of, is_plan, lent_plan}
 use Rattle.operations.specs.Routing.{matched_in, matched_place_in, routing_by, image_into}
@@ -29,7 +29,7 @@ module _ (p : Plan) (code : List ℕ) where
   place_no_plan h = rw (h, matched_place)
 
   pub routing_no_plan : (out : List ℕ) → is_plan p ≡ false
-      → (Err InvalidValue ≡ routing p code (length out)) × (out ≡ routed_buffer p code out)
+      → (Refused InvalidValue ≡ routing p code (length out)) × (out ≡ routed_buffer p code out)
   unfolding routing routed_buffer
   routing_no_plan out h = (sym (rw (h, routing)), sym (rw (h, routed_buffer)))
 
@@ -43,7 +43,7 @@ module _ (p : Plan) (code : List ℕ) where
     buffer_plan out = sym (rw (h, routed_buffer))
 
     pub routing_no_code : (out : List ℕ) → is_code (shape_of p) (word_of code) ≡ false
-        → (Err BadWord ≡ routing p code (length out)) × (out ≡ routed_buffer p code out)
+        → (Refused BadWord ≡ routing p code (length out)) × (out ≡ routed_buffer p code out)
     unfolding routing routed_buffer routed
     routing_no_code out k = (sym (rw (h, k, routing, routed)), sym (rw (h, k, routed_buffer, routed)))
 

@@ -9,11 +9,10 @@ use Rattle.higman.specs.Answers as Of
 use Rattle.words.specs.Packed.{pack_on, pack, unpack_in, unpack}
 use Rattle.words.specs.Bytes.{shape}
 use Rattle.operations.specs.declared.Plan.{Plan}
-use Rattle.operations.specs.declared.Column.{Column}
 use Rattle.operations.specs.declared.Column.TheVariants.{From, To}
-use Rattle.operations.specs.declared.Reason.{Reason}
 use Rattle.operations.specs.declared.Reason.TheVariants.{Overlap, Gap}
 use Rattle.operations.specs.declared.Fault.{Fault}
+use Rattle.operations.specs.declared.Fault.TheVariants.{InFrom, InTo}
 use Rattle.operations.specs.declared.lent.Lent.{Lent}
 use Rattle.operations.specs.declared.refusals.Refusal.{Refusal}
 use Rattle.operations.specs.declared.refusals.Refusal.TheVariants as The
@@ -36,18 +35,20 @@ unfoldable pub judged : Plan → Result (Unit {0}) Rejection
 judged p = elim (is_draft p) [ true ↦ judgement_of (Of.verdict (shape_of p) (rows_of p)) | false ↦ Err NotADraft ]
 
 -- a draft with a fault in a column
-abbrev pub faulty : Column → Reason → Result (Unit {0}) Rejection
-faulty c r = Err (Faulty (record { column = c; reason = r }))
+abbrev pub faulty : Fault → Result (Unit {0}) Rejection
+faulty f = Err (Faulty f)
 
 -- the number that a draft is refused with
 abbrev pub rejection_number : Rejection → ℕ
 rejection_number NotADraft = invalid_value
-rejection_number (Faulty f) = reason_number f.reason
+rejection_number (Faulty (InFrom r)) = reason_number r
+rejection_number (Faulty (InTo r)) = reason_number r
 
 -- "those of E for a column add ⇥F or ⇥T (from, to)"
 abbrev pub rejection_column : Rejection → ℕ
 rejection_column NotADraft = 0
-rejection_column (Faulty f) = letter_of f.column
+rejection_column (Faulty (InFrom r)) = letter_of From
+rejection_column (Faulty (InTo r)) = letter_of To
 
 -- the number and the letter of a judgement, 0 where it refuses nothing
 abbrev pub judgement_number : Result (Unit {0}) Rejection → ℕ
@@ -98,15 +99,15 @@ LentBy p (Ok l) = (is_plan p ≡ true) × (lent_plan l ≡ plan_of p)
 LentBy p (Err e) = (is_plan p ≡ false) × (e ≡ The.InvalidValue)
 
 -- "6, one word begins or equals another; 7, a belt isn't covered", with the column's letter
-judgement_number_example : map judgement_number (Ok tt ∷ faulty From Overlap ∷ faulty To Gap ∷ Err NotADraft ∷ []) ≡ 0 ∷ 6 ∷ 7 ∷ 15 ∷ []
+judgement_number_example : map judgement_number (Ok tt ∷ faulty (InFrom Overlap) ∷ faulty (InTo Gap) ∷ Err NotADraft ∷ []) ≡ 0 ∷ 6 ∷ 7 ∷ 15 ∷ []
 judgement_number_example = refl
 
-judgement_column_example : map judgement_column (Ok tt ∷ faulty From Overlap ∷ faulty To Gap ∷ Err NotADraft ∷ []) ≡ 0 ∷ 70 ∷ 84 ∷ 0 ∷ []
+judgement_column_example : map judgement_column (Ok tt ∷ faulty (InFrom Overlap) ∷ faulty (InTo Gap) ∷ Err NotADraft ∷ []) ≡ 0 ∷ 70 ∷ 84 ∷ 0 ∷ []
 judgement_column_example = refl
 
 -- "11→11, 12→12 is kept as 1→1, one pair"; "to column 1, 11: 6, T"; no draft
 keeping_example : map keeping (value21 (row 11 11 ∷ row 12 12 ∷ []) ∷ value21 (row 11 1 ∷ row 12 11 ∷ []) ∷ blank ∷ [])
-    ≡ Ok (value21 (row 1 1 ∷ [])) ∷ Err (Faulty (record { column = To; reason = Overlap })) ∷ Err NotADraft ∷ []
+    ≡ Ok (value21 (row 1 1 ∷ [])) ∷ Err (Faulty (InTo Overlap)) ∷ Err NotADraft ∷ []
 unfolding keeping judged is_draft in_table shape_in_range granted max_pairs max_digits Of.verdict keep normal_form normal joined packed blank pack pack_on unpack unpack_in
 keeping_example = refl
 

@@ -16,9 +16,11 @@ use Rattle.higman.specs.Listing.{listing as lines_of}
 use Rattle.words.specs.Packed.{pack_on, pack, unpack_in, unpack}
 use Rattle.tables.specs.Routing.{matched_digits}
 use Rattle.operations.specs.declared.Plan.{Plan}
-use Rattle.operations.specs.declared.Column.TheVariants.{From, To}
+use Rattle.operations.specs.declared.Fault.TheVariants.{InFrom, InTo}
 use Rattle.operations.specs.declared.Reason.TheVariants.{Overlap, Gap}
 use Rattle.tables.specs.declared.routing.Image.{Image}
+use Rattle.operations.specs.declared.Route.{Route}
+use Rattle.operations.specs.declared.Route.TheVariants as Reply
 use Rattle.operations.specs.declared.refusals.Refusal.{Refusal}
 use Rattle.operations.specs.declared.refusals.Refusal.TheVariants as The
 use Rattle.operations.specs.Refusals.{number_of, answer_number}
@@ -29,6 +31,7 @@ use Rattle.plans.specs.Answers.{faulty, judged, keeping, following, inverting, r
 use Rattle.operations.specs.Answers.{value21}
 use Rattle.plans.specs.Answers.{verdict_in, judgement_number, judgement_column}
 use Rattle.plans.specs.Routing.{matched, matching, matched_place, routing, routed_buffer}
+use Rattle.operations.specs.Routing.{routing_number, routing_length, routing_place}
 use Rattle.plans.specs.Listing.{listing_answer, listed_buffer}
 
 -- A column of a draft: at the first n places words that M takes, not one "that is empty, too long or has a wrong digit", and "its unused
@@ -60,10 +63,10 @@ to_column v = tos (rows_of v)
 -- covered": which answer a draft gets. It is one of these five.
 pub record DraftJudged (v : Plan) : Type 0 where
   pub accepted : (judged v ≡ Ok tt) ↔ Bases (shape_of v) (rows_of v)
-  pub from_overlaps : (judged v ≡ faulty From Overlap) ↔ (overlap (from_column v) ≡ true)
-  pub from_has_gap : (judged v ≡ faulty From Gap) ↔ ((overlap (from_column v) ≡ false) × (gap (shape_of v) (from_column v) ≡ true))
-  pub to_overlaps : (judged v ≡ faulty To Overlap) ↔ (Basis (shape_of v) (from_column v) × (overlap (to_column v) ≡ true))
-  pub to_has_gap : (judged v ≡ faulty To Gap)
+  pub from_overlaps : (judged v ≡ faulty (InFrom Overlap)) ↔ (overlap (from_column v) ≡ true)
+  pub from_has_gap : (judged v ≡ faulty (InFrom Gap)) ↔ ((overlap (from_column v) ≡ false) × (gap (shape_of v) (from_column v) ≡ true))
+  pub to_overlaps : (judged v ≡ faulty (InTo Overlap)) ↔ (Basis (shape_of v) (from_column v) × (overlap (to_column v) ≡ true))
+  pub to_has_gap : (judged v ≡ faulty (InTo Gap))
       ↔ (Basis (shape_of v) (from_column v) × (overlap (to_column v) ≡ false) × (gap (shape_of v) (to_column v) ≡ true))
 
 -- "E closes: reduce and keep": the value of a kept plan that sends each code where the pairs of the draft do.
@@ -98,13 +101,14 @@ pub record Refuses {A : Type 0} (answer : Result A Refusal) (number : ℕ) : Typ
 -- W replies with the number of these bytes and this place, and writes the bytes at the front of the buffer: "On success only the bytes of
 -- the output change".
 pub record RoutesTo (v : Plan) (code out output : List ℕ) (k : ℕ) : Type 0 where
-  pub answer : routing v code (length out) ≡ Ok (record { length = length output; place = k })
+  pub answer : routing v code (length out) ≡ Reply.Image (record { length = length output; place = k })
   pub front : take (length output) (routed_buffer v code out) ≡ output
   pub rest : drop (length output) (routed_buffer v code out) ≡ drop (length output) out
 
--- a refusal, and "a lent buffer then holds what it held before"
-pub record RouteRefused (v : Plan) (code out : List ℕ) (number : ℕ) : Type 0 where
-  pub answer : Refuses (routing v code (length out)) number
+-- another reply, with its number, and "a lent buffer then holds what it held before"
+pub record RouteRefused (v : Plan) (code out : List ℕ) (reply : Route) (number : ℕ) : Type 0 where
+  pub answer : routing v code (length out) ≡ reply
+  pub numbered : routing_number reply ≡ number
   pub buffer : routed_buffer v code out ≡ out
 
 -- "the code is a proper beginning of a from-word"
@@ -124,15 +128,15 @@ pub record CodeTaken (v : Plan) (code : List ℕ) : Type 0 where
 pub record RoutingExact : Type 0 where
   -- "A routed code has at most 1,024", and is "a belt from 1 to r, then ways from 1 to n"
   pub codes : (s : Shape) (w : Word) → T (is_code s w) ↔ (T (is_word s w) × (length w ≤ 1_024))
-  pub no_plan_lem : (v : Plan) (code out : List ℕ) → is_plan v ≡ false → RouteRefused v code out 15
+  pub no_plan_lem : (v : Plan) (code out : List ℕ) → is_plan v ≡ false → RouteRefused v code out (Reply.Refused The.InvalidValue) 15
   pub no_code : (v : Plan) (code out : List ℕ) → is_plan v ≡ true → is_code (shape_of v) (word_of code) ≡ false
-      → RouteRefused v code out 4
+      → RouteRefused v code out (Reply.Refused The.BadWord) 4
   -- a code that is routed has an image or is too short
   pub image_or_short : (v : Plan) (code : List ℕ) → CodeTaken v code
       → ((x : Word) × (image (rows_of v) (word_of code) ≡ some x)) ⊎ ProperBeginning v code
-  pub too_short : (v : Plan) (code out : List ℕ) → CodeTaken v code → ProperBeginning v code → RouteRefused v code out 13
+  pub too_short : (v : Plan) (code out : List ℕ) → CodeTaken v code → ProperBeginning v code → RouteRefused v code out Reply.TooShort 13
   pub no_room : (v : Plan) (code out : List ℕ) (x : Word) → CodeTaken v code → image (rows_of v) (word_of code) ≡ some x
-      → length out < length x → RouteRefused v code out 14
+      → length out < length x → RouteRefused v code out (Reply.Refused The.BufferTooShort) 14
   -- the place is that of the pair that the image comes from (change request E7)
   pub routes : (v : Plan) (code out : List ℕ) (x : Word) → CodeTaken v code → image (rows_of v) (word_of code) ≡ some x
       → length x ≤ length out → (k : ℕ) × RoutesAt (rows_of v) (word_of code) x k × RoutesTo v code out (word_bytes x) k
@@ -195,17 +199,19 @@ pub record AnswersNumbered : Type 0 where
   pub not_compared : (r : Refusal) → answer_number {A = Bool} (Err r) ≡ number_of r
   pub listed : (n : ℕ) → answer_number (Ok n) ≡ 0
   pub not_listed : (r : Refusal) → answer_number {A = ℕ} (Err r) ≡ number_of r
-  pub routed : (i : Image) → answer_number (Ok i) ≡ 0
-  pub not_routed : (r : Refusal) → answer_number {A = Image} (Err r) ≡ number_of r
+  pub routed : (i : Image)
+      → (routing_number (Reply.Image i) ≡ 0) × (routing_length (Reply.Image i) ≡ i.length) × (routing_place (Reply.Image i) ≡ i.place)
+  pub too_short : (routing_number Reply.TooShort ≡ 13) × (routing_place Reply.TooShort ≡ 0)
+  pub not_routed : (r : Refusal) → (routing_number (Reply.Refused r) ≡ number_of r) × (routing_place (Reply.Refused r) ≡ 0)
   -- in the order of their numbers
   pub numbers : map number_of (The.NoRecord ∷ The.WrongState ∷ The.ShapeOutside ∷ The.BadWord ∷ The.PairsFull ∷ The.WordsOverlap ∷ The.RootUncovered
       ∷ The.SlotOutside ∷ The.SlotEmpty ∷ The.ShapesDiffer ∷ The.LimitBroken ∷ The.PowerOutside ∷ The.CodeTooShort ∷ The.BufferTooShort
       ∷ The.InvalidValue ∷ The.CountFull ∷ The.SeedOutside ∷ The.StationOutside ∷ The.StationRefused ∷ The.RightMissing ∷ [])
       ≡ count 1 20
   -- 6 and 7, "those of E for a column add ⇥F or ⇥T (from, to)"
-  pub verdicts : map judgement_number (Ok tt ∷ Err NotADraft ∷ faulty From Overlap ∷ faulty From Gap ∷ faulty To Overlap ∷ faulty To Gap ∷ [])
+  pub verdicts : map judgement_number (Ok tt ∷ Err NotADraft ∷ faulty (InFrom Overlap) ∷ faulty (InFrom Gap) ∷ faulty (InTo Overlap) ∷ faulty (InTo Gap) ∷ [])
       ≡ 0 ∷ 15 ∷ 6 ∷ 7 ∷ 6 ∷ 7 ∷ []
-  pub verdict_columns : map judgement_column (faulty From Overlap ∷ faulty From Gap ∷ faulty To Overlap ∷ faulty To Gap ∷ []) ≡ bytes "FFTT"
+  pub verdict_columns : map judgement_column (faulty (InFrom Overlap) ∷ faulty (InFrom Gap) ∷ faulty (InTo Overlap) ∷ faulty (InTo Gap) ∷ []) ≡ bytes "FFTT"
 
 -- The numbers of document 01, "When each operation says no", as its figures; those of W stand in `RoutingExact`.
 pub record NumbersExact : Type 0 where
@@ -258,10 +264,10 @@ proper_beginning_example : ProperBeginning (value21 ψ) (bytes "11")
 unfolding packed pack pack_on unpack unpack_in max_pairs digit_of
 proper_beginning_example = record { pair = row 111 11; way = 1; ways = []; among = Memᴰ.head refl; longer = refl }
 
-route_refused_example : RouteRefused (value21 ψ) (bytes "11") (7 ∷ 7 ∷ []) 13
+route_refused_example : RouteRefused (value21 ψ) (bytes "11") (7 ∷ 7 ∷ []) Reply.TooShort 13
 unfolding routing routed_buffer routed is_plan in_table is_kept is_code max_code shape_in_range granted max_pairs max_digits verdict
     keep normal_form normal joined packed pack pack_on unpack unpack_in digit_of
-route_refused_example = record { answer = record { refusal = The.CodeTooShort; refused = refl; numbered = refl }; buffer = refl }
+route_refused_example = record { answer = refl; numbered = refl; buffer = refl }
 
 -- 112 begins 1122, and no from-word begins 11
 matched_by_example : MatchedBy (value21 ψ) (bytes "1122") (spell 112) 2

@@ -1,6 +1,6 @@
 -- Codes under a plan: what the library's match hands back, at which place it was found, and what a route replies and leaves in the lent
 -- buffer. The images are those of higman; 15 comes before all other refusals. Read Listing.antt next.
-use Rattle.std.specs.Prelude.{ℕ, ◌≡◌, refl, true, false, List, [], ◌∷◌, map, drop, Result, Ok, Err}
+use Rattle.std.specs.Prelude.{ℕ, ◌≡◌, refl, true, false, List, [], ◌∷◌, map, drop}
 use Rattle.higman.specs.Tables.{froms, ψ}
 use Rattle.higman.specs.Normal.{joined, normal, normal_form, keep}
 use Rattle.higman.specs.Limits.{shape_in_range, granted, is_code, max_pairs, max_digits, max_code}
@@ -11,8 +11,8 @@ use Rattle.words.specs.Packed.{pack_on, pack, unpack_in, unpack}
 use Rattle.words.specs.Bytes.{shape}
 use Rattle.tables.specs.Routing.{matched_digits}
 use Rattle.operations.specs.declared.Plan.{Plan}
-use Rattle.tables.specs.declared.routing.Image.{Image}
-use Rattle.operations.specs.declared.refusals.Refusal.{Refusal}
+use Rattle.operations.specs.declared.Route.{Route}
+use Rattle.operations.specs.declared.Route.TheVariants.{Image, TooShort, Refused}
 use Rattle.operations.specs.declared.refusals.Refusal.TheVariants as The
 use Rattle.operations.specs.Plans.{shape_of, rows_of, plan_of, in_table, is_plan, packed, blank}
 use Rattle.operations.specs.Routing.{matched_in, matched_place_in, routing_by, image_into}
@@ -32,8 +32,8 @@ matched_place p code =
     elim (is_plan p) [ true ↦ matched_place_in (shape_of p) (froms (rows_of p)) code | false ↦ 0 ]
 
 -- the route of a single code: 15, 4, 13, 14
-unfoldable pub routing : Plan → List ℕ → ℕ → Result Image Refusal
-routing p code room = elim (is_plan p) [ true ↦ routing_by (plan_of p) (word_of code) room | false ↦ Err The.InvalidValue ]
+unfoldable pub routing : Plan → List ℕ → ℕ → Route
+routing p code room = elim (is_plan p) [ true ↦ routing_by (plan_of p) (word_of code) room | false ↦ Refused The.InvalidValue ]
 
 -- what the buffer then holds
 unfoldable pub routed_buffer : Plan → List ℕ → List ℕ → List ℕ
@@ -57,9 +57,9 @@ unfolding matched_place place_of is_plan in_table Of.is_kept is_code max_code sh
 matched_place_example = (refl, refl)
 
 -- 1122 goes to 1212 by the second pair, with room for all of it and for three bytes; 11 is too short, and 13 has a wrong digit
-routing_example : (routing value (49 ∷ 49 ∷ 50 ∷ 50 ∷ []) 4 ≡ Ok (record { length = 4; place = 2 }))
-    × (routing value (49 ∷ 49 ∷ 50 ∷ 50 ∷ []) 3 ≡ Err The.BufferTooShort) × (routing value (49 ∷ 49 ∷ []) 4 ≡ Err The.CodeTooShort)
-    × (routing value (49 ∷ 51 ∷ []) 4 ≡ Err The.BadWord)
+routing_example : (routing value (49 ∷ 49 ∷ 50 ∷ 50 ∷ []) 4 ≡ Image (record { length = 4; place = 2 }))
+    × (routing value (49 ∷ 49 ∷ 50 ∷ 50 ∷ []) 3 ≡ Refused The.BufferTooShort) × (routing value (49 ∷ 49 ∷ []) 4 ≡ TooShort)
+    × (routing value (49 ∷ 51 ∷ []) 4 ≡ Refused The.BadWord)
 unfolding routing place_of Of.routed is_plan in_table Of.is_kept is_code max_code shape_in_range granted max_pairs max_digits Of.verdict
     keep normal_form normal joined packed pack pack_on unpack unpack_in digit_of
 routing_example = (refl, refl, refl, refl)

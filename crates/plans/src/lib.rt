@@ -11,7 +11,7 @@ pub mod listing;
 pub mod routing;
 
 pub use operations::refusals::Refusal;
-pub use operations::{Column, Fault, Image, Match, Plan, Reason};
+pub use operations::{Column, Fault, Image, Match, Plan, Reason, Route};
 
 // Why a draft is not accepted.
 #[derive(Clone, Copy, PartialEq, Eq, Debug)]

@@ -6,7 +6,7 @@ ghost use Rattle.plans.specs.Routing.{matched, matching, matched_place, routing,
 
 use crate::kept;
 use operations::refusals::Refusal;
-use operations::{Image, Match, Plan, routing};
+use operations::{Match, Plan, Route, routing};
 
 // The unmatched tail, as a part of the parcel's code, and the place of the from-word that begins the code, counted from 1; the whole code
 // and no place where no from-word begins it, or 15 or 4 applies.
@@ -25,10 +25,12 @@ pub fn unmatched<'a>(p: Plan, code: &'a [u8]) -> Match<'a>
 }
 
 // The route of a single code: writes its image at the front of the buffer, and tells the place of the pair. 15, 4, 13, 14.
-pub fn route(p: Plan, code: &[u8], out: &mut [u8]) -> Result<Image, Refusal>
+pub fn route(p: Plan, code: &[u8], out: &mut [u8]) -> Route
     ensures value { result ≡ routing p code.now (length out.old) }
     ensures out_after { out.new ≡ routed_buffer p code.now out.old }
 {
-    let plan = kept::lent(&p)?;
+    let Ok(plan) = kept::lent(&p) else {
+        return Route::Refused(Refusal::InvalidValue);
+    };
     routing::route(plan, code, out)
 }

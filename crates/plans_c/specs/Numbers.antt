@@ -2,13 +2,15 @@
 -- blank plan, false or 0. A caller in C believes it; `AnswersInC` has each case in figures. Read Theorems.antt next.
 use Rattle.std.specs.Prelude.{ℕ, ◌≡◌, refl, Bool, true, false, List, [], ◌∷◌, length, Result, Ok, Err}
 use Rattle.operations.specs.declared.Plan.{Plan}
-use Rattle.operations.specs.declared.Column.TheVariants.{To}
+use Rattle.operations.specs.declared.Fault.TheVariants.{InTo}
 use Rattle.operations.specs.declared.Reason.TheVariants.{Gap}
-use Rattle.tables.specs.declared.routing.Image.{Image}
+use Rattle.operations.specs.declared.Route.{Route}
+use Rattle.operations.specs.declared.Route.TheVariants.{Image, TooShort}
 use Rattle.operations.specs.declared.refusals.Refusal.{Refusal}
-use Rattle.operations.specs.declared.refusals.Refusal.TheVariants.{ShapesDiffer, CodeTooShort}
+use Rattle.operations.specs.declared.refusals.Refusal.TheVariants.{ShapesDiffer}
 use Rattle.operations.specs.Refusals.{number_of}
 use Rattle.operations.specs.Plans.{blank}
+use Rattle.operations.specs.Routing.{routing_number, routing_length, routing_place}
 use Rattle.plans.specs.declared.Rejection.{Rejection}
 use Rattle.plans.specs.declared.Rejection.TheVariants.{Faulty}
 use Rattle.plans.specs.Answers.{faulty, rejection_number, rejection_column, judgement_number, judgement_column}
@@ -39,19 +41,18 @@ compared_of (Err r) = record { number = number_of r; alike = false }
 abbrev pub matched_of : List ℕ → ℕ → Matched
 matched_of tail place = record { tail = length tail; place = place }
 
-abbrev pub routed_of : Result Image Refusal → Routed
-routed_of (Ok i) = record { number = 0; length = i.length; place = i.place }
-routed_of (Err r) = record { number = number_of r; length = 0; place = 0 }
+abbrev pub routed_of : Route → Routed
+routed_of r = record { number = routing_number r; length = routing_length r; place = routing_place r }
 
 abbrev pub listed_of : Result ℕ Refusal → Written
 listed_of (Ok n) = record { number = 0; length = n }
 listed_of (Err r) = record { number = number_of r; length = 0 }
 
 -- a gap in the to column, as a verdict and beside a plan
-verdict_of_example : verdict_of (faulty To Gap) ≡ record { number = 7; column = 84 }
+verdict_of_example : verdict_of (faulty (InTo Gap)) ≡ record { number = 7; column = 84 }
 verdict_of_example = refl
 
-kept_of_example : kept_of (Err (Faulty (record { column = To; reason = Gap }))) ≡ record { number = 7; column = 84; plan = blank }
+kept_of_example : kept_of (Err (Faulty (InTo Gap))) ≡ record { number = 7; column = 84; plan = blank }
 kept_of_example = refl
 
 made_of_example : (p : Plan) → made_of (Ok p) ≡ record { number = 0; plan = p }
@@ -66,8 +67,8 @@ matched_of_example : matched_of (50 ∷ []) 2 ≡ record { tail = 1; place = 2 }
 matched_of_example = refl
 
 -- an image of four digits by the second pair, a code that is too short, and a listing of 16 bytes
-routed_of_example : (routed_of (Ok (record { length = 4; place = 2 })) ≡ record { number = 0; length = 4; place = 2 })
-    × (routed_of (Err CodeTooShort) ≡ record { number = 13; length = 0; place = 0 })
+routed_of_example : (routed_of (Image (record { length = 4; place = 2 })) ≡ record { number = 0; length = 4; place = 2 })
+    × (routed_of TooShort ≡ record { number = 13; length = 0; place = 0 })
 routed_of_example = (refl, refl)
 
 listed_of_example : listed_of (Ok 16) ≡ record { number = 0; length = 16 }

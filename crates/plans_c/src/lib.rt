@@ -10,7 +10,7 @@ ghost use Rattle.plans.specs.Listing.{listing_answer, listed_buffer};
 ghost use Rattle.plans_c.specs.Numbers.{verdict_of, kept_of, made_of, compared_of, matched_of, routed_of, listed_of};
 
 use operations::answers::blank;
-use plans::{Image, Plan, Refusal, Rejection};
+use plans::{Column, Fault, Plan, Refusal, Rejection, Route};
 
 // The verdict on a draft: 0 for an accepted one, and the letter of the column, F or T, beside 6 and 7.
 #[repr(C)]
@@ -83,9 +83,13 @@ impl From<Result<(), Rejection>> for Verdict {
                 number: Refusal::InvalidValue.into(),
                 column: 0,
             },
-            Err(Rejection::Faulty(fault)) => Verdict {
-                number: Refusal::from(fault.reason).into(),
-                column: fault.column.into(),
+            Err(Rejection::Faulty(Fault::InFrom(reason))) => Verdict {
+                number: Refusal::from(reason).into(),
+                column: Column::From.into(),
+            },
+            Err(Rejection::Faulty(Fault::InTo(reason))) => Verdict {
+                number: Refusal::from(reason).into(),
+                column: Column::To.into(),
             },
         }
     }
@@ -141,17 +145,22 @@ impl From<Result<bool, Refusal>> for Compared {
     }
 }
 
-impl From<Result<Image, Refusal>> for Routed {
+impl From<Route> for Routed {
     ghost from_gives = { λ route routed. routed ≡ routed_of route };
 
-    fn from(route: Result<Image, Refusal>) -> Routed {
+    fn from(route: Route) -> Routed {
         match route {
-            Ok(image) => Routed {
+            Route::Image(image) => Routed {
                 number: 0,
                 length: image.length,
                 place: image.place,
             },
-            Err(refusal) => Routed {
+            Route::TooShort => Routed {
+                number: Refusal::CodeTooShort.into(),
+                length: 0,
+                place: 0,
+            },
+            Route::Refused(refusal) => Routed {
                 number: refusal.into(),
                 length: 0,
                 place: 0,
