@@ -25,8 +25,11 @@ use Rattle.columns.specs.Packed.{words_of, table, sorted}
 use Rattle.columns.specs.Columns.{Extending}
 use Rattle.columns.proofs.Rows.{table_length}
 use Rattle.columns.proofs.Extensions.{block_run}
-use Rattle.tables.specs.Lines.{block_line, block_lines, BlockFits, plan_of_columns}
+use Rattle.tables.specs.Lines.{block_line, block_lines, BlockFits}
 use Rattle.tables.specs.Routing.{IsCode}
+use Rattle.operations.specs.declared.lent.Lent.{Lent}
+use Rattle.operations.specs.Plans.{lent_plan}
+use Rattle.operations.proofs.KeptValues.{lent_kept}
 use Rattle.operations.proofs.Codes.{searchable, code_digits}
 use Rattle.desk.specs.Bytes.{line_of, ok_line, part_fields, reply_bytes}
 use Rattle.desk.proofs.Grammar.{text_exact}
@@ -50,26 +53,35 @@ placed_length : (k : ℕ) (t : Table) → length (placed_from k t) ≡ length t
 placed_length k [] = refl
 placed_length k (p ∷ t) = ap suc (placed_length (suc k) t)
 
-module _ {from to code out : List ℕ} (a : AskedOfFront from to code out) where
+module _ {lent : Lent} {code out : List ℕ} (a : AskedOfFront lent code out) where
   abbrev plan : Plan
-  plan = plan_of_columns a.arity a.roots from to
+  plan = lent_plan lent
+
+  abbrev from : List ℕ
+  from = lent.from.now
+
+  abbrev to : List ℕ
+  to = lent.to.now
+
+  kept : Kept plan
+  kept = lent_kept lent
 
   abbrev inside : List Placed
   inside = placed_block (table from to) (word_of code)
 
   pub front_digits : IsCode code
   front_digits =
-      code_digits a.arity a.roots from to a.lent code
-      (so (is_code (shape a.arity a.roots) (word_of code)) (none_of_short plan (word_of code) a.short).0)
+      code_digits lent code
+      (so (is_code (shape lent.shape.arity lent.shape.roots) (word_of code)) (none_of_short plan (word_of code) a.short).0)
 
   pub front_sorted : sorted (words_of from) ≡ true
-  front_sorted = (searchable a.arity a.roots from to a.lent code).in_order
+  front_sorted = (searchable lent code).in_order
 
   -- what is found of the packed front is found of the code
   pub front_whole : (u start end : ℕ) → unpack u ≡ take max_digits (word_of code) → Extending from (unpack u) start end
       → Extending from (word_of code) start end
   front_whole u start end f x =
-      let whole = f ∙ take_all max_digits (word_of code) (short_fits plan a.lent.kept (word_of code) a.short) in
+      let whole = f ∙ take_all max_digits (word_of code) (short_fits plan kept (word_of code) a.short) in
       subst (λ w. Extending from w start end) whole x
 
   module _ {start end : ℕ} (x : Extending from (word_of code) start end) where
@@ -78,7 +90,7 @@ module _ {from to code out : List ℕ} (a : AskedOfFront from to code out) where
 
     -- the run of pairs that was found is the block, and its first place is behind those that are passed over
     run_block : placed_from (start + 1) (table (run from) (run to)) ≡ inside
-    run_block = sym (block_run (word_of code) from to start end a.lent.paired x)
+    run_block = sym (block_run (word_of code) from to start end lent.paired x)
 
     run_length : length (run from) ≡ end - start
     run_length = length-take-le (end - start) (drop start from) (omega (arith, length-drop start from, x.within, x.forward))
@@ -86,7 +98,7 @@ module _ {from to code out : List ℕ} (a : AskedOfFront from to code out) where
     run_paired : length (run from) ≡ length (run to)
     run_paired =
         run_length
-        ∙ sym (length-take-le (end - start) (drop start to) (omega (arith, length-drop start to, x.within, x.forward, a.lent.paired)))
+        ∙ sym (length-take-le (end - start) (drop start to) (omega (arith, length-drop start to, x.within, x.forward, lent.paired)))
 
     run_count : end - start ≡ length inside
     run_count =
@@ -96,7 +108,7 @@ module _ {from to code out : List ℕ} (a : AskedOfFront from to code out) where
         ∙ ap length run_block
 
     from_few : length from ≤ max_pairs
-    from_few = omega (arith, table_length from to a.lent.paired, few_pairs plan a.lent.kept)
+    from_few = omega (arith, table_length from to lent.paired, few_pairs plan kept)
 
     pub run_few : end - start ≤ max_pairs
     run_few = omega (arith, from_few, x.within)
@@ -114,7 +126,7 @@ module _ {from to code out : List ℕ} (a : AskedOfFront from to code out) where
 
     lines_room : 0 + length lines ≤ length out
     unfolding max_reply max_pairs
-    lines_room = omega (arith, a.space, ap length run_lines, block_lines_fit plan (word_of code) a.lent.kept)
+    lines_room = omega (arith, a.space, ap length run_lines, block_lines_fit plan (word_of code) kept)
 
     pub lines_fit : BlockFits (start + 1) (run from) (run to) 0 (length out)
     lines_fit =
@@ -134,9 +146,9 @@ module _ {from to code out : List ℕ} (a : AskedOfFront from to code out) where
             a.space,
             v.place,
             ap length run_lines,
-            block_lines_fit plan (word_of code) a.lent.kept,
+            block_lines_fit plan (word_of code) kept,
             ap (λ n. length (ok_line (decimal n ∷ []))) run_count,
-            block_count_fits plan (word_of code) a.lent.kept,
+            block_count_fits plan (word_of code) kept,
           )
 
       pub block_wrote : {out'' : List ℕ} {r : ℕ} → Wrote (ok_line (decimal (end - start) ∷ [])) out' used out'' r

@@ -3,12 +3,12 @@ use Prim.Native.Nat.{ℕ, ◌≤◌}
 use mathlib.Core.Path.{◌≡◌, refl, sym, ◌∙◌, ap}
 use mathlib.Core.Bool.{Bool, true, false}
 use mathlib.Core.List.{List}
-use mathlib.Core.Option.{Option, none, some}
-use native.Mathlib.Omega.{arith}
+use mathlib.Core.Option.{Option, none}
 use borrow.Author.Tests.{le-leb}
 use mir.Val.{bool_byte}
 use lib.Dec.{leb}
 use lib.ListN.{length}
+use Rattle.std.specs.Prelude.{Ok, Err}
 use Rattle.higman.specs.Words.{Word}
 use Rattle.higman.specs.Tables.{froms}
 use Rattle.higman.specs.Limits.{Plan}
@@ -16,17 +16,19 @@ use Rattle.higman.specs.Text.{Bytes, word_bytes, word_of}
 use Rattle.higman.specs.Answers as Of
 use Rattle.higman.specs.Answers.{same, routed}
 use Rattle.higman.specs.Places.{place_of, placed_block}
-use Rattle.higman.specs.Refusals.{slot_empty, slot_outside, buffer_too_short}
-use Rattle.higman.specs.Listing.{is_slot, slot_number, listing}
+use Rattle.higman.specs.Refusals.{Letter}
+use Rattle.higman.specs.Listing.{is_slot, listing}
 use Rattle.higman.specs.Buffers.{written, lent_into}
-use Rattle.desk.specs.Desk.{Desk, held}
+use Rattle.desk.specs.Desk.{Desk}
 use Rattle.desk.specs.Records.{S, W, L}
 use Rattle.desk.specs.Replies.{◌>>=◌, Outcome, refuse, pass, Effect, plan_in, of_comparison, of_route, bit, ok_number, ok_image, ok_block, lists}
 use Rattle.desk.specs.Replies.{job}
-use Rattle.operations.specs.declared.Likeness.TheVariants as Like
-use Rattle.operations.specs.declared.Listed.TheVariants as Told
+use Rattle.tables.specs.declared.routing.Image.{Image}
+use Rattle.operations.specs.declared.refusals.Refusal.{Refusal}
+use Rattle.operations.specs.declared.refusals.Refusal.TheVariants as The
 use Rattle.operations.specs.declared.Route.{Route}
-use Rattle.operations.specs.declared.Route.TheVariants.{Image, TooShort, Refused}
+use Rattle.operations.specs.declared.Route.TheVariants as Routes
+use Rattle.operations.specs.Refusals.{number_of, refusal, refusal_numbered}
 use Rattle.operations.specs.Answers.{likeness}
 use Rattle.operations.specs.Routing.{routing_in, image_into}
 use Rattle.operations.specs.Listing.{listing_in, listing_for, listed_for}
@@ -43,63 +45,51 @@ abbrev pub compared : Desk → Of.Comparison → Outcome Effect
 compared d x = of_comparison x >>= λ alike. pass (d, ok_number (bit alike))
 
 module _ (d : Desk) (a : ℕ) where
-  abbrev looked : Option Plan → Outcome Plan
-  looked o = elim o [ none ↦ refuse slot_empty none | some p ↦ pass p ]
-
-  plan_missing : held d (slot_number a) ≡ none → plan_in d a ≡ refuse slot_empty none
-  plan_missing e = ap looked e
-
-  plan_there : (p : Plan) → held d (slot_number a) ≡ some p → plan_in d a ≡ pass p
-  plan_there p e = ap looked e
-
-  -- L: 9, or the plan is listed
-  pub list_empty : held d (slot_number a) ≡ none → job d (L a) ≡ refuse slot_empty none
-  unfolding job ◌>>=◌
-  list_empty e = ap (λ o. o >>= λ p. pass (d, lists a p)) (plan_missing e)
-
-  pub list_done : (p : Plan) → held d (slot_number a) ≡ some p → job d (L a) ≡ pass (d, lists a p)
-  unfolding job ◌>>=◌
-  list_done p e = ap (λ o. o >>= λ q. pass (d, lists a q)) (plan_there p e)
-
-  -- S: 9 for either slot, or what the comparison says
-  module _ (b : ℕ) where
-    pub compare_empty : held d (slot_number a) ≡ none → job d (S a b) ≡ refuse slot_empty none
+  -- 9 for any of the three
+  module _ {n : ℕ} {l : Option Letter} (e : plan_in d a ≡ refuse n l) where
+    pub list_none : job d (L a) ≡ refuse n l
     unfolding job ◌>>=◌
-    compare_empty e = ap (λ o. o >>= λ p. plan_in d b >>= λ q. compared d (same p q)) (plan_missing e)
+    list_none = rw e refl
 
-    pub compare_next : (p : Plan) → held d (slot_number a) ≡ some p → job d (S a b) ≡ (plan_in d b >>= λ q. compared d (same p q))
+    pub compare_none : (b : ℕ) → job d (S a b) ≡ refuse n l
     unfolding job ◌>>=◌
-    compare_next p e = ap (λ o. o >>= λ p. plan_in d b >>= λ q. compared d (same p q)) (plan_there p e)
+    compare_none b = rw e refl
 
-  -- W: 9, or what the route says
-  pub route_empty : (code : Bytes) → held d (slot_number a) ≡ none → job d (W a code) ≡ refuse slot_empty none
-  unfolding job ◌>>=◌
-  route_empty code e = ap (λ o. o >>= λ p. route_reply d p (word_of code)) (plan_missing e)
+    pub route_none : (code : Bytes) → job d (W a code) ≡ refuse n l
+    unfolding job ◌>>=◌
+    route_none code = rw e refl
 
-  pub route_done : (code : Bytes) (p : Plan) → held d (slot_number a) ≡ some p → job d (W a code) ≡ route_reply d p (word_of code)
-  unfolding job ◌>>=◌
-  route_done code p e = ap (λ o. o >>= λ q. route_reply d q (word_of code)) (plan_there p e)
+  -- the plan is listed, compared or routed by
+  module _ (p : Plan) (e : plan_in d a ≡ pass p) where
+    pub list_done : job d (L a) ≡ pass (d, lists a p)
+    unfolding job ◌>>=◌
+    list_done = rw e refl
 
-module _ (d : Desk) (a b : ℕ) (p : Plan) (e : held d (slot_number a) ≡ some p) where
-  pub compare_second_empty : held d (slot_number b) ≡ none → job d (S a b) ≡ refuse slot_empty none
-  unfolding ◌>>=◌
-  compare_second_empty f = compare_next d a b p e ∙ ap (λ o. o >>= λ q. compared d (same p q)) (plan_missing d b f)
+    pub compare_second_none : {n : ℕ} {l : Option Letter} (b : ℕ) → plan_in d b ≡ refuse n l → job d (S a b) ≡ refuse n l
+    unfolding job ◌>>=◌
+    compare_second_none b f = rw (e, f) refl
 
-  pub compare_done : (q : Plan) → held d (slot_number b) ≡ some q → job d (S a b) ≡ compared d (same p q)
-  unfolding ◌>>=◌
-  compare_done q f = compare_next d a b p e ∙ ap (λ o. o >>= λ q. compared d (same p q)) (plan_there d b q f)
+    pub compare_done : (b : ℕ) (q : Plan) → plan_in d b ≡ pass q → job d (S a b) ≡ compared d (same p q)
+    unfolding job ◌>>=◌
+    compare_done b q f = rw (e, f) refl
+
+    pub route_done : (code : Bytes) → job d (W a code) ≡ route_reply d p (word_of code)
+    unfolding job ◌>>=◌
+    route_done code = rw e refl
 
 -- what a comparison tells
 module _ (d : Desk) where
-  pub likeness_refused : (x : Of.Comparison) (n : ℕ) → likeness x ≡ Like.Refused n → compared d x ≡ refuse n none
+  pub likeness_refused : (x : Of.Comparison) (n : Refusal) → likeness x ≡ Err n → compared d x ≡ refuse (number_of n) none
   unfolding ◌>>=◌
-  likeness_refused (Of.Alike b) n e = let z : ◌≡◌ {A = ℕ} 0 1 = cc in absurd (omega arith)
-  likeness_refused (Of.NotCompared r) n e = let number : Of.refusal_number r ≡ n = cc in ap (λ k. refuse k none) number
+  likeness_refused (Of.Alike b) n e = absurd (cc)
+  likeness_refused (Of.NotCompared r) n e =
+      let said : refusal r ≡ n = cc in
+      ap (λ k. refuse k none) (sym (refusal_numbered r) ∙ ap number_of said)
 
-  pub likeness_alike : (x : Of.Comparison) (b : Bool) → likeness x ≡ Like.Alike b → compared d x ≡ pass (d, ok_number (bit b))
+  pub likeness_alike : (x : Of.Comparison) (b : Bool) → likeness x ≡ Ok b → compared d x ≡ pass (d, ok_number (bit b))
   unfolding ◌>>=◌
   likeness_alike (Of.Alike c) b e = let alike : c ≡ b = cc in ap (λ k. pass (d, ok_number (bit k))) alike
-  likeness_alike (Of.NotCompared r) b e = let z : ◌≡◌ {A = ℕ} 0 1 = cc in absurd (omega arith)
+  likeness_alike (Of.NotCompared r) b e = absurd (cc)
 
 -- a truth value as a number
 pub bit_of : (b : Bool) → bool_byte b ≡ bit b
@@ -111,10 +101,10 @@ module _ (a : ℕ) (s : is_slot a ≡ true) (p : Plan) (out : List ℕ) (room : 
   fits : leb (length (listing a p)) (length out) ≡ true
   fits = le-leb (length (listing a p)) (length out) room
 
-  pub listing_told : listing_for a p (length out) ≡ Told.Bytes (length (listing a p))
+  pub listing_told : listing_for a p (length out) ≡ Ok (length (listing a p))
   listing_told =
-      ap (λ b. elim b [ true ↦ listing_in (listing a p) (length out) | false ↦ Told.Refused slot_outside ]) s
-      ∙ ap (λ b. elim b [ true ↦ Told.Bytes (length (listing a p)) | false ↦ Told.Refused buffer_too_short ]) fits
+      ap (λ b. elim b [ true ↦ listing_in (listing a p) (length out) | false ↦ Err The.SlotOutside ]) s
+      ∙ ap (λ b. elim b [ true ↦ Ok (length (listing a p)) | false ↦ Err The.BufferTooShort ]) fits
 
   pub listing_written : listed_for a p out ≡ written out 0 (listing a p)
   listing_written =
@@ -123,12 +113,12 @@ module _ (a : ℕ) (s : is_slot a ≡ true) (p : Plan) (out : List ℕ) (room : 
 
 -- A route that gave an image of so many bytes and a place, one of a code that is too short, and one that gave a refusal, with the buffer
 -- after each.
-pub record Sent (d : Desk) (p : Plan) (w : Word) (r : Of.Route) (part : List ℕ) (n k : ℕ) : Type 0 where
+pub record Sent (d : Desk) (p : Plan) (w : Word) (r : Of.Route) (part : List ℕ) (told : Image) : Type 0 where
   pub image : Word
   pub is_image : r ≡ Of.Image image
-  pub size : n ≡ length (word_bytes image)
-  pub place : k ≡ place_of (froms p.rows) w
-  pub reply : replied d p w r ≡ pass (d, ok_image image k)
+  pub size : told.length ≡ length (word_bytes image)
+  pub place : told.place ≡ place_of (froms p.rows) w
+  pub reply : replied d p w r ≡ pass (d, ok_image image told.place)
   pub buffer : image_into r part ≡ written part 0 (word_bytes image)
 
 pub record Short (d : Desk) (p : Plan) (w : Word) (r : Of.Route) (part : List ℕ) : Type 0 where
@@ -136,8 +126,8 @@ pub record Short (d : Desk) (p : Plan) (w : Word) (r : Of.Route) (part : List �
   pub reply : replied d p w r ≡ pass (d, ok_block (placed_block p.rows w))
   pub buffer : image_into r part ≡ part
 
-pub record Stopped (d : Desk) (p : Plan) (w : Word) (r : Of.Route) (part : List ℕ) (n : ℕ) : Type 0 where
-  pub reply : replied d p w r ≡ refuse n none
+pub record Stopped (d : Desk) (p : Plan) (w : Word) (r : Of.Route) (part : List ℕ) (n : Refusal) : Type 0 where
+  pub reply : replied d p w r ≡ refuse (number_of n) none
   pub buffer : image_into r part ≡ part
 
 -- W's image has room
@@ -152,37 +142,38 @@ module _ (d : Desk) (p : Plan) (w : Word) (part : List ℕ) where
   abbrev pub told_by : Of.Route → Route
   told_by r = routing_in place r (length part)
 
-  image_told : (v : Word) → HasRoom (Of.Image v) part → told_by (Of.Image v) ≡ Image (length (word_bytes v)) place
+  image_told : (v : Word) → HasRoom (Of.Image v) part → told_by (Of.Image v) ≡ Routes.Image (record { length = length (word_bytes v); place = place })
   image_told v fits =
       let size = length (word_bytes v) in
-      ap (λ b. elim b [ true ↦ Image size place | false ↦ Refused buffer_too_short ]) (le-leb size (length part) (fits v refl))
+      ap (λ b. elim b [ true ↦ Routes.Image (record { length = size; place = place }) | false ↦ Routes.Refused The.BufferTooShort ]) (le-leb size (length part) (fits v refl))
 
-  pub route_sent : (r : Of.Route) → HasRoom r part → (n k : ℕ) → told_by r ≡ Image n k → Sent d p w r part n k
+  pub route_sent : (r : Of.Route) → HasRoom r part → (told : Image) → told_by r ≡ Routes.Image told → Sent d p w r part told
   unfolding ◌>>=◌
-  route_sent (Of.Image v) fits n k q =
+  route_sent (Of.Image v) fits told q =
       let size = length (word_bytes v) in
-      let placed : k ≡ place = cc (image_told v fits) in
+      let same : record { length = size; place = place } ≡ told = cc (image_told v fits) in
+      let placed : told.place ≡ place = ap (λ (x : Image). x.place) (sym same) in
       record {
         image = v;
         is_image = refl;
-        size = cc (image_told v fits);
+        size = ap (λ (x : Image). x.length) (sym same);
         place = placed;
         reply = ap (λ x. pass (d, ok_image v x)) (sym placed);
         buffer = ap (λ b. elim b [ true ↦ written part 0 (word_bytes v) | false ↦ part ]) (le-leb size (length part) (fits v refl));
       }
-  route_sent Of.TooShort fits n k q = let z : ◌≡◌ {A = ℕ} 0 1 = cc in absurd (omega arith)
-  route_sent (Of.NotRouted x) fits n k q = let z : ◌≡◌ {A = ℕ} 0 1 = cc in absurd (omega arith)
+  route_sent Of.TooShort fits told q = absurd (cc)
+  route_sent (Of.NotRouted x) fits told q = absurd (cc)
 
-  pub route_short : (r : Of.Route) → HasRoom r part → told_by r ≡ TooShort → Short d p w r part
+  pub route_short : (r : Of.Route) → HasRoom r part → told_by r ≡ Routes.TooShort → Short d p w r part
   unfolding ◌>>=◌
-  route_short (Of.Image v) fits q = let z : ◌≡◌ {A = ℕ} 0 1 = cc (image_told v fits) in absurd (omega arith)
+  route_short (Of.Image v) fits q = absurd (cc (image_told v fits))
   route_short Of.TooShort fits q = record { is_short = refl; reply = refl; buffer = refl }
-  route_short (Of.NotRouted x) fits q = let z : ◌≡◌ {A = ℕ} 0 1 = cc in absurd (omega arith)
+  route_short (Of.NotRouted x) fits q = absurd (cc)
 
-  pub route_refused : (r : Of.Route) → HasRoom r part → (n : ℕ) → told_by r ≡ Refused n → Stopped d p w r part n
+  pub route_refused : (r : Of.Route) → HasRoom r part → (n : Refusal) → told_by r ≡ Routes.Refused n → Stopped d p w r part n
   unfolding ◌>>=◌
-  route_refused (Of.Image v) fits n q = let z : ◌≡◌ {A = ℕ} 0 1 = cc (image_told v fits) in absurd (omega arith)
-  route_refused Of.TooShort fits n q = let z : ◌≡◌ {A = ℕ} 0 1 = cc in absurd (omega arith)
+  route_refused (Of.Image v) fits n q = absurd (cc (image_told v fits))
+  route_refused Of.TooShort fits n q = absurd (cc)
   route_refused (Of.NotRouted x) fits n q =
-      let number : Of.refusal_number x ≡ n = cc in
-      record { reply = ap (λ k. refuse k none) number; buffer = refl }
+      let said : refusal x ≡ n = cc in
+      record { reply = ap (λ k. refuse k none) (sym (refusal_numbered x) ∙ ap number_of said); buffer = refl }

@@ -8,8 +8,8 @@ use mathlib.Core.Option.{Option, none, some}
 use native.Mathlib.Numerals.{add-one}
 use native.Mathlib.Omega.{arith}
 use lib.Dec.{leb, eqb}
-use lib.ListN.{length, get_or, take, drop, length-drop, length-map, get_or-append}
-use lib.Seq.{take_all, take-suc, length-take-le}
+use lib.ListN.{length, get_or, take, drop, length-drop, length-map}
+use lib.Seq.{take_all, take_at, take-suc, length-take-le}
 use Rattle.higman.specs.Words.{count}
 use Rattle.higman.specs.Limits.{Plan as PlanOf, max_pairs, slot_count}
 use Rattle.higman.specs.Text.{Bytes, decimal}
@@ -168,32 +168,39 @@ module _ {h : Head} {out out' : Bytes} {used i : ℕ} (s : Surveyed h out out' u
 pub all_few : (h : Head) {order₀ order : List ℕ} {held : ℕ} → Wrote (shown_in_order h) order₀ 0 order held → held ≤ 8
 all_few h w = omega (arith, w.place, in_order_few h, slots_eight)
 
+-- the slots that have a line, as they were arranged
+pub all_taken : (h : Head) {order₀ order : List ℕ} {held : ℕ} → Wrote (shown_in_order h) order₀ 0 order held → take held order ≡ shown_in_order h
+all_taken h {order₀} {held = held} w =
+    let is = shown_in_order h in
+    ap (take held) w.contents ∙ take_at is (drop (0 + length is) order₀) held (omega (arith, w.place))
+
 -- the slot whose line comes next
-module _ (h : Head) {order₀ order : List ℕ} {held i : ℕ} (w : Wrote (shown_in_order h) order₀ 0 order held) (below : i < held) where
-  next_slot : get_or order i 0 ≡ get_or (shown_in_order h) i 0
-  next_slot =
-      ap (λ l. get_or l i 0) w.contents
-      ∙ get_or-append (shown_in_order h) (drop (0 + length (shown_in_order h)) order₀) 0 i (omega (arith, w.place))
+module _ (h : Head) {l : List ℕ} (whole : l ≡ shown_in_order h) {i : ℕ} (below : i < length l) where
+  next_slot : get_or l i 0 ≡ get_or (shown_in_order h) i 0
+  next_slot = ap (λ k. get_or k i 0) whole
 
-  next_held : Memᴰ (get_or order i 0) (shown_in_order h)
-  next_held = subst (λ k. Memᴰ k (shown_in_order h)) (sym next_slot) (mem_number (shown_in_order h) i (omega (arith, w.place)))
+  inside : i < length (shown_in_order h)
+  inside = omega (arith, ap length whole)
 
-  pub next_named : get_or order i 0 < 8
-  next_named = omega (arith, (in_order_held h (get_or order i 0) next_held).0, slots_eight)
+  next_held : Memᴰ (get_or l i 0) (shown_in_order h)
+  next_held = subst (λ k. Memᴰ k (shown_in_order h)) (sym next_slot) (mem_number (shown_in_order h) i inside)
 
-  pub next_full : (size_at h (get_or order i 0)).pairs ≡ 0 → ⊥
-  next_full = (in_order_held h (get_or order i 0) next_held).1
+  pub next_named : get_or l i 0 < 8
+  next_named = omega (arith, (in_order_held h (get_or l i 0) next_held).0, slots_eight)
+
+  pub next_full : (size_at h (get_or l i 0)).pairs ≡ 0 → ⊥
+  next_full = (in_order_held h (get_or l i 0) next_held).1
 
   pub survey_next : {columns out out' out'' : List ℕ} {used used' : ℕ} → HoldsDesk h columns → Surveyed h out out' used i
-      → Wrote (line_at h (get_or order i 0)) out' used out'' used' → Surveyed h out out'' used' (i + 1)
+      → Wrote (line_at h (get_or l i 0)) out' used out'' used' → Surveyed h out out'' used' (i + 1)
   survey_next {columns} {out} {out'' = out''} {used' = used'} H s v =
-      let slot = get_or order i 0 in
+      let slot = get_or l i 0 in
       let is = shown_in_order h in
       let small = line_size h columns H slot (omega (arith, next_named, slots_eight)) next_full in
       let more : take (i + 1) is ≡ take i is ++ (slot ∷ []) =
-      ap (λ n. take n is) (add-one i) ∙ take-suc is i 0 (omega (arith, w.place)) ∙ ap (λ k. take i is ++ (k ∷ [])) (sym next_slot) in
+      ap (λ n. take n is) (add-one i) ∙ take-suc is i 0 inside ∙ ap (λ k. take i is ++ (k ∷ [])) (sym next_slot) in
       record {
-        below = omega (arith, w.place);
+        below = omega (arith, inside);
         wrote =
             subst (λ l. Wrote l out 0 out'' used') (sym (ap (lines_at h) more ∙ lines_more h (take i is) slot))
             (wrote_then (omega arith) s.wrote v);
