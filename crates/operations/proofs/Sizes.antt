@@ -2,7 +2,9 @@
 -- its `good`.
 use mathlib.Core.Path.{◌≡◌, sym, ◌∙◌}
 use mathlib.Core.List.{List}
-use lib.ListN.{length}
+use Prim.Native.Nat.{ℕ, ◌≤◌}
+use native.Mathlib.Omega.{arith}
+use lib.ListN.{length, take, length-take}
 use mir.Val.{Val}
 use denote.Laws.{Is}
 use Rattle.operations.specs.declared.Plan.{Plan}
@@ -17,3 +19,7 @@ module _ (p : Plan) (values : List Val) (good : Is the_row p values) where
 
   pub columns_even : length p.from ≡ length p.to
   columns_even = from_long ∙ sym to_long
+
+-- the first n places of a list are n where it has as many
+pub taken : (n : ℕ) (l : List ℕ) → n ≤ length l → n ≡ length (take n l)
+taken n l h = simp length-take (omega arith)

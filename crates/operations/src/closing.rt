@@ -44,7 +44,7 @@ fn fault_in(keys: &mut [u64], values: &mut [u64], shape: Shape) -> Result<(), Re
 }
 
 // What is wrong with a column. Two copies are sorted, so that the column stays as it came.
-#[tactic(auto, using(columns::proofs::Limits::pair_limit))]
+#[tactic(auto, using(columns::proofs::Limits::pair_limit, crate::proofs::Sizes::taken))]
 fn fault_of(words: &[u64], shape: Shape) -> Result<(), Reason>
     requires { (length words.now ≤ max_pairs) × T (shape_in_range (the_shape shape))
         × T (all (is_word (the_shape shape)) (words_of words.now)) }
@@ -57,7 +57,7 @@ fn fault_of(words: &[u64], shape: Shape) -> Result<(), Reason>
 }
 
 // "the verdict on a plan names the column and, within it, the reason"
-#[tactic(auto, using(columns::proofs::Limits::pair_limit))]
+#[tactic(auto, using(columns::proofs::Limits::pair_limit, crate::proofs::Sizes::taken))]
 pub fn judge(draft: Plan) -> Result<(), Fault>
     requires { DraftColumns draft }
     ensures { result ≡ verdict_of (verdict (shape_of draft) (rows_of draft)) }
@@ -68,7 +68,7 @@ pub fn judge(draft: Plan) -> Result<(), Fault>
 }
 
 // "E closes: reduce and keep."
-#[tactic(auto, using(columns::proofs::Limits::pair_limit))]
+#[tactic(auto, using(columns::proofs::Limits::pair_limit, crate::proofs::Sizes::taken))]
 pub fn close(draft: Plan) -> Result<Plan, Fault>
     requires { DraftColumns draft }
     ensures { result ≡ closing (shape_of draft) (rows_of draft) }

@@ -22,7 +22,7 @@ const MAX_POWER: u32 = 1000;
 const MAX_SPREAD: usize = 2 * MAX_PAIRS;
 
 // The first n numbers of a column, and zeros behind them.
-#[tactic(auto, using(columns::proofs::Limits::pair_limit))]
+#[tactic(auto, using(columns::proofs::Limits::pair_limit, crate::proofs::Sizes::taken))]
 pub fn padded(column: &[u64], n: usize) -> [u64; MAX_PAIRS]
     requires { (n ≤ max_pairs) × (n ≤ length column.now) }
     ensures { result ≡ filling n column.now }

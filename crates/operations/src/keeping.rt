@@ -52,7 +52,7 @@ pub fn keep_sorted(keys: &[u64], values: &[u64], shape: Shape) -> Plan
 }
 
 // The plan kept of the pairs of a draft, both of whose columns are bases.
-#[tactic(auto, using(columns::proofs::Limits::pair_limit))]
+#[tactic(auto, using(columns::proofs::Limits::pair_limit, crate::proofs::Sizes::taken))]
 pub fn keep(draft: Plan) -> Plan
     requires { (draft.pairs ≤ max_pairs) × T (shape_in_range (shape_of draft)) × Bases (shape_of draft) (rows_of draft) }
     ensures { result ≡ packed (record { shape = shape_of draft; rows = keep (shape_of draft) (rows_of draft) }) }

@@ -2,7 +2,6 @@
 -- accepted draft has bases for columns, so its pairs, which are sorted by then, may be reduced.
 use Rattle.std.proofs.Common.{sym, ◌∙◌, arith}
 use lib.ListN.{length-take}
-use Rattle.columns.proofs.Limits.{pair_limit}
 use Rattle.operations.proofs.Exits.{returned}
 use Rattle.operations.proofs.Verdicts.{from_asked, to_asked, found_from, found_to, closed_from, closed_to}
 use Rattle.operations.proofs.Closed.{closed_reducible, closed_plan}
@@ -44,9 +43,3 @@ returns c =
     let e = sym c.in_ok-map_err.was ∙ found_from p c.requires c.shape-shape.ensures c.fault_in.ensures.found c.map_err.ensures.cases in
     let g = sym c.in_ok-map_err-2.was ∙ found_to p c.requires c.shape-shape.ensures c.fault_of.ensures c.map_err-2.ensures.cases in
     closed_plan p c.requires (omega arith) e g c.fault_in.ensures.sorts c.shape-shape.ensures c.keep_sorted.ensures
-
-pub slice_bounds-keys-end : goal.slice_bounds-keys-end
-slice_bounds-keys-end c = simp length-take (omega (arith, pair_limit))
-
-pub slice_bounds-values-end : goal.slice_bounds-values-end
-slice_bounds-values-end c = simp length-take (omega (arith, pair_limit))

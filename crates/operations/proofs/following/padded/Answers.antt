@@ -1,7 +1,6 @@
 -- `operations::following::padded` meets its contract: zeros stand behind the words that are copied.
-use Rattle.std.proofs.Common.{◌∙◌, ap, ◌++◌, arith}
-use lib.ListN.{drop, replicate, length-take}
-use Rattle.columns.proofs.Limits.{pair_limit}
+use Rattle.std.proofs.Common.{◌∙◌, ap, ◌++◌}
+use lib.ListN.{drop, replicate}
 use Rattle.operations.proofs.Filled.{filling_is}
 use Rattle.operations.proofs.following.padded.Goals as goal
 
@@ -9,9 +8,3 @@ pub returns : goal.returns
 returns c =
     ap (λ f. f ++ drop c.args.n (replicate 128 0)) c.copy_from_slice.ensures.after
     ∙ filling_is c.args.n c.args.column.now c.requires.0 c.requires.1
-
-pub slice_bounds-front-end : goal.slice_bounds-front-end
-slice_bounds-front-end c = simp length-take (omega (arith, pair_limit))
-
-pub copy_from_slice-requires : goal.copy_from_slice-requires
-copy_from_slice-requires c = simp length-take (omega (arith, pair_limit))

@@ -2,7 +2,6 @@
 -- that came.
 use Rattle.std.proofs.Common.{arith}
 use lib.ListN.{length-take}
-use Rattle.columns.proofs.Limits.{pair_limit}
 use Rattle.operations.proofs.Reordered.{draft_reducible, draft_plan}
 use Rattle.operations.proofs.keeping.keep.Goals as goal
 
@@ -15,9 +14,3 @@ pub returns : goal.returns
 returns c =
     let (few, range, bases) = c.requires in
     draft_plan c.args.draft few range bases (simp length-take (omega arith)) c.sort.ensures c.shape.ensures c.keep_sorted.ensures
-
-pub slice_bounds-keys-end : goal.slice_bounds-keys-end
-slice_bounds-keys-end c = simp length-take (omega (arith, pair_limit))
-
-pub slice_bounds-values-end : goal.slice_bounds-values-end
-slice_bounds-values-end c = simp length-take (omega (arith, pair_limit))
