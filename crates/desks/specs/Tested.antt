@@ -1,5 +1,5 @@
 -- The test of a head and columns for a desk, part by part, and the statement that it holds exactly where they hold one.
-use Rattle.std.specs.Prelude.{ℕ, zero, suc, ◌+◌, ◌≤◌, ◌<◌, ◌≡◌, refl, ◌↔◌, Bool, true, false, ◌&&◌, List, [], ◌∷◌, map, T, leb, eqb, length, take}
+use Rattle.std.specs.Prelude.{ℕ, zero, suc, ◌+◌, ◌≤◌, ◌<◌, ◌≡◌, refl, ◌↔◌, Bool, true, false, ◌&&◌, List, [], ◌∷◌, map, T, leb, eqb, length, take, None, Some}
 use Rattle.higman.specs.Words.{count}
 use Rattle.higman.specs.Bases.{all}
 use Rattle.higman.specs.Tables.{row}
@@ -35,7 +35,7 @@ abbrev pub draft_test : ℕ → Plan → Bool
 draft_test slot v = leb (suc slot) slot_count && shape_in_range (shape_of v) && words_test v v.from && words_test v v.to
 
 abbrev pub open_test : Head → Plan → Bool
-open_test h v = elim h.is_open [ false ↦ true | true ↦ draft_test h.slot v ]
+open_test h v = elim h.draft [ None ↦ true | Some slot ↦ draft_test slot v ]
 
 -- counts in their range, the rights of a station on the slots, and those of all stations
 abbrev pub counts_test : List ℕ → Bool

@@ -10,14 +10,9 @@ ghost use Rattle.slots.specs.Blocks.{InColumns, size_at, value_at};
 ghost use Rattle.desks.specs.Tested.{slot_test, slots_test, open_test, FewPairs, sizes_sum, counts_test, row_test, rights_test};
 ghost use Rattle.desks.specs.Tested.{control_test, holds_test};
 
-use operations::{MAX_PAIRS, Plan, shapes};
+use operations::{MAX_PAIRS, Plan};
 use plans::drafts;
-use slots::{BLOCK, Control, DRAFT, Desk, Head, MAX_CHANGES, SLOTS, STATIONS, blocks, rights};
-
-// Where the columns of the open plan start.
-const FROM: usize = DRAFT * BLOCK;
-
-const TO: usize = FROM + MAX_PAIRS;
+use slots::{Control, DRAFT, Desk, Head, MAX_CHANGES, SLOTS, STATIONS, blocks, rights};
 
 // Whether a slot may hold a value: a kept plan, or no pairs and no words.
 fn is_held(value: Plan) -> bool
@@ -35,22 +30,15 @@ fn is_open_plan(head: Head, columns: &[u64]) -> bool
     requires draft_block_bound { (size_at head draft_block).pairs ≤ max_pairs }
     ensures { result ≡ open_test head (value_at head columns.now draft_block) }
 {
-    if !head.is_open {
+    let Some(slot) = head.draft else {
         return true;
-    }
+    };
     let size = head.sizes[DRAFT];
-    (head.slot as usize) < SLOTS
-        && shapes::in_range(size.arity, size.roots)
-        && drafts::are_words(
-            blocks::part(columns, FROM, size.pairs),
-            size.arity,
-            size.roots,
-        )
-        && drafts::are_words(
-            blocks::part(columns, TO, size.pairs),
-            size.arity,
-            size.roots,
-        )
+    let (from, to) = blocks::pairs(columns, DRAFT, size.pairs);
+    (slot as usize) < SLOTS
+        && size.shape().is_in_range()
+        && drafts::are_words(from, size.shape())
+        && drafts::are_words(to, size.shape())
 }
 
 // Whether each slot holds a kept plan or nothing.
