@@ -82,13 +82,11 @@ module _ (h : Head) (columns : List ℕ) (headed : length h.sizes ≡ block_coun
 
   from_long : length v.from ≡ max_pairs
   unfolding value_at
-  from_long = length-take-le max_pairs (drop (from_place draft_block) columns)
-      (omega (arith, pair_limit, length-drop (from_place draft_block) columns))
+  from_long = length-take-le max_pairs (drop (from_place draft_block) columns) (omega (arith, pair_limit, length-drop (from_place draft_block) columns))
 
   to_long : length v.to ≡ max_pairs
   unfolding value_at
-  to_long = length-take-le max_pairs (drop (to_place draft_block) columns)
-      (omega (arith, pair_limit, length-drop (to_place draft_block) columns))
+  to_long = length-take-le max_pairs (drop (to_place draft_block) columns) (omega (arith, pair_limit, length-drop (to_place draft_block) columns))
 
   -- parts of the test
   abbrev counts : Bool
@@ -100,7 +98,7 @@ module _ (h : Head) (columns : List ℕ) (headed : length h.sizes ≡ block_coun
   abbrev summed : Bool
   summed = eqb h.control.pairs (sizes_sum h)
 
-  open_is_draft : (slot : ℕ) (n : v.pairs ≤ max_pairs) → (w : T (draft_test slot v)) → IsDraft (draft_in slot v)
+  open_is_draft : (slot : ℕ) → v.pairs ≤ max_pairs → T (draft_test slot v) → IsDraft (draft_in slot v)
   unfolding granted
   open_is_draft slot n w =
       let a = leb (suc slot) slot_count in
@@ -109,17 +107,13 @@ module _ (h : Head) (columns : List ℕ) (headed : length h.sizes ≡ block_coun
       let e = words_test v v.to in
       let s = shape_of v in
       let even = from_long ∙ sym to_long in
-      let from_words : T (all (is_plan_word s) (froms (rows_of v))) =
-      subst (λ l. T (all (is_plan_word s) l)) (sym (froms_rows v.pairs v.from v.to even))
-      (and_right (a && b) c (and_left (a && b && c) e w)) in
-      let to_words : T (all (is_plan_word s) (tos (rows_of v))) =
-      subst (λ l. T (all (is_plan_word s) l)) (sym (tos_rows v.pairs v.from v.to even)) (and_right (a && b && c) e w) in
+      let from_words : T (all (is_plan_word s) (froms (rows_of v))) = subst (λ l. T (all (is_plan_word s) l)) (sym (froms_rows v.pairs v.from v.to even)) (and_right (a && b) c (and_left (a && b && c) e w)) in
+      let to_words : T (all (is_plan_word s) (tos (rows_of v))) = subst (λ l. T (all (is_plan_word s) l)) (sym (tos_rows v.pairs v.from v.to even)) (and_right (a && b && c) e w) in
       let count = rows_length v.pairs v.from v.to (omega (arith, from_long)) (omega (arith, to_long)) in
       record {
         slot_named = leb→le (suc slot) slot_count (and_left a b (and_left (a && b) c (and_left (a && b && c) e w)));
         in_range = and_right a b (and_left (a && b) c (and_left (a && b && c) e w));
-        within = and_intro (leb (length (rows_of v)) max_pairs) (all pair_fits (rows_of v))
-            (le→leb (length (rows_of v)) max_pairs (omega (arith, count))) (pairs_fit s (rows_of v) from_words to_words);
+        within = and_intro (leb (length (rows_of v)) max_pairs) (all pair_fits (rows_of v)) (le→leb (length (rows_of v)) max_pairs (omega (arith, count))) (pairs_fit s (rows_of v) from_words to_words);
         from_words = words_of_plan s (froms (rows_of v)) from_words;
         to_words = words_of_plan s (tos (rows_of v)) to_words;
       }
@@ -163,17 +157,16 @@ module _ (h : Head) (columns : List ℕ) (headed : length h.sizes ≡ block_coun
         by true q =
             let k : i < slot_count = ltb-true i slot_count q in
             slot_keeps (value_at h columns i) (slot_tested i k) p (sym (held_at h columns i k) ∙ e)
-        by false q = absurd (none-ne-some p
-            (sym (get_or-eq_default (slots_of h columns) none (omega (arith, eight, ltb-false i slot_count q))) ∙ e))
+        by false q = absurd (none-ne-some p (sym (get_or-eq_default (slots_of h columns) none (omega (arith, eight, ltb-false i slot_count q))) ∙ e))
 
     drafted_in : (o : Draft) → draft_of h columns ≡ some o → IsDraft o
     unfolding value_at
     drafted_in o e = by h.draft is_open_lem e
       where
-        by : (b : Opened ℕ) → T (elim b [ None ↦ true | Some slot ↦ draft_test slot v ])
-            → elim b [ None ↦ none | Some slot ↦ some (draft_in slot v) ] ≡ some o → IsDraft o
-        by (Some slot) w q = subst IsDraft (some-injective (draft_in slot v) o q) (open_is_draft slot pairs_few w)
+        by : (x : Opened ℕ) → T (elim x [ None ↦ true | Some slot ↦ draft_test slot v ])
+            → elim x [ None ↦ none | Some slot ↦ some (draft_in slot v) ] ≡ some o → IsDraft o
         by None w q = absurd (none-ne-some o q)
+        by (Some slot) w q = subst IsDraft (some-injective (draft_in slot v) o q) (open_is_draft slot pairs_few w)
 
     in_table_lem : (i : ℕ) → i < slot_count → T (in_table (value_at h columns i))
     in_table_lem i k = slot_table (value_at h columns i) (slot_tested i k)
@@ -206,10 +199,8 @@ module _ (h : Head) (columns : List ℕ) (headed : length h.sizes ≡ block_coun
 
         by : (b : Bool) → eqb x.pairs 0 ≡ b → T (elim b [ true ↦ zeros x.from && zeros x.to | false ↦ is_plan x ])
         by true e =
-            let z = subst (λ n. T (leb n max_pairs && zeros (drop n x.from) && zeros (drop n x.to))) (eqb-true x.pairs 0 e)
-            (H.in_tables i k) in
-            and_intro (zeros x.from) (zeros x.to)
-            (and_right (leb 0 max_pairs) (zeros x.from) (and_left (leb 0 max_pairs && zeros x.from) (zeros x.to) z))
+            let z = subst (λ n. T (leb n max_pairs && zeros (drop n x.from) && zeros (drop n x.to))) (eqb-true x.pairs 0 e) (H.in_tables i k) in
+            and_intro (zeros x.from) (zeros x.to) (and_right (leb 0 max_pairs) (zeros x.from) (and_left (leb 0 max_pairs && zeros x.from) (zeros x.to) z))
             (and_right (leb 0 max_pairs && zeros x.from) (zeros x.to) z)
         by false e = T_of (slot_plan h columns H i k (eqb-false x.pairs 0 e))
 
@@ -217,7 +208,7 @@ module _ (h : Head) (columns : List ℕ) (headed : length h.sizes ≡ block_coun
     unfolding value_at
     open_passes = by h.draft refl
       where
-        by : (b : Opened ℕ) → h.draft ≡ b → T (elim b [ None ↦ true | Some slot ↦ draft_test slot v ])
+        by : (x : Opened ℕ) → h.draft ≡ x → T (elim x [ None ↦ true | Some slot ↦ draft_test slot v ])
         by None e = tt
         by (Some slot) e =
             let k = draft_columns h columns H slot e in

@@ -34,11 +34,12 @@ fn is_open_plan(head: Head, columns: &[u64]) -> bool
         return true;
     };
     let size = head.sizes[DRAFT];
+    let shape = size.shape();
     let (from, to) = blocks::pairs(columns, DRAFT, size.pairs);
     (slot as usize) < SLOTS
-        && size.shape().is_in_range()
-        && drafts::are_words(from, size.shape())
-        && drafts::are_words(to, size.shape())
+        && shape.is_in_range()
+        && drafts::are_words(from, shape)
+        && drafts::are_words(to, shape)
 }
 
 // Whether each slot holds a kept plan or nothing.
