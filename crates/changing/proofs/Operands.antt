@@ -69,9 +69,9 @@ module _ (d : Desk) (a c : ℕ) where
 
 -- K
 module _ (d : Desk) (a : ℕ) (k : ℤ) (c : ℕ) where
-  pub power_outside_lem : power_in_range k ≡ false → job d (K a k c) ≡ refuse power_outside none
+  pub power_beyond : power_in_range k ≡ false → job d (K a k c) ≡ refuse power_outside none
   unfolding job ◌>>=◌
-  power_outside_lem i = rw i refl
+  power_beyond i = rw i refl
 
   module _ (i : power_in_range k ≡ true) where
     pub power_none : {n : ℕ} {l : Option Letter} → plan_in d a ≡ refuse n l → job d (K a k c) ≡ refuse n l

@@ -20,7 +20,7 @@ use Rattle.slots.specs.Desks.{desk_of}
 use Rattle.slots.proofs.Steps.{admitted_named, returned, refused_by, refused_job}
 use Rattle.changing.proofs.Answered.{Made, made, not_made}
 use Rattle.changing.proofs.Kept.{is_kept_plan, keepable, to_keep}
-use Rattle.changing.proofs.Operands.{power_outside_lem, power_none, power_refused, power_keeps}
+use Rattle.changing.proofs.Operands.{power_beyond, power_none, power_refused, power_keeps}
 use Rattle.changing.proofs.power.Goals.{In_ok-admission, Else-not-is_power, In_ok-raised}
 use Rattle.changing.proofs.power.Goals as goal
 
@@ -50,7 +50,7 @@ returns-then-not-is_power c = λ out.
     let a = c.args in
     let outside = sym (c.is_power.ensures ∙ ap power_in_range (read_is w32 a.k c.ranges.k)) ∙ c.if-not-is_power.true in
     refused_job a.head a.columns.now c.requires (K a.a a.k a.c) out (admitted (goal.at.returns-then-not-is_power c).In_ok-admission)
-    (refused_for PowerOutside) (power_outside_lem _ a.a a.k a.c outside) _ (ap Err c.into.ensures)
+    (refused_for PowerOutside) (power_beyond _ a.a a.k a.c outside) _ (ap Err c.into.ensures)
 
 in_range : (c : Else-not-is_power) → power_in_range c.args.k ≡ true
 in_range c = sym (c.is_power.ensures ∙ ap power_in_range (read_is w32 c.args.k c.ranges.k)) ∙ c.if-not-is_power.false
