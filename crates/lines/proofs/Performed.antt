@@ -27,7 +27,8 @@ use Rattle.lines.specs.Lines.{LineDone, LineWorked}
 
 module _ (h : Head) (columns : List ℕ) (line : Bytes) (r : Record) (out : List ℕ) (w : Result Work Refused) (columns' out' : List ℕ) where
   pub line_meant : (x : Record) (m : Outcome DeskRecord) → r ≡ x → meant line x ≡ m
-      → DoneBy (desk_of h columns) (m >>= operation (desk_of h columns)) out h w columns' out' → LineDone h columns line r out w columns' out'
+      → DoneBy (desk_of h columns) (m >>= operation (desk_of h columns)) out h w columns' out'
+      → LineDone h columns line r out w columns' out'
   line_meant x m e q k =
       let d = desk_of h columns in
       subst (λ (z : Outcome DeskRecord). DoneBy d (z >>= operation d) out h w columns' out') (sym (ap (meant line) e ∙ q)) k

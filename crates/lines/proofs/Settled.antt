@@ -138,7 +138,8 @@ module _ (q : Reply) (out₀ out : List ℕ) (o : out ≡ written out₀ 0 (dire
     unfolding reply_bytes
     wrote_number m t w = all_written (ok_number m) (told_number q m (sym t)) refl out' n w
 
-    pub wrote_refusal : (m : ℕ) → refuse m none ≡ told q → Wrote (no_line (decimal m ∷ [])) out 0 out' n → Wrote (reply_bytes q) out₀ 0 out' n
+    pub wrote_refusal : (m : ℕ) → refuse m none ≡ told q → Wrote (no_line (decimal m ∷ [])) out 0 out' n
+        → Wrote (reply_bytes q) out₀ 0 out' n
     unfolding reply_bytes
     wrote_refusal m t w = all_written (refuses m none) (told_refused q m none (sym t)) refl out' n w
 
@@ -169,7 +170,8 @@ module _ (d : Desk) (line : Bytes) (out₀ columns' out out' : List ℕ) (used :
   o = line_operation d line
 
   answered_as : (x : Desk) → settle d o ≡ (x, reply_to o) → (h' : Head) → HoldsDesk h' columns' → desk_of h' columns' ≡ x
-      → (p : Result Told Refused) → SettledBy p out used out' → outcome_of p ≡ told (reply_to o) → out ≡ written out₀ 0 (direct (reply_to o))
+      → (p : Result Told Refused) → SettledBy p out used out' → outcome_of p ≡ told (reply_to o)
+      → out ≡ written out₀ 0 (direct (reply_to o))
       → Answered (respond_line d line) out₀ (record { head = h'; used = used }) columns' out'
   unfolding respond_line
   answered_as x e h' H q p s t w =

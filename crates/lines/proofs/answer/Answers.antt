@@ -15,4 +15,5 @@ pub returns-in-Err : goal.returns-in-Err
 returns-in-Err c = λ d line out₀ columns' k.
     let a = c.args in
     answered_refused d line out₀ columns' a.out.now _ _ a.head c.in-Err.refused
-    (subst (λ w. DoneBy d (line_operation d line) out₀ a.head w columns' a.out.now) c.in-Err.is k) c.write_refusal.ensures _ c.dropped.ensures
+    (subst (λ w. DoneBy d (line_operation d line) out₀ a.head w columns' a.out.now) c.in-Err.is k)
+    c.write_refusal.ensures _ c.dropped.ensures

@@ -15,7 +15,8 @@ no_column-requires c = omega (arith, rooms.no_column, c.requires)
 
 pub returns-in-None : goal.returns-in-None
 returns-in-None c = λ q out₀ t o.
-    wrote_refusal q out₀ c.args.out.now o _ _ c.from-number.result (ap₂ refuse c.from-number.ensures (ap letter_of (sym c.in-None.is)) ∙ t) c.no.ensures
+    wrote_refusal q out₀ c.args.out.now o _ _ c.from-number.result
+    (ap₂ refuse c.from-number.ensures (ap letter_of (sym c.in-None.is)) ∙ t) c.no.ensures
 
 pub returns-in-Some : goal.returns-in-Some
 returns-in-Some c = λ q out₀ t o.

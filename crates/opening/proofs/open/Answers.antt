@@ -16,7 +16,8 @@ use Rattle.slots.specs.Desks.{desk_of}
 use Rattle.slots.specs.Refused.{refused_for}
 use Rattle.slots.proofs.Held.{slots_eight}
 use Rattle.slots.proofs.Steps.{slot_below, admitted_named, returned, refused_by, refused_job, at_end, done_passed}
-use Rattle.opening.proofs.Drafted.{drafted, slots_untouched, drafted_size, drafted_desk, holds_drafted, draft_empty, open_outside, open_done}
+use Rattle.opening.proofs.Drafted.{drafted, slots_untouched, drafted_size, drafted_desk, holds_drafted, draft_empty}
+use Rattle.opening.proofs.Drafted.{open_outside, open_done}
 use Rattle.opening.proofs.open.Goals.{Else-not-is_in_range}
 use Rattle.opening.proofs.open.Goals as goal
 
@@ -65,7 +66,8 @@ returns c = λ columns out H.
     let next : Effect = (with_draft d (new_draft a.slot (shape_of a.shape)), silent) in
     let desk : desk_of (drafted h slot size) columns ≡ next.0 =
     drafted_desk h columns columns H same slot size
-    ∙ ap (with_draft d) (draft_empty (drafted h slot size) columns slot a.shape.arity a.shape.roots (drafted_size h columns columns H same slot size)
+    ∙ ap (with_draft d) (draft_empty (drafted h slot size) columns slot a.shape.arity a.shape.roots
+    (drafted_size h columns columns H same slot size)
     ∙ ap (λ n. record { slot = n; shape = shape_of a.shape; rows = [] }) c.slot_number.ensures) in
     let step = at_end d r (c.in_ok-admission.ensures r false columns refl) next (open_done d a.slot a.shape.arity a.shape.roots yes) refl in
     done_passed h columns H r out next step _ columns out

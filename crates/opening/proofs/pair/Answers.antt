@@ -22,34 +22,46 @@ returns-then-is_none c = λ out.
 pub returns-in_err-from_word : goal.returns-in_err-from_word
 returns-in_err-from_word c = λ out.
     let a = c.args in
+    let from = a.from.now in
     let (slot, e) = draft_slot a.head.draft (c.is_none.ensures ∙ ap not c.if-is_none.false) in
-    refused_job a.head a.columns.now c.requires (M a.from.now a.to.now) out
-    (pair_admitted a.head a.columns.now c.requires slot e a.from.now a.to.now) (refused_for The.BadWord)
-    (bad_from a.head a.columns.now c.requires slot e a.from.now a.to.now (ap (λ z. read_word z a.from.now) (sym c.shape-shape.ensures) ∙ sym c.read.ensures ∙ c.in_err-from_word.ensures.ok_part)) _
+    let read = ap (λ s. read_word s from) (sym c.shape-shape.ensures) ∙ sym c.read.ensures ∙ c.in_err-from_word.ensures.ok_part in
+    refused_job a.head a.columns.now c.requires (M from a.to.now) out
+    (pair_admitted a.head a.columns.now c.requires slot e from a.to.now) (refused_for The.BadWord)
+    (bad_from a.head a.columns.now c.requires slot e from a.to.now read) _
     (returned _ _ c.from_residual.ensures.1 ∙ ap Err (refused_with c.read.result _ The.BadWord c.in_err-from_word.ensures.value))
 
 pub returns-in_err-to_word : goal.returns-in_err-to_word
 returns-in_err-to_word c = λ out.
     let a = c.args in
+    let from = a.from.now in
+    let to = a.to.now in
     let (slot, e) = draft_slot a.head.draft (c.is_none.ensures ∙ ap not c.if-is_none.false) in
-    refused_job a.head a.columns.now c.requires (M a.from.now a.to.now) out
-    (pair_admitted a.head a.columns.now c.requires slot e a.from.now a.to.now) (refused_for The.BadWord)
-    (bad_to a.head a.columns.now c.requires slot e a.from.now a.to.now _ (ap (λ z. read_word z a.from.now) (sym c.shape-shape.ensures) ∙ sym c.read.ensures ∙ c.in_ok-from_word.ensures.ok_part)
-    (ap (λ z. read_word z a.to.now) (sym c.shape-shape.ensures) ∙ sym c.read-2.ensures ∙ c.in_err-to_word.ensures.ok_part)) _
-    (returned _ _ c.from_residual-in_err-to_word.ensures.1 ∙ ap Err (refused_with c.read-2.result _ The.BadWord c.in_err-to_word.ensures.value))
+    let first = ap (λ s. read_word s from) (sym c.shape-shape.ensures) ∙ sym c.read.ensures ∙ c.in_ok-from_word.ensures.ok_part in
+    let second = ap (λ s. read_word s to) (sym c.shape-shape.ensures) ∙ sym c.read-2.ensures ∙ c.in_err-to_word.ensures.ok_part in
+    refused_job a.head a.columns.now c.requires (M from to) out (pair_admitted a.head a.columns.now c.requires slot e from to)
+    (refused_for The.BadWord) (bad_to a.head a.columns.now c.requires slot e from to _ first second) _
+    (returned _ _ c.from_residual-in_err-to_word.ensures.1
+    ∙ ap Err (refused_with c.read-2.result _ The.BadWord c.in_err-to_word.ensures.value))
 
 pub returns-then-size-ge-MAX_PAIRS : goal.returns-then-size-ge-MAX_PAIRS
 returns-then-size-ge-MAX_PAIRS c = λ out.
     let a = c.args in
+    let from = a.from.now in
+    let to = a.to.now in
     let (slot, e) = draft_slot a.head.draft (c.is_none.ensures ∙ ap not c.if-is_none.false) in
-    refused_job a.head a.columns.now c.requires (M a.from.now a.to.now) out
-    (pair_admitted a.head a.columns.now c.requires slot e a.from.now a.to.now) (refused_for The.PairsFull)
-    (no_room a.head a.columns.now c.requires slot e a.from.now a.to.now _ _ (ap (λ z. read_word z a.from.now) (sym c.shape-shape.ensures) ∙ sym c.read.ensures ∙ c.in_ok-from_word.ensures.ok_part)
-    (ap (λ z. read_word z a.to.now) (sym c.shape-shape.ensures) ∙ sym c.read-2.ensures ∙ c.in_ok-to_word.ensures.ok_part) c.if-size-ge-MAX_PAIRS.true) _ (ap Err c.into-then-size-ge-MAX_PAIRS.ensures)
+    let first = ap (λ s. read_word s from) (sym c.shape-shape.ensures) ∙ sym c.read.ensures ∙ c.in_ok-from_word.ensures.ok_part in
+    let second = ap (λ s. read_word s to) (sym c.shape-shape.ensures) ∙ sym c.read-2.ensures ∙ c.in_ok-to_word.ensures.ok_part in
+    refused_job a.head a.columns.now c.requires (M from to) out (pair_admitted a.head a.columns.now c.requires slot e from to)
+    (refused_for The.PairsFull)
+    (no_room a.head a.columns.now c.requires slot e from to _ _ first second c.if-size-ge-MAX_PAIRS.true) _
+    (ap Err c.into-then-size-ge-MAX_PAIRS.ensures)
 
 pub returns : goal.returns
 returns c = λ out.
     let a = c.args in
+    let from = a.from.now in
+    let to = a.to.now in
     let (slot, e) = draft_slot a.head.draft (c.is_none.ensures ∙ ap not c.if-is_none.false) in
-    paired_done a.head a.columns.now c.requires slot e a.from.now a.to.now _ _ (ap (λ z. read_word z a.from.now) (sym c.shape-shape.ensures) ∙ sym c.read.ensures ∙ c.in_ok-from_word.ensures.ok_part)
-    (ap (λ z. read_word z a.to.now) (sym c.shape-shape.ensures) ∙ sym c.read-2.ensures ∙ c.in_ok-to_word.ensures.ok_part) c.if-size-ge-MAX_PAIRS.false out
+    let first = ap (λ s. read_word s from) (sym c.shape-shape.ensures) ∙ sym c.read.ensures ∙ c.in_ok-from_word.ensures.ok_part in
+    let second = ap (λ s. read_word s to) (sym c.shape-shape.ensures) ∙ sym c.read-2.ensures ∙ c.in_ok-to_word.ensures.ok_part in
+    paired_done a.head a.columns.now c.requires slot e from to _ _ first second c.if-size-ge-MAX_PAIRS.false out
