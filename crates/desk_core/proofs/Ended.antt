@@ -28,12 +28,16 @@ some_bytes : (l : List ℕ) → (length l ≡ 0 → ⊥) → elim l [ [] ↦ tru
 some_bytes [] h = absurd (h refl)
 some_bytes (b ∷ l) h = refl
 
-pub ended_begun : (s : State) → HoldsState s → s.overlong ≡ false → (s.begun ≡ 0 → ⊥) → is_idle (state_of s) ≡ false
+pub ended_begun : (s : State) → HoldsState s → (s.begun ≡ 0 → ⊥) → is_idle (state_of s) ≡ false
 unfolding state_of
-ended_begun s H e n =
-    let size = length-take-le s.begun s.line (omega (arith, H.lined, H.fits)) in
-    ap (λ b. is_idle (begun_at s.head s.columns (take s.begun s.line) b)) e
-    ∙ some_bytes (take s.begun s.line) (λ q. n (sym size ∙ q))
+ended_begun s H n = by s.overlong
+  where
+    size : length (take s.begun s.line) ≡ s.begun
+    size = length-take-le s.begun s.line (omega (arith, H.lined, H.fits))
+
+    by : (b : Bool) → is_idle (begun_at s.head s.columns (take s.begun s.line) b) ≡ false
+    by true = refl
+    by false = some_bytes (take s.begun s.line) (λ q. n (sym size ∙ q))
 
 idle_state : (s : State) → s.overlong ≡ false → s.begun ≡ 0 → is_idle (state_of s) ≡ true
 unfolding state_of

@@ -1,7 +1,7 @@
 // Input in pieces (document 01, "Records": "The desk program reads standard input, one record a line .. lines ended by byte 10"). Between
 // two pieces there is the desk and the beginning of a line, of which no more is held than a line may have; a whole line is answered where
 // it lies in the piece. The promises are `feed` and `finish` of the crate `desk`.
-ghost use Rattle.std.specs.Prelude.{◌≡◌, ◌+◌, ◌≤◌, length, take};
+ghost use Rattle.std.specs.Prelude.{◌≡◌, ◌+◌, ◌≤◌, ◌<◌, length, take, IfSome, unwrap_or};
 ghost use Rattle.higman.specs.Buffers.{written};
 ghost use Rattle.desk.specs.Desk.{fresh_desk};
 ghost use Rattle.desk.specs.Session.{idle, effect_of};
@@ -11,7 +11,7 @@ ghost use Rattle.desk_core.specs.Feeding.{state_of, begun_at, HoldsState, Held, 
 ghost use Rattle.desk_core.specs.Feeding.{LineAnswered, FedBy, Finishing, LastAnswered, FinishedBy};
 
 use lines::Stepped;
-use slots::{COLUMNS, Desk, Head, Size, numbers};
+use slots::{BLOCKS, COLUMNS, Desk, Head, Size, numbers};
 
 // `max_line`: the most bytes of a line.
 pub const MAX_LINE: usize = 1100;
@@ -62,7 +62,7 @@ pub fn fresh() -> State
     };
     State {
         head: Head {
-            sizes: [none; 9],
+            sizes: [none; BLOCKS],
             is_open: false,
             slot: 0,
             control: slots::fresh_control(),
@@ -74,19 +74,14 @@ pub fn fresh() -> State
     }
 }
 
-// The place of the first byte 10 from a place on, or the end.
-fn line_end(input: &[u8], at: usize) -> usize
+// The place of the first byte 10 from a place on, if there is one.
+fn line_end(input: &[u8], at: usize) -> Option<usize>
     requires { at ≤ length input.now }
-    ensures { LineEnd input.now at result }
+    ensures inside { IfSome result (λ end. end < length input.now) }
+    ensures first { LineEnd input.now at (unwrap_or result (length input.now)) }
 {
-    let mut i = at;
-    while i < input.len() {
-        if input[i] == b'\n' {
-            return i;
-        }
-        i += 1;
-    }
-    i
+    let length = input[at..].iter().position(|&byte| byte == b'\n')?;
+    Some(at + length)
 }
 
 // Bytes copied behind the beginning of a line.
@@ -94,11 +89,7 @@ pub fn copy(line: &mut [u8], begun: usize, part: &[u8])
     requires { begun + length part.now ≤ length line.old }
     ensures { line.new ≡ written line.old begun part.now }
 {
-    let mut i = 0;
-    while i < part.len() {
-        line[begun + i] = part[i];
-        i += 1;
-    }
+    line[begun..begun + part.len()].copy_from_slice(part);
 }
 
 // The beginning of a line grows by some bytes, none of them 10.
@@ -108,7 +99,7 @@ fn grow(line: &mut [u8], begun: usize, overlong: bool, part: &[u8]) -> Begun
 {
     if overlong {
         return Begun {
-            begun: begun,
+            begun,
             overlong: true,
         };
     }
@@ -133,10 +124,9 @@ fn end_line(head: Head, columns: &mut [u64], line: &[u8], overlong: bool, out: &
 {
     if overlong {
         let used = replies::no(numbers::NO_RECORD, out, 0);
-        let left = lines::dropped(head);
         return Stepped {
-            head: left,
-            used: used,
+            head: lines::dropped(head),
+            used,
         };
     }
     lines::step(head, columns, line, out)
@@ -158,14 +148,11 @@ fn whole_line(
         columns.new out.new }
     ensures line_len_unchanged { length line.new ≡ length line.old }
 {
-    if begun == 0 {
-        if !overlong {
-            return lines::step(head, columns, part, out);
-        }
+    if begun == 0 && !overlong {
+        return lines::step(head, columns, part, out);
     }
     let grown = grow(line, begun, overlong, part);
-    let n = grown.begun;
-    end_line(head, columns, &line[..n], grown.overlong, out)
+    end_line(head, columns, &line[..grown.begun], grown.overlong, out)
 }
 
 // Every whole line of a piece of input, as long as the output has room for any reply; the beginning of a line is carried over.
@@ -180,35 +167,21 @@ pub fn feed(state: State, input: &[u8], out: &mut [u8]) -> Fed
     let mut overlong = state.overlong;
     let mut at = 0;
     let mut used = 0;
-    while at < input.len() {
-        if out.len() - used < MAX_REPLY {
+    while at < input.len() && MAX_REPLY <= out.len() - used {
+        let Some(end) = line_end(input, at) else {
+            let grown = grow(&mut line, begun, overlong, &input[at..]);
             return Fed {
                 state: State {
-                    head: head,
-                    columns: columns,
-                    line: line,
-                    begun: begun,
-                    overlong: overlong,
-                },
-                taken: at,
-                used: used,
-            };
-        }
-        let end = line_end(input, at);
-        if input.len() <= end {
-            let grown = grow(&mut line, begun, overlong, &input[at..end]);
-            return Fed {
-                state: State {
-                    head: head,
-                    columns: columns,
-                    line: line,
+                    head,
+                    columns,
+                    line,
                     begun: grown.begun,
                     overlong: grown.overlong,
                 },
-                taken: end,
-                used: used,
+                taken: input.len(),
+                used,
             };
-        }
+        };
         let s = whole_line(
             head,
             &mut columns,
@@ -219,21 +192,21 @@ pub fn feed(state: State, input: &[u8], out: &mut [u8]) -> Fed
             &mut out[used..],
         );
         head = s.head;
-        used = used + s.used;
         begun = 0;
         overlong = false;
+        used += s.used;
         at = end + 1;
     }
     Fed {
         state: State {
-            head: head,
-            columns: columns,
-            line: line,
-            begun: begun,
-            overlong: overlong,
+            head,
+            columns,
+            line,
+            begun,
+            overlong,
         },
         taken: at,
-        used: used,
+        used,
     }
 }
 
@@ -250,13 +223,12 @@ fn last_line(
     requires held { Held line n overlong }
     ensures { LastAnswered (effect_of (begun_at head columns (take n line) overlong)) out.old result out.new }
 {
-    let mut words = columns;
-    let s = end_line(head, &mut words, &line[..n], overlong, out);
-    let left = lines::dropped(s.head);
+    let mut columns = columns;
+    let s = end_line(head, &mut columns, &line[..n], overlong, out);
     Finished {
         desk: Desk {
-            head: left,
-            columns: words,
+            head: lines::dropped(s.head),
+            columns,
         },
         used: s.used,
     }
@@ -270,20 +242,14 @@ pub fn finish(state: State, out: &mut [u8]) -> Finished
     let head = state.head;
     let columns = state.columns;
     let line = state.line;
-    let n = state.begun;
-    let overlong = state.overlong;
-    if overlong {
-        return last_line(head, columns, line, n, overlong, out);
-    }
-    if n == 0 {
-        let left = lines::dropped(head);
+    if state.begun == 0 && !state.overlong {
         return Finished {
             desk: Desk {
-                head: left,
-                columns: columns,
+                head: lines::dropped(head),
+                columns,
             },
             used: 0,
         };
     }
-    last_line(head, columns, line, n, overlong, out)
+    last_line(head, columns, line, state.begun, state.overlong, out)
 }

@@ -10,7 +10,7 @@ use Rattle.lines.specs.declared.Sent.{Sent}
 use Rattle.lines.specs.Lines.{Answered}
 use Rattle.lines.proofs.Settled.{wrote_refusal, answered_refused}
 use Rattle.desk.proofs.Session.{long_line}
-use Rattle.desk_core.proofs.Grown.{long_done, short_effect, long_effect}
+use Rattle.desk_core.proofs.Grown.{long_done, long_effect}
 use Rattle.desk_core.proofs.feeding.end_line.Goals as goal
 
 pub no-used-requires : goal.no-used-requires
@@ -21,15 +21,9 @@ returns-then-overlong c =
     let a = c.args in
     let d = desk_of a.head a.columns.now in
     let sent : Sent = record { used = c.no-used.result; refuses = true } in
-    subst (λ e. Answered e a.out.now (record { head = c.dropped-left.result; used = c.no-used.result }) a.columns.now c.no-used.new.out)
+    subst (λ e. Answered e a.out.now (record { head = c.dropped.result; used = c.no-used.result }) a.columns.now c.no-used.new.out)
     (sym (long_effect a.head a.columns.now a.line.now a.overlong c.if-overlong.true))
     (answered_refused d long_line a.out.now a.columns.now a.out.now (refusing a.head no_record)
     (long_done a.head a.columns.now c.requires.holds a.out.now) _ sent
     (record { refuses = refl; wrote = λ q out₀ e o. wrote_refusal q out₀ a.out.now o _ _ no_record e c.no-used.ensures })
-    refl c.dropped-left.result c.dropped-left.ensures)
-
-pub returns : goal.returns
-returns c =
-    let a = c.args in
-    subst (λ x. Answered x a.out.now c.step.result c.step.new.columns c.step.new.out)
-    (sym (short_effect a.head a.columns.now a.line.now a.overlong c.if-overlong.false)) c.step.ensures
+    refl c.dropped.result c.dropped.ensures)
