@@ -4,6 +4,7 @@ use mathlib.Core.Path.{◌≡◌, refl, sym, ap, subst}
 use mathlib.Core.Bool.{Bool, false, ◌&&◌}
 use mathlib.Core.List.{List, [], ◌∷◌}
 use mathlib.Core.Option.{none}
+use Rattle.std.specs.Prelude.{None}
 use native.Mathlib.Omega.{arith}
 use lib.Dec.{T, leb, eqb}
 use lib.ListN.{length, take, drop, replicate, get_or, get_or-replicate}
@@ -40,7 +41,7 @@ all_zeros (suc n) = all_zeros n
 
 -- the head and the columns of no plan
 abbrev pub fresh_head : Control → Head
-fresh_head k = record { sizes = replicate 9 no_size; is_open = false; slot = 0; control = k }
+fresh_head k = record { sizes = replicate 9 no_size; draft = None; control = k }
 
 module _ (k : Control) (count-0 : control_of k ≡ fresh_control) (columns line : List ℕ) (sized : length columns ≡ 2304)
     (empty : T (zeros columns)) (lined : length line ≡ 1100) where

@@ -14,8 +14,12 @@ use Rattle.higman.specs.Buffers.{written}
 use Rattle.higman.specs.Refusals.{no_record}
 use Rattle.slots.specs.declared.Head.{Head}
 use Rattle.slots.specs.Desks.{desk_of, HoldsDesk}
-use Rattle.slots.specs.Works.{refusing, DoneBy}
-use Rattle.slots.proofs.Steps.{done_by_refusal}
+use Rattle.std.specs.Prelude.{Err}
+use Rattle.operations.specs.declared.refusals.Refusal.TheVariants as The
+use Rattle.slots.specs.declared.Refused.{Refused}
+use Rattle.slots.specs.Refused.{refused_for}
+use Rattle.slots.specs.Works.{DoneBy}
+use Rattle.slots.proofs.Steps.{done_refusal}
 use Rattle.desk.specs.Limits.{max_line}
 use Rattle.desk.specs.Desk.{Desk}
 use Rattle.desk.specs.Records.{parse}
@@ -74,11 +78,11 @@ long_operation d =
     (lt-leb (length long_line) max_line long_length)
 
 module _ (h : Head) (columns : List ℕ) where
-  pub long_done : HoldsDesk h columns → (out : List ℕ)
-      → DoneBy (desk_of h columns) (line_operation (desk_of h columns) long_line) out (refusing h no_record) columns out
-  long_done H out =
-      subst (λ o. DoneBy (desk_of h columns) o out (refusing h no_record) columns out) (sym (long_operation (desk_of h columns)))
-      (done_by_refusal h columns H out no_record (refusing h no_record) refl)
+  pub long_done : HoldsDesk h columns → (out : List ℕ) (f : Refused) → f ≡ refused_for The.NoRecord
+      → DoneBy (desk_of h columns) (line_operation (desk_of h columns) long_line) out h (Err f) columns out
+  long_done H out f e =
+      done_refusal h columns H (line_operation (desk_of h columns) long_line) (refused_for The.NoRecord) (long_operation (desk_of h columns)) out
+      (Err f) (ap Err e)
 
   pub long_effect : (line : Bytes) (o : Bool) → o ≡ true → effect_of (begun_at h columns line o) ≡ respond_line (desk_of h columns) long_line
   unfolding respond_line

@@ -11,7 +11,8 @@ ghost use Rattle.desk_core.specs.Feeding.{state_of, begun_at, HoldsState, Held, 
 ghost use Rattle.desk_core.specs.Feeding.{LineAnswered, FedBy, Finishing, LastAnswered, FinishedBy};
 
 use lines::Stepped;
-use slots::{BLOCKS, COLUMNS, Desk, Head, Size, numbers};
+use operations::refusals::Refusal;
+use slots::{BLOCKS, COLUMNS, Desk, Head, Size};
 
 // `max_line`: the most bytes of a line.
 pub const MAX_LINE: usize = 1100;
@@ -63,8 +64,7 @@ pub fn fresh() -> State
     State {
         head: Head {
             sizes: [none; BLOCKS],
-            is_open: false,
-            slot: 0,
+            draft: None,
             control: slots::fresh_control(),
         },
         columns: [0u64; COLUMNS],
@@ -123,11 +123,7 @@ fn end_line(head: Head, columns: &mut [u64], line: &[u8], overlong: bool, out: &
         columns.new out.new }
 {
     if overlong {
-        let used = replies::no(numbers::NO_RECORD, out, 0);
-        return Stepped {
-            head: lines::dropped(head),
-            used,
-        };
+        return lines::answer(head, Err(Refusal::NoRecord.into()), out);
     }
     lines::step(head, columns, line, out)
 }
