@@ -10,6 +10,7 @@ use borrow.Author.Tests.{eqb-true, eqb-false}
 use lib.Dec.{T, leb, eqb}
 use lib.ListN.{length, get_or, take, drop, replicate, length-append, length-replicate, length-drop, take-append-drop, drop_of_length-le}
 use lib.Seq.{length-take-le, drop-drop}
+use Rattle.std.specs.Prelude.{Option as Opened, None, Some, is_some}
 use Rattle.higman.specs.Words.{count}
 use Rattle.higman.specs.Limits.{Plan as PlanOf, max_pairs, slot_count}
 use Rattle.higman.proofs.Tests.{and_left, and_right}
@@ -106,13 +107,22 @@ blank_places =
     let zeros = length-replicate {A = ℕ} (max_pairs - 0) 0 ∙ all in
     (zeros, zeros)
 
+-- whether a plan is open
+pub none_open : (o : Opened ℕ) → is_some o ≡ false → o ≡ None
+none_open None e = refl
+none_open (Some s) e = cc
+
+pub some_open : (o : Opened ℕ) → is_some o ≡ true → (s : ℕ) × (o ≡ Some s)
+some_open None e = absurd (cc)
+some_open (Some s) e = (s, refl)
+
 -- The value of the open plan.
 module _ (h : Head) (columns : List ℕ) (H : HoldsDesk h columns) where
   abbrev v : Plan
   v = value_at h columns draft_block
 
-  abbrev chosen : Bool → Option Draft
-  chosen b = elim b [ true ↦ some (draft_in h.slot v) | false ↦ none ]
+  abbrev chosen : Opened ℕ → Option Draft
+  chosen o = elim o [ None ↦ none | Some slot ↦ some (draft_in slot v) ]
 
   few : v.pairs ≤ max_pairs
   unfolding value_at
@@ -124,26 +134,26 @@ module _ (h : Head) (columns : List ℕ) (H : HoldsDesk h columns) where
   to_long : v.pairs ≤ length v.to
   to_long = omega (arith, few, to_places h columns H.sized draft_block (omega arith))
 
-  pub draft_closed : h.is_open ≡ false → draft_of h columns ≡ none
+  pub draft_closed : h.draft ≡ None → draft_of h columns ≡ none
   draft_closed e = ap chosen e
 
-  pub draft_opened : h.is_open ≡ true → draft_of h columns ≡ some (draft_in h.slot v)
-  draft_opened e = ap chosen e
+  pub draft_opened : (slot : ℕ) → h.draft ≡ Some slot → draft_of h columns ≡ some (draft_in slot v)
+  draft_opened slot e = ap chosen e
 
   -- it is that of its pairs, with zeros behind them
-  pub draft_filled : h.is_open ≡ true → draft_value (draft_of h columns) ≡ filled_plan v.arity v.roots v.pairs v.from v.to
-  draft_filled e = ap draft_value (draft_opened e) ∙ sym (filled_packed v.arity v.roots v.pairs v.from v.to from_long to_long)
+  pub draft_filled : (slot : ℕ) → h.draft ≡ Some slot → draft_value (draft_of h columns) ≡ filled_plan v.arity v.roots v.pairs v.from v.to
+  draft_filled slot e = ap draft_value (draft_opened slot e) ∙ sym (filled_packed v.arity v.roots v.pairs v.from v.to from_long to_long)
 
   pub draft_places : (length (draft_value (draft_of h columns)).from ≡ max_pairs) × (length (draft_value (draft_of h columns)).to ≡ max_pairs)
-  draft_places = by h.is_open refl
+  draft_places = by h.draft refl
     where
-      by : (b : Bool) → h.is_open ≡ b → (length (draft_value (draft_of h columns)).from ≡ max_pairs) × (length (draft_value
+      by : (o : Opened ℕ) → h.draft ≡ o → (length (draft_value (draft_of h columns)).from ≡ max_pairs) × (length (draft_value
           (draft_of h columns)).to ≡ max_pairs)
-      by true e = (
-        ap (λ (p : Plan). length p.from) (draft_filled e) ∙ filling_length v.pairs v.from from_long few,
-        ap (λ (p : Plan). length p.to) (draft_filled e) ∙ filling_length v.pairs v.to to_long few,
+      by (Some slot) e = (
+        ap (λ (p : Plan). length p.from) (draft_filled slot e) ∙ filling_length v.pairs v.from from_long few,
+        ap (λ (p : Plan). length p.to) (draft_filled slot e) ∙ filling_length v.pairs v.to to_long few,
       )
-      by false e = (
+      by None e = (
         ap (λ o. length (draft_value o).from) (draft_closed e) ∙ blank_places.0,
         ap (λ o. length (draft_value o).to) (draft_closed e) ∙ blank_places.1,
       )

@@ -1,7 +1,7 @@
 -- A value that passes the test holds a desk, and is what that desk packs into.
 use Prim.Native.Nat.{ℕ, suc, ◌+◌, ◌≤◌, ◌<◌}
 use mathlib.Core.Path.{◌≡◌, refl, sym, ◌∙◌, ap}
-use mathlib.Core.Bool.{Bool, true, false, ◌&&◌, not}
+use mathlib.Core.Bool.{Bool, true, false, ◌&&◌}
 use mathlib.Core.List.{List, [], ◌∷◌, ◌++◌, map}
 use native.Mathlib.Omega.{arith}
 use borrow.Author.Tests.{eqb-true}
@@ -10,9 +10,10 @@ use lib.ListN.{length, get_or, drop, drop_of_length-le}
 use lib.Seq.{drop-cons}
 use mir.Val.{Val}
 use denote.Laws.{Is}
+use Rattle.std.specs.Prelude.{Option as Opened, None, Some}
 use Rattle.higman.specs.Words.{count}
 use Rattle.higman.specs.Limits.{slot_count, max_pairs}
-use Rattle.higman.specs.Listing.{is_slot, slot_byte}
+use Rattle.higman.specs.Listing.{slot_number, is_slot, slot_byte}
 use Rattle.desk.specs.Desk.{IsDesk}
 use Rattle.higman.proofs.Tests.{and_left, and_right, all_at, count_mem}
 use Rattle.operations.specs.declared.Plan.{Plan}
@@ -60,6 +61,10 @@ module _ (d : Desk) (whole : Whole d) (t : T (is_desk_value d)) where
 
   abbrev v : Plan
   v = value_at h columns draft_block
+
+  -- the slot that a plan is open for
+  abbrev drafted : Bool → Opened ℕ
+  drafted b = elim b [ true ↦ None | false ↦ Some (slot_number d.opened) ]
 
   -- the four tests
   abbrev o : Bool
@@ -113,14 +118,14 @@ module _ (d : Desk) (whole : Whole d) (t : T (is_desk_value d)) where
           v.roots) (in_table v) w in
           let pairs = eqb→eq v.pairs 0 (and_left (eqb v.pairs 0) (no_shape v.arity v.roots) none) in
           let size = no_size_lem (size_of v) pairs (and_right (eqb v.pairs 0) (no_shape v.arity v.roots) none) in
-          ap draft_value (draft_closed h columns value_holds (ap not e))
+          ap draft_value (draft_closed h columns value_holds (ap drafted e))
           ∙ no_pairs_lem v from_long to_long pairs (and_right (eqb v.pairs 0 && no_shape v.arity v.roots) (in_table v) w)
           ∙ (λ i. record { arity = (size i).arity; roots = (size i).roots; pairs = (size i).pairs; from = v.from; to = v.to })
       by false e w =
           let zero = unused_zeros v w in
           let from = filled_again v.pairs v.from zero.0 from_long in
           let to = filled_again v.pairs v.to zero.1 to_long in
-          draft_filled h columns value_holds (ap not e)
+          draft_filled h columns value_holds (slot_number d.opened) (ap drafted e)
           ∙ (λ i. record { arity = v.arity; roots = v.roots; pairs = v.pairs; from = from i; to = to i })
 
   opened_same : opened_by (draft_of h columns) ≡ d.opened
@@ -128,10 +133,10 @@ module _ (d : Desk) (whole : Whole d) (t : T (is_desk_value d)) where
     where
       by : (x : Bool) → eqb d.opened 0 ≡ x → T (elim x [ true ↦ true | false ↦ is_slot d.opened ])
           → opened_by (draft_of h columns) ≡ d.opened
-      by true e w = ap opened_by (draft_closed h columns value_holds (ap not e)) ∙ sym (eqb-true d.opened 0 e)
+      by true e w = ap opened_by (draft_closed h columns value_holds (ap drafted e)) ∙ sym (eqb-true d.opened 0 e)
       by false e w =
           let low : 65 ≤ d.opened = leb→le 65 d.opened (and_left (leb 65 d.opened) (leb (suc d.opened) (slot_byte slot_count)) w) in
-          ap opened_by (draft_opened h columns value_holds (ap not e)) ∙ omega arith
+          ap opened_by (draft_opened h columns value_holds (slot_number d.opened) (ap drafted e)) ∙ omega arith
 
   sizes_same : tidy_sizes d.blocks (size_of v) ≡ d.blocks
   unfolding value_at slot_count

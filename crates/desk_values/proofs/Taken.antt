@@ -1,7 +1,7 @@
 -- The value of a desk passes the test and holds that desk: each block of it stands in its place, and holds what was packed into it.
 use Prim.Native.Nat.{ℕ, zero, suc, ◌+◌, ◌*◌, ◌-◌, ◌≤◌, ◌<◌}
 use mathlib.Core.Path.{◌≡◌, refl, sym, ◌∙◌, ap, subst}
-use mathlib.Core.Bool.{Bool, true, false, ◌&&◌, not}
+use mathlib.Core.Bool.{Bool, true, false, ◌&&◌}
 use mathlib.Core.List.Memᴰ
 use mathlib.Core.List.{List, [], ◌∷◌, ◌++◌, map, append_assoc}
 use mathlib.Core.Option.{Option, none, some, none-ne-some}
@@ -11,6 +11,7 @@ use borrow.Author.Tests.{ne_eqb}
 use lib.Dec.{T, leb, eqb, leb→le}
 use lib.ListN.{length, get_or, take, drop, replicate, length-append, length-map, length-replicate}
 use lib.Seq.{take_at, drop_at, drop-append-add}
+use Rattle.std.specs.Prelude.{Option as Opened, None, Some}
 use Rattle.higman.specs.Words.{Word, is_word, count}
 use Rattle.higman.specs.Bases.{all}
 use Rattle.higman.specs.Tables.{Table, froms, tos}
@@ -31,7 +32,8 @@ use Rattle.slots.specs.Desks.{held_by, slot_at, draft_block, draft_in, draft_of,
 use Rattle.columns.proofs.Limits.{pair_limit}
 use Rattle.slots.proofs.Held.{slots_eight, same_count}
 use Rattle.slots.proofs.Rows.{control_back, packed_narrow}
-use Rattle.changing.proofs.Keeping.{kept_held, kept_in_table}
+use Rattle.changing.proofs.Kept.{kept_table, kept_held}
+use Rattle.operations.proofs.Repacked.{holds as rows_back, packed_is_plan}
 use Rattle.desks.specs.Tested.{holds_test}
 use Rattle.desks.proofs.Chains.{all_places}
 use Rattle.desks.proofs.Exact.{holds_exact}
@@ -130,20 +132,26 @@ held_placed : (x : Option PlanOf) → ((p : PlanOf) → x ≡ some p → Kept p)
 held_placed none k = blank_places
 held_placed (some p) k = packed_placed p (few_rows p.rows (k p refl).within)
 
+-- a slot that holds the value of a kept plan holds the plan
+packed_held : (p : PlanOf) → Kept p → held_by (packed p) ≡ some p
+packed_held p k =
+    let (from, to) = packed_placed p (few_rows p.rows k.within) in
+    kept_held (packed p) (packed_is_plan p k) from to ∙ ap some (rows_back p k)
+
 held_in_table : (x : Option PlanOf) → ((p : PlanOf) → x ≡ some p → Kept p) → T (in_table (held_value x))
 held_in_table none k = blank_in_table
-held_in_table (some p) k = kept_in_table p (k p refl)
+held_in_table (some p) k = kept_table (packed p) (packed_is_plan p (k p refl))
 
 held_back : (x : Option PlanOf) → ((p : PlanOf) → x ≡ some p → Kept p) → held_by (held_value x) ≡ x
 unfolding blank
 held_back none k = refl
-held_back (some p) k = kept_held p (k p refl)
+held_back (some p) k = packed_held p (k p refl)
 
 -- a plan that is held has pairs, so that its size is tidy
 held_tidy : (x : Option PlanOf) → ((p : PlanOf) → x ≡ some p → Kept p) → T (size_test (size_of (held_value x)))
 unfolding blank
 held_tidy none k = tt
-held_tidy (some p) k = by (eqb (packed p).pairs 0) (kept_held p (k p refl))
+held_tidy (some p) k = by (eqb (packed p).pairs 0) (packed_held p (k p refl))
   where
     by : (b : Bool) → elim b [ true ↦ none | false ↦ some (plan_of (packed p)) ] ≡ some p
         → T (elim b [ true ↦ eqb (packed p).arity 0 && eqb (packed p).roots 0 | false ↦ true ])
@@ -237,7 +245,8 @@ module _ (d : DeskOf) (D : IsDesk d) where
 
   -- the open plan that a block holds, by whether there is one and its letter
   abbrev opened : Bool → ℕ → Plan → Option Draft
-  opened none_open letter v = elim (not none_open) [ true ↦ some (draft_in (slot_number letter) v) | false ↦ none ]
+  opened none_open letter v =
+      elim (elim none_open as (λ _. Opened ℕ) [ true ↦ None | false ↦ Some (slot_number letter) ]) [ None ↦ none | Some slot ↦ some (draft_in slot v) ]
 
   draft_back : draft_of head columns ≡ d.draft
   unfolding packed_desk

@@ -1,6 +1,6 @@
 -- A desk as one value: the desk that a value holds, the test that it is one, and the value of a desk. That the values that pass the test
 -- are just those of desks is a statement, `DeskValues`, with a term of it in proofs/.
-use Rattle.std.specs.Prelude.{ℕ, ◌<◌, ◌≡◌, refl, Bool, true, false, ◌&&◌, not, List, [], ◌∷◌, ◌++◌, map, T, eqb, length, get_or, set}
+use Rattle.std.specs.Prelude.{ℕ, ◌<◌, ◌≡◌, refl, Bool, true, false, ◌&&◌, List, [], ◌∷◌, ◌++◌, map, T, eqb, length, get_or, set, None, Some}
 use Rattle.std.proofs.Math.Option.{Option, none, some}
 use Rattle.higman.specs.Words.{count}
 use Rattle.higman.specs.Bases.{all}
@@ -27,7 +27,12 @@ abbrev pub opened_test : ℕ → Bool
 opened_test b = elim (eqb b 0) [ true ↦ true | false ↦ is_slot b ]
 
 abbrev pub head_of : Desk → Head
-head_of d = record { sizes = d.blocks; is_open = not (eqb d.opened 0); slot = slot_number d.opened; control = d.control }
+head_of d =
+    record {
+      sizes = d.blocks;
+      draft = elim (eqb d.opened 0) [ true ↦ None | false ↦ Some (slot_number d.opened) ];
+      control = d.control;
+    }
 
 -- the desk that a value holds
 unfoldable pub desk_in : Desk → DeskOf

@@ -12,12 +12,7 @@ ghost use Rattle.desk_values.specs.Values.{tidy_size, tidy_sizes, draft_value, o
 
 use operations::{MAX_PAIRS, Plan, answers, following, listing};
 use plans::drafts;
-use slots::{BLOCK, BLOCKS, COLUMNS, Control, DRAFT, Head, SLOTS, Size, blocks};
-
-// Where the columns of the open plan start.
-const FROM: usize = DRAFT * BLOCK;
-
-const TO: usize = FROM + MAX_PAIRS;
+use slots::{BLOCKS, COLUMNS, Control, DRAFT, Head, SLOTS, Size, blocks};
 
 // "The desk has slots A to H, at most one open plan, and a count of changes": the sizes and words of the slots and then of the open plan,
 // and the letter of the slot that the open plan is meant for, 0 where none is open.
@@ -42,22 +37,17 @@ pub fn head_of(desk: Desk) -> Head
     requires { opened_test desk.opened ≡ true }
     ensures { result ≡ head_of desk }
 {
+    let draft = if desk.opened == 0 {
+        None
+    } else {
+        Some(slots::slot_number(desk.opened) as u8)
+    };
     let sizes = desk.blocks;
-    let opened = desk.opened;
     let control = desk.control;
-    if opened == 0 {
-        return Head {
-            sizes: sizes,
-            is_open: false,
-            slot: 0,
-            control: control,
-        };
-    }
     Head {
-        sizes: sizes,
-        is_open: true,
-        slot: slots::slot_number(opened) as u8,
-        control: control,
+        sizes,
+        draft,
+        control,
     }
 }
 
@@ -146,19 +136,18 @@ fn draft_of(head: Head, columns: &[u64]) -> Plan
     requires { HoldsDesk head columns.now }
     ensures { result ≡ draft_value (draft_of head columns.now) }
 {
-    if !head.is_open {
+    if head.draft.is_none() {
         return answers::blank();
     }
     let size = head.sizes[DRAFT];
     let n = size.pairs;
-    let from = following::padded(blocks::part(columns, FROM, n), n);
-    let to = following::padded(blocks::part(columns, TO, n), n);
+    let (from, to) = blocks::pairs(columns, DRAFT, n);
     Plan {
         arity: size.arity,
         roots: size.roots,
         pairs: n,
-        from: from,
-        to: to,
+        from: following::padded(from, n),
+        to: following::padded(to, n),
     }
 }
 
@@ -167,10 +156,10 @@ fn opened_by(head: Head, columns: &[u64]) -> u8
     requires { HoldsDesk head columns.now }
     ensures { result ≡ opened_by (draft_of head columns.now) }
 {
-    if !head.is_open {
-        return 0;
+    match head.draft {
+        Some(slot) => b'A' + slot,
+        None => 0,
     }
-    b'A' + head.slot
 }
 
 // The value of the desk that a head and its columns hold.

@@ -12,7 +12,7 @@ use Rattle.desk_values.proofs.packed.Goals.{Start}
 use Rattle.desk_values.proofs.packed.Goals as goal
 
 narrow : (s : Start) (i : ℕ) → get_or s.args.head.control.rights i 0 < 65_536
-narrow s = narrow_rights s.args.head.control.rights _ s.well_formed.0.1.1.1.1.1.0.1.1.1.1.0.1.1
+narrow s = narrow_rights s.args.head.control.rights _ s.well_formed.0.1.1.1.1.0.1.1.1.1.0.1.1
 
 pub returns : goal.returns
 returns c =
