@@ -1,6 +1,6 @@
 // The records that change nothing (document 01, "Records"): S compares, W routes, L lists, T counts, U surveys, and H tells the pairs held
 // (change request E8). Each gives its reply alone. A slot's plan is lent in parts of the columns, and none is copied. What W, L and U reply
-// is written into the output where it is found, and told by its length.
+// is written into the output where it is found, and told by its length. (kept: a head and its columns side by side, as `slots::Head` says.)
 #![tactic(auto)]
 
 ghost use Rattle.std.specs.Prelude.{◌≡◌, true};

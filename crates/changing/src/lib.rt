@@ -1,5 +1,6 @@
 // The records that keep a plan or empty a slot (document 01, "Records"): "E, F, I, K and C raise the count by one", and so does X (change
 // request E3). Each of them is refused where the count is at its limit. "Operands are read before c is written, so letters may repeat."
+// (kept: a head and its columns side by side, as `slots::Head` says.)
 #![tactic(auto)]
 
 ghost use Rattle.std.specs.Prelude.{◌≡◌, true, false};

@@ -1,5 +1,6 @@
 // A column by value whose words are split, from the roots on (document 004, "A sequence of d simple expansions"): a word is replaced by its
-// parts, and the words behind it move up. The words stand at the first places; what is behind them says nothing.
+// parts, and the words behind it move up. The words stand at the first places; what is behind them says nothing. (kept: an array and how
+// many of its places are used, since nothing is allocated here.)
 ghost use Rattle.std.specs.Prelude.{◌≡◌, ◌+◌, ◌-◌, ◌≤◌, take, drop};
 ghost use Rattle.std.proofs.Math.Seq.{paste};
 ghost use Rattle.higman.specs.Bases.{root_words};

@@ -1,6 +1,7 @@
 // Input in pieces (document 01, "Records": "The desk program reads standard input, one record a line .. lines ended by byte 10"). Between
 // two pieces there is the desk and the beginning of a line, of which no more is held than a line may have; a whole line is answered where
 // it lies in the piece. The promises are `feed` and `finish` of the crate `desk`.
+// (kept: a head and its columns side by side, as `slots::Head` says.)
 ghost use Rattle.std.specs.Prelude.{◌≡◌, ◌+◌, ◌≤◌, ◌<◌, length, take, IfSome, unwrap_or};
 ghost use Rattle.higman.specs.Buffers.{written};
 ghost use Rattle.desk.specs.Desk.{fresh_desk};

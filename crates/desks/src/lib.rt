@@ -1,6 +1,7 @@
 // Whether a head and columns that somebody made hold a desk (document 01, "When each operation says no": "a plan or desk handed in isn't
 // one as described above"): each slot holds a kept plan or nothing, an open plan is one as P and M make it, station, counts and rights are
 // in their ranges, and the stored sum is that of the pairs in the slots.
+// (kept: a head and its columns side by side, as `slots::Head` says.)
 #![tactic(auto)]
 
 ghost use Rattle.std.specs.Prelude.{◌≡◌, ◌≤◌};

@@ -7,7 +7,8 @@ ghost use Rattle.exercises.specs.Growing.{Shufflable};
 use crate::draws;
 use operations::MAX_PAIRS;
 
-// The first so many words of a column, shuffled by the draws that follow one.
+// The first so many words of a column, shuffled by the draws that follow one. (kept: an array and how many of its places are used, as in
+// `columns::splits`.)
 pub fn shuffle(column: [u64; MAX_PAIRS], count: usize, draw: u64) -> [u64; MAX_PAIRS]
     requires { Shufflable count draw }
     ensures { words_of (take count result) ≡ shuffled draw (words_of (take count column)) (count - 1) }

@@ -1,6 +1,6 @@
 // The desk's answer to a line of bytes (document 01, "Records"): the line becomes a record, the record is worked on a head and lent
 // columns, and the reply is written at the front of the lent output. `step` promises an equality with `respond_line` of the crate `desk`,
-// through the desk that the head and columns hold.
+// through the desk that the head and columns hold. (kept: a head and its columns side by side, as `slots::Head` says.)
 #![tactic(auto)]
 
 ghost use Rattle.std.specs.Prelude.{◌≡◌, ◌≤◌, length, Ok, Err};

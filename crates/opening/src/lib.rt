@@ -1,5 +1,5 @@
 // The records that open a plan and add to it (document 01, "Records": "P⇥slot⇥n⇥r opens a plan. M⇥from⇥to adds a pair. Neither replies
-// when accepted.").
+// when accepted."). (kept: a head and its columns side by side, as `slots::Head` says.)
 #![tactic(auto)]
 
 ghost use Rattle.desk.specs.Records.{P, M};

@@ -21,6 +21,7 @@ const FIRST: usize = 2;
 const SECOND: usize = 4;
 
 // A record, by its letter. A slot is the byte that names it, a word or code the part of the line that spells it.
+// (kept: n and r as two digits, since a line may have any two: what a shape is, the crate `words` says, and a record is read without it.)
 #[derive(Clone, PartialEq, Eq, Debug, Drop)]
 pub enum Record {
     // P⇥slot⇥n⇥r

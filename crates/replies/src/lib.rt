@@ -1,6 +1,7 @@
 // From a reply to its bytes (document 01, "Records": "Replies are lines ended the same way"), written into a lent buffer: the lines of
 // `ok` and `no`, with a number, an image or a column behind them, and U's line for a held slot. Each function writes its line from a place
 // on and returns the place behind it; the rest of the buffer stays as it was. What the bytes of a line are is said in the crate `desk`.
+// (kept: a buffer and a place in it, as in `words::writing`.)
 #![tactic(auto)]
 
 ghost use Rattle.std.specs.Prelude.{[], ◌∷◌, ◌+◌, ◌≤◌, length, take, drop};

@@ -1,5 +1,5 @@
 // The blocks of the columns: each holds the words of a plan, from-words and then to-words, with zeros behind the pairs. A block is read
-// as a plan by value, or lent in parts, and a plan is put into one.
+// as a plan by value, or lent in parts, and a plan is put into one. (kept: a head and its columns side by side, as `slots::Head` says.)
 ghost use Rattle.std.specs.Prelude.{◌≡◌, ◌+◌, ◌≤◌, ◌<◌, length, take, drop};
 ghost use Rattle.higman.specs.Limits.{max_pairs};
 ghost use Rattle.higman.specs.Buffers.{written};

@@ -71,6 +71,8 @@ pub struct Control {
 }
 
 // What is known of a desk beside its words: the sizes of the blocks, the slot for which a plan is open, and what it keeps beside its plans.
+// (kept: a head by value and the columns lent beside it, since document 01 names by-value operations beneath the calls, and the 18 KB of
+// words stay where they lie.)
 #[derive(Clone, Copy)]
 pub struct Head {
     pub sizes: [Size; BLOCKS],

@@ -1,6 +1,6 @@
 // The listing of a plan as P, M and E records, and the pairs of a block, written into a lent buffer (document 01, "Records"; change
 // requests E1 and E7). Each function writes its bytes from a place on and returns the place behind them; the rest of the buffer stays as it
-// was.
+// was. (kept: a buffer and a place in it, as in `words::writing`.)
 ghost use Rattle.std.specs.Prelude.{◌≡◌, ℕ, ◌+◌, ◌≤◌, length};
 ghost use Rattle.higman.specs.Words as Of;
 ghost use Rattle.higman.specs.Limits.{max_pairs};

@@ -1,5 +1,7 @@
 // Writing bytes, fields and words into a lent buffer (document 01, "Records": "fields parted by tabs"). Each function writes its bytes
 // from a place on and returns the place behind them; the rest of the buffer stays as it was.
+// (kept: a buffer and a place in it, since nothing is allocated here: the buffer is the caller's, and a writer of our own would hold the
+// same two.)
 ghost use Rattle.std.specs.Prelude.{[], ◌∷◌, ◌+◌, ◌≤◌, ◌<◌, length};
 ghost use Rattle.higman.specs.Text.{tab, word_bytes, decimal};
 ghost use Rattle.words.specs.Packed.{unpack};

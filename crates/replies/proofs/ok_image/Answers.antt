@@ -38,4 +38,4 @@ returns c =
     start
     (wrote_around a.n (omega arith) (omega arith) front behind) in
     subst (λ x. Wrote (bytes "ok\t" ++ x) out 0 c.put.new.out c.put.result)
-        (sym (append_assoc image (tab ∷ decimal a.place) (line_end ∷ []))) run
+    (sym (append_assoc image (tab ∷ decimal a.place) (line_end ∷ []))) run
