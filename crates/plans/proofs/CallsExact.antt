@@ -569,9 +569,9 @@ answers_numbered =
     record {
       granted = λ p. refl;
       refused = λ r. refl;
-      compared = λ b. refl;
+      compared = λ b. (refl, refl);
       not_compared = λ r. refl;
-      listed = λ n. refl;
+      listed = λ n. (refl, refl);
       not_listed = λ r. refl;
       routed = λ i. (refl, refl, refl);
       too_short = (refl, refl);

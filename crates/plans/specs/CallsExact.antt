@@ -2,6 +2,7 @@
 -- definition, and both could be wrong alike; these statements tie the definitions to the columns of a draft, to the pairs of a plan and
 -- to the paper's figures. `CallsExact` gathers them. Read Theorems.antt next.
 use Rattle.std.specs.Prelude.{ℕ, ◌≤◌, ◌<◌, ◌≡◌, refl, ◌⊎◌, ◌↔◌, Bool, true, false, T, length, get_or, take, drop, ℤ, nat_abs, Result, Ok, Err}
+use Rattle.std.specs.Result.{result_unwrap_or}
 use mathlib.Core.List.{List, [], ◌∷◌, ◌++◌, map, Memᴰ}
 use Rattle.std.proofs.Math.Option.{some}
 use Rattle.higman.specs.Words.{Shape, Word, count, is_word, begins, spell}
@@ -195,9 +196,9 @@ pub record PowerBreaks (v : Plan) (k : ℤ) : Type 0 where
 pub record AnswersNumbered : Type 0 where
   pub granted : (p : Plan) → answer_number (Ok p) ≡ 0
   pub refused : (r : Refusal) → answer_number {A = Plan} (Err r) ≡ number_of r
-  pub compared : (b : Bool) → answer_number (Ok b) ≡ 0
+  pub compared : (b : Bool) → (answer_number (Ok b) ≡ 0) × (result_unwrap_or {E = Refusal} (Ok b) false ≡ b)
   pub not_compared : (r : Refusal) → answer_number {A = Bool} (Err r) ≡ number_of r
-  pub listed : (n : ℕ) → answer_number (Ok n) ≡ 0
+  pub listed : (n : ℕ) → (answer_number (Ok n) ≡ 0) × (result_unwrap_or {E = Refusal} (Ok n) 0 ≡ n)
   pub not_listed : (r : Refusal) → answer_number {A = ℕ} (Err r) ≡ number_of r
   pub routed : (i : Image)
       → (routing_number (Reply.Image i) ≡ 0) × (routing_length (Reply.Image i) ≡ i.length) × (routing_place (Reply.Image i) ≡ i.place)

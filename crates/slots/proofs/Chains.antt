@@ -25,6 +25,7 @@ module _ (f : ℕ → Bool) where
 
   -- what `all` answers, by the lemma `cases_from_all` on it
   pub all_told : (l : List ℕ) (r : Bool)
-      → MatchBool r (AllWithin (λ x. f x ≡ true) l 0 (length l)) ((k : ℕ) × (k < length l) × HoldsAt (λ x. f x ≡ false) l k) → r ≡ all f l
+      → MatchBool r (AllWithin (λ x. f x ≡ true) l 0 (length l)) ((k : ℕ) × (k < length l) × HoldsAt (λ x. f x ≡ false) l k)
+      → r ≡ all f l
   all_told l true h = sym (each_passes l (λ k b. h k 0 (omega arith) b))
   all_told l false (k, b, h) = sym (one_fails l k b (h 0))

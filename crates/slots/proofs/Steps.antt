@@ -153,7 +153,8 @@ returned (Ok a) f h = absurd h
 returned (Err e) f h = ap Err h
 
 -- and with what, where `ok_or` gave the refusal
-pub refused_with : {A : Type 0} (o : Opened A) (n m : Refusal) → ◌≡◌ {A = Result A Refusal} (Err n) (ok_or o m) → refused_for n ≡ refused_for m
+pub refused_with : {A : Type 0} (o : Opened A) (n m : Refusal) → ◌≡◌ {A = Result A Refusal} (Err n) (ok_or o m)
+    → refused_for n ≡ refused_for m
 refused_with None n m e = cc
 refused_with (Some x) n m e = cc
 
@@ -200,7 +201,8 @@ module _ (h : Head) (columns : List ℕ) (r : Record) (out : List ℕ) where
   abbrev d : Desk
   d = desk_of h columns
 
-  pub tells_admission : (f : Refused) → admission d r ≡ outcome_of (Err f) → (p : Result Reply Refused) → p ≡ Err f → Tells r h columns out p out
+  pub tells_admission : (f : Refused) → admission d r ≡ outcome_of (Err f) → (p : Result Reply Refused) → p ≡ Err f
+      → Tells r h columns out p out
   tells_admission f a p q = told_refusal d (operation d r) f (operation_admission d r f a) out p q
 
   pub tells_by : (reads targets : List ℕ) (change : Bool) → kind r ≡ of_slots (uses_of reads targets) change → (f : Refused)

@@ -4,8 +4,10 @@ use native.Mathlib.Omega.{arith}
 use Rattle.desk.specs.Limits.{max_right}
 use Rattle.slots.proofs.Held.{control_held}
 use Rattle.slots.proofs.Steps.{admission_open, admission_outside, admission_denied, admission_passed}
-use Rattle.slots.proofs.admission.Goals.{then-not-are_slots-via-then-not-are_slots, then-not-are_slots-via-else-not-are_slots+then-not-are_slots-2}
-use Rattle.slots.proofs.admission.Goals.{then-not-are_allowed-via-then-not-are_allowed, then-not-are_allowed-via-else-not-are_allowed+then-not-are_allowed-2}
+use Rattle.slots.proofs.admission.Goals.{then-not-are_slots-via-then-not-are_slots}
+use Rattle.slots.proofs.admission.Goals.{then-not-are_slots-via-else-not-are_slots+then-not-are_slots-2}
+use Rattle.slots.proofs.admission.Goals.{then-not-are_allowed-via-then-not-are_allowed}
+use Rattle.slots.proofs.admission.Goals.{then-not-are_allowed-via-else-not-are_allowed+then-not-are_allowed-2}
 use Rattle.slots.proofs.admission.Goals as goal
 
 pub returns-then-is_some : goal.returns-then-is_some

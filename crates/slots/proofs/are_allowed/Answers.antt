@@ -11,13 +11,18 @@ use Rattle.slots.proofs.Rows.{named_at}
 use Rattle.slots.proofs.Steps.{slot_below}
 use Rattle.slots.proofs.are_allowed.Goals as goal
 
+-- each name that is looked at is one of a slot
 pub all-requires-clause-callable : goal.all-requires-clause-callable
 all-requires-clause-callable c =
-    serves_from_places (YieldsList-from_slice c.args.names.now cc) (λ x q k. search rules) (λ x k h e. let g : is_slot x.now ≡ true = rw e (named_at c.args.names.now k x.now h c.requires.named) in search (rules, slot_below))
+    let names = c.args.names.now in
+    serves_from_places (YieldsList-from_slice names cc) (λ x q k. search rules)
+    (λ x k h e. let named : is_slot x.now ≡ true = rw e (named_at names k x.now h c.requires.named) in search (rules, slot_below))
 
 pub returns : goal.returns
 unfolding allowed_in
 returns c =
     let a = c.args in
     let f = has_right a.control a.needed in
-    all_told f a.names.now c.all.result (cases_from_all _ _ _ (λ x. f x ≡ true) (λ x. f x ≡ false) c.all.ensures.ran (YieldsList-from_slice a.names.now cc) (λ x q k. search (rules, tests)) (λ x q k. search (rules, tests)))
+    all_told f a.names.now c.all.result
+    (cases_from_all _ _ _ (λ x. f x ≡ true) (λ x. f x ≡ false) c.all.ensures.ran (YieldsList-from_slice a.names.now cc)
+    (λ x q k. search (rules, tests)) (λ x q k. search (rules, tests)))

@@ -8,4 +8,8 @@ use Rattle.slots.proofs.Chains.{all_told}
 use Rattle.slots.proofs.are_slots.Goals as goal
 
 pub returns : goal.returns
-returns c = all_told is_slot c.args.names.now c.all.result (cases_from_all _ _ _ (λ x. is_slot x ≡ true) (λ x. is_slot x ≡ false) c.all.ensures.ran (YieldsList-from_slice c.args.names.now cc) (λ x q k. search (rules, tests)) (λ x q k. search (rules, tests)))
+returns c =
+    let names = c.args.names.now in
+    all_told is_slot names c.all.result
+    (cases_from_all _ _ _ (λ x. is_slot x ≡ true) (λ x. is_slot x ≡ false) c.all.ensures.ran (YieldsList-from_slice names cc)
+    (λ x q k. search (rules, tests)) (λ x q k. search (rules, tests)))

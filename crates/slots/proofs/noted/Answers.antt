@@ -1,5 +1,4 @@
--- `slots::noted` meets its contract: the station that is named is one of eight, and its count is below the limit, so that one more fits;
--- what is lost is part of the sum, and the sum has 16 bits.
+-- `slots::noted` meets its contract: the count of the named station is below the limit, so that one more fits.
 use borrow.Author.Tests.{leb-false}
 use native.Mathlib.Omega.{arith}
 use Rattle.desk.specs.Limits.{max_changes}

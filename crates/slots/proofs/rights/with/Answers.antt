@@ -24,7 +24,8 @@ pub overflow_add-next : goal.overflow_add-next
 overflow_add-next c =
     let a = c.args in
     let step = packed_next a.row a.slot a.right c.requires.fits c.loop-i.i c.loop-i-test.true c.loop-i.auto.i in
-    record { fits = omega (arith, step, packed_fits a.row a.slot a.right c.requires.fits (c.loop-i.i - 1), c.loop-i.invariant, c.after.ensures) }
+    let few = packed_fits a.row a.slot a.right c.requires.fits (c.loop-i.i - 1) in
+    record { fits = omega (arith, step, few, c.loop-i.invariant, c.after.ensures) }
 
 pub loop-i-preserved : goal.loop-i-preserved
 loop-i-preserved c =
