@@ -31,6 +31,18 @@ pub few_pairs : (h : Head) (columns : List ℕ) → HoldsDesk h columns → (i :
 unfolding value_at
 few_pairs h columns H i k = few_in_table (value_at h columns i) (H.in_tables i k)
 
+-- the plan of a slot, by the words at the first places of its columns
+pub plan_lent : (h : Head) (columns : List ℕ) → HoldsDesk h columns → (i : ℕ) → i < slot_count → {from to : List ℕ}
+    → from ≡ take (size_at h i).pairs (drop (from_place i) columns) → to ≡ take (size_at h i).pairs (drop (to_place i) columns)
+    → plan_of (value_at h columns i) ≡ plan_of_columns (size_at h i).arity (size_at h i).roots from to
+unfolding value_at
+plan_lent h columns H i k f t =
+    let z = size_at h i in
+    let few = few_pairs h columns H i k in
+    ap₂ (λ x y. record { shape = shape z.arity z.roots; rows = table x y })
+    (take-take z.pairs max_pairs (drop (from_place i) columns) few ∙ sym f)
+    (take-take z.pairs max_pairs (drop (to_place i) columns) few ∙ sym t)
+
 -- a byte that names a slot of a desk, and the slot's number
 module _ (h : Head) (columns : List ℕ) (H : HoldsDesk h columns) (slot : ℕ) (named : is_slot slot ≡ true) where
   abbrev looked : Option Plan → Outcome Plan
@@ -55,12 +67,7 @@ module _ (h : Head) (columns : List ℕ) (H : HoldsDesk h columns) (slot : ℕ) 
     -- the words that hold pairs stand at the first places of a column
     module _ {from to : List ℕ} (f : from ≡ take (size_at h i).pairs (drop (from_place i) columns)) (t : to ≡ take (size_at h i).pairs (drop (to_place i) columns)) where
       lent : plan_of (value_at h columns i) ≡ plan_of_columns (size_at h i).arity (size_at h i).roots from to
-      unfolding value_at
-      lent =
-          let z = size_at h i in
-          ap₂ (λ x y. record { shape = shape z.arity z.roots; rows = table x y })
-          (take-take z.pairs max_pairs (drop (from_place i) columns) few ∙ sym f)
-          (take-take z.pairs max_pairs (drop (to_place i) columns) few ∙ sym t)
+      lent = plan_lent h columns H i below f t
 
       pub lent_paired : length from ≡ length to
       lent_paired =

@@ -7,6 +7,7 @@ ghost use Rattle.higman.specs.Text.{word_of};
 ghost use Rattle.words.specs.Bytes.{shape_of as the_shape};
 ghost use Rattle.columns.specs.Packed.{words_of};
 ghost use Rattle.tables.specs.Routing.{further, at_place};
+ghost use Rattle.operations.specs.declared.lent.Lent.{Lent};
 ghost use Rattle.operations.specs.Plans.{lent_plan};
 ghost use Rattle.operations.specs.Routing.{matched_in, matched_place_in, routing_by, image_into};
 
@@ -26,20 +27,20 @@ fn is_code(code: &[u8], shape: Shape) -> bool
 }
 
 // The unmatched tail, as a part of the parcel's code, and the place of the from-word that begins the code, counted from 1; the whole code
-// and no place where no from-word begins it, or 4 applies.
-pub fn unmatched<'a>(plan: Lent, code: &'a [u8]) -> Match<'a>
-    ensures tail { result.tail.now ≡ drop (matched_in (the_shape plan.entry.shape) (words_of plan.entry.from.now) code.now) code.now }
-    ensures tail_ref_ptr { result.tail.ref_ptr ≡ further (matched_in (the_shape plan.entry.shape) (words_of plan.entry.from.now) code.now)
-        code.entry.ref_ptr }
-    ensures place { result.place ≡ at_place (matched_place_in (the_shape plan.entry.shape) (words_of plan.entry.from.now) code.now) }
+// and no place where no from-word begins it, or 4 applies. The from-words alone are read, and asked to be those of some plan that is lent.
+pub fn unmatched<'a>(shape: Shape, from: &[u64], code: &'a [u8]) -> Match<'a>
+    requires { (plan : Lent) × (plan.shape ≡ shape) × (plan.from.now ≡ from.now) }
+    ensures tail { result.tail.now ≡ drop (matched_in (the_shape shape) (words_of from.now) code.now) code.now }
+    ensures tail_ref_ptr { result.tail.ref_ptr ≡ further (matched_in (the_shape shape) (words_of from.now) code.now) code.entry.ref_ptr }
+    ensures place { result.place ≡ at_place (matched_place_in (the_shape shape) (words_of from.now) code.now) }
 {
-    if !is_code(code, plan.shape) {
+    if !is_code(code, shape) {
         return Match {
             tail: code,
             place: None,
         };
     }
-    tables::routing::unmatched(plan.from, code)
+    tables::routing::unmatched(from, code)
 }
 
 // Writes a code's image at the front of the buffer. 4, 13, 14.

@@ -21,7 +21,7 @@ pub fn unmatched<'a>(p: Plan, code: &'a [u8]) -> Match<'a>
             place: None,
         };
     };
-    routing::unmatched(plan, code)
+    routing::unmatched(plan.shape, plan.from, code)
 }
 
 // The route of a single code: writes its image at the front of the buffer, and tells the place of the pair. 15, 4, 13, 14.

@@ -7,10 +7,12 @@ use mathlib.Core.Path.{◌≡◌, refl, sym, ◌∙◌, ap, ap₂, subst}
 use mathlib.Core.List.{List, [], ◌∷◌}
 use lib.ListN.{length, get_or, set, drop, length-map, length-set}
 use lib.Pow.{shr-shr}
-use mathlib.Core.Bool.{true}
+use mathlib.Core.Bool.{Bool, true}
+use borrow.Author.Tests.{le-leb}
+use lib.Dec.{leb}
 use Rattle.higman.specs.Bases.{all}
 use Rattle.higman.specs.Limits.{slot_count}
-use Rattle.higman.specs.Listing.{is_slot}
+use Rattle.higman.specs.Listing.{is_slot, slot_number}
 use Rattle.higman.proofs.Tests.{so, T_of, all_head, all_tail}
 use Rattle.desk.specs.Limits.{station_count, max_right}
 use Rattle.desk.specs.Desk.{Rights, Control as ControlOf, right_of, IsRights, IsControl, giving}
@@ -18,7 +20,7 @@ use Rattle.slots.specs.Rights.{right_at, slot_rights, row_of, rights_of, packed_
 use Rattle.slots.specs.declared.Control.{Control}
 use Rattle.slots.specs.Blocks.{given_in}
 use Rattle.slots.proofs.Held.{slots_eight}
-use Rattle.slots.specs.Desks.{control_of, control_in}
+use Rattle.slots.specs.Desks.{control_of, control_in, has_right, allowed_in}
 
 -- a row of rights
 row_long : (n row : ℕ) → length (slot_rights n row) ≡ n
@@ -215,3 +217,14 @@ pub named_at : (l : List ℕ) (i d : ℕ) → i < length l → all is_slot l ≡
 named_at [] i d h e = absurd (omega arith)
 named_at (b ∷ l) zero d h e = so (is_slot b) (all_head is_slot b l (T_of e))
 named_at (b ∷ l) (suc i) d h e = named_at l i d (omega arith) (so (all is_slot l) (all_tail is_slot b l (T_of e)))
+
+-- station 0 is allowed all
+all_pass : (f : ℕ → Bool) → ((b : ℕ) → f b ≡ true) → (l : List ℕ) → all f l ≡ true
+all_pass f h [] = refl
+all_pass f h (b ∷ l) = rw (h b, all) (all_pass f h l)
+
+pub first_allowed : (c : Control) → c.station ≡ 0 → (right : ℕ) → right ≤ max_right → (names : List ℕ) → allowed_in c right names ≡ true
+unfolding allowed_in
+first_allowed c e right k names =
+    all_pass (has_right c right) (λ b. ap (λ s. leb right (right_of (control_of c).rights s (slot_number b))) e
+    ∙ le-leb right max_right k) names

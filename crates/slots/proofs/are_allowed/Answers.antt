@@ -1,5 +1,5 @@
 -- `slots::are_allowed` meets its contract.
-use mathlib.Core.Path.{◌≡◌}
+use mathlib.Core.Path.{◌≡◌, sym}
 use mathlib.Core.Bool.{true, false}
 use Rattle.std.proofs.Common.{rules, tests}
 use Rattle.std.proofs.lemmas.Iterator.{cases_from_all, YieldsList-from_slice}
@@ -7,9 +7,12 @@ use Rattle.std.proofs.lemmas.Iterator.Adapters.{serves_from_places}
 use Rattle.higman.specs.Listing.{is_slot}
 use Rattle.slots.specs.Desks.{allowed_in, has_right}
 use Rattle.slots.proofs.Chains.{all_told}
-use Rattle.slots.proofs.Rows.{named_at}
+use Rattle.slots.proofs.Rows.{first_allowed, named_at}
 use Rattle.slots.proofs.Steps.{slot_below}
 use Rattle.slots.proofs.are_allowed.Goals as goal
+
+pub returns-then-control-eq0 : goal.returns-then-control-eq0
+returns-then-control-eq0 c = sym (first_allowed c.args.control c.if-control-eq0.true c.args.needed c.requires.fits c.args.names.now)
 
 -- each name that is looked at is one of a slot
 pub all-requires-clause-callable : goal.all-requires-clause-callable

@@ -1,6 +1,6 @@
 -- `plans::routing::unmatched` meets its contract: the whole code where 15 applies, and otherwise what is left by the from-words that a
 -- plan lends.
-use mathlib.Core.Path.{◌∙◌, ap, sym}
+use mathlib.Core.Path.{refl, ◌∙◌, ap, sym}
 use lib.ListN.{drop}
 use Rattle.tables.specs.Routing.{further, at_place}
 use Rattle.operations.proofs.Codes.{whole_code}
@@ -14,6 +14,9 @@ returns-in_default c =
     let (refused, e) = c.in_default.ensures in
     let (tail, place) = whole_code (matched a.p a.code.now) a.code.now a.code.ref_ptr (matched_no_plan a.p a.code.now refused) in
     record { tail = tail; tail_ref_ptr = place; place = sym (ap at_place (place_no_plan a.p a.code.now refused)) }
+
+pub unmatched-requires : goal.unmatched-requires
+unmatched-requires c = (c.in-Ok.plan, refl, refl)
 
 pub returns : goal.returns
 returns c =
