@@ -1,6 +1,7 @@
 -- What a search in a sorted column finds, the place that parts its words at a word, the word of it that begins a word and the words that
 -- a word begins, and what a walk over the words of a block finds.
-use Rattle.std.specs.Prelude.{ℕ, zero, suc, ◌+◌, ◌-◌, ◌≤◌, ◌<◌, ◌≡◌, refl, ◌⊎◌, Bool, true, false, List, [], ◌∷◌, map, T, length, get_or, ltb, Option, Some, None, if◌then◌else◌, MatchOption}
+use Rattle.std.specs.Prelude.{ℕ, zero, suc, ◌+◌, ◌-◌, ◌≤◌, ◌<◌, ◌≡◌, refl, ◌⊎◌, Bool, true, false}
+use Rattle.std.specs.Prelude.{List, [], ◌∷◌, map, T, length, get_or, ltb, Option, Some, None, if◌then◌else◌, MatchOption}
 use Rattle.std.proofs.Common.{inr, arith}
 use Rattle.std.proofs.Math.Option as Match
 use Rattle.higman.specs.Words.{Word, count, is_word, begins, begins_properly, child, spell}

@@ -97,7 +97,8 @@ fn covered_ways(column: &[u64], arity: u8, w: u64, way: u8, left: u8, at: usize)
 // Whether a belt isn't covered. Deeper than the longest words of a plan there is nothing to look for.
 pub fn has_gap(column: &[u64], shape: Shape) -> bool
     requires column_value { (sorted (words_of column.now) ≡ true) × (overlap (words_of column.now) ≡ false) }
-    requires le_arity { (1 ≤ shape.arity) × (shape.arity ≤ 9) × (shape.roots ≤ 9) × T (all (is_word (shape_of shape)) (words_of column.now)) }
+    requires le_arity { (1 ≤ shape.arity) × (shape.arity ≤ 9) × (shape.roots ≤ 9)
+        × T (all (is_word (shape_of shape)) (words_of column.now)) }
     ensures { result ≡ gap (shape_of shape) (words_of column.now) }
 {
     let mut at = 0;

@@ -15,13 +15,16 @@ use lines::Stepped;
 use operations::refusals::Refusal;
 use slots::{BLOCKS, COLUMNS, Desk, Head, Size};
 
-// `max_line`: the most bytes of a line.
+// `max_line`: the most bytes of a line. (kept: written again, though it is `records::MAX_LINE`, since crates.txt has this crate stand on
+// `lines` and not on `records`.)
 pub const MAX_LINE: usize = 1100;
 
 // `max_reply` of replies' Sizes.antt: the most bytes of a reply.
 pub const MAX_REPLY: usize = 5127;
 
-// The desk and the beginning of a line; whether that line is too long already, and what it held was let go.
+// The desk and the beginning of a line; whether that line is too long already, and what it held was let go. (to do: `begun` and `overlong`
+// are still a value and a flag beside it, here and in `Begun`. One `Option<usize>` could be both, `None` where the line is too long:
+// nothing of it is held then. `desk_feed` hands the flag in and out for C, and could go over to the Option inside.)
 #[derive(Drop)]
 pub struct State {
     pub head: Head,
@@ -152,7 +155,8 @@ fn whole_line(
     end_line(head, columns, &line[..grown.begun], grown.overlong, out)
 }
 
-// Every whole line of a piece of input, as long as the output has room for any reply; the beginning of a line is carried over.
+// Every whole line of a piece of input, as long as the output has room for any reply; the beginning of a line is carried over. (kept: a
+// `while`, since no index is counted: each turn goes on by a line and its reply, which are of any length.)
 pub fn feed(state: State, input: &[u8], out: &mut [u8]) -> Fed
     requires { HoldsState state }
     ensures { FedBy state input.now out.old result out.new }

@@ -32,7 +32,7 @@ fn is_opened(opened: u8) -> bool
     opened == 0 || listing::is_slot(opened)
 }
 
-// The head of a desk.
+// The head of a desk. (kept: no `From`, which could not ask that the byte names a slot or none.)
 pub fn head_of(desk: Desk) -> Head
     requires { opened_test desk.opened ≡ true }
     ensures { result ≡ head_of desk }
@@ -131,7 +131,8 @@ fn tidied_sizes(sizes: [Size; BLOCKS], draft: Size) -> [Size; BLOCKS]
     next
 }
 
-// The value of the open plan, with zeros behind its pairs, or of no plan.
+// The value of the open plan, with zeros behind its pairs, or of no plan. (kept: no `From`, which could neither take the columns beside the
+// head nor ask that both hold a desk.)
 fn draft_of(head: Head, columns: &[u64]) -> Plan
     requires { HoldsDesk head columns.now }
     ensures { result ≡ draft_value (draft_of head columns.now) }
@@ -151,7 +152,7 @@ fn draft_of(head: Head, columns: &[u64]) -> Plan
     }
 }
 
-// The letter of the slot that a plan is open for.
+// The letter of the slot that a plan is open for. (kept: no `From`, which could not ask that head and columns hold a desk.)
 fn opened_by(head: Head, columns: &[u64]) -> u8
     requires { HoldsDesk head columns.now }
     ensures { result ≡ opened_by (draft_of head columns.now) }

@@ -1,5 +1,6 @@
 -- The test of a head and columns for a desk, part by part, and the statement that it holds exactly where they hold one.
-use Rattle.std.specs.Prelude.{ℕ, zero, suc, ◌+◌, ◌≤◌, ◌<◌, ◌≡◌, refl, ◌↔◌, None, Some, Bool, true, false, ◌&&◌, List, [], ◌∷◌, map, T, leb, eqb, length, take}
+use Rattle.std.specs.Prelude.{ℕ, zero, suc, ◌+◌, ◌≤◌, ◌<◌, ◌≡◌, refl, ◌↔◌, None, Some, Bool, true, false, ◌&&◌}
+use Rattle.std.specs.Prelude.{List, [], ◌∷◌, map, T, leb, eqb, length, take}
 use Rattle.higman.specs.Words.{count}
 use Rattle.higman.specs.Bases.{all}
 use Rattle.higman.specs.Tables.{row}

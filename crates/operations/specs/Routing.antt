@@ -27,7 +27,8 @@ matched_place_in s from code = elim (is_code s (word_of code)) [ true ↦ place_
 -- "14 last: the lent buffer is shorter than the output"
 abbrev pub routing_in : ℕ → Of.Route → ℕ → Route
 routing_in place (Of.Image v) room =
-    if_room (length (word_bytes v)) room (Routes.Image (record { length = length (word_bytes v); place = place })) (Routes.Refused The.BufferTooShort)
+    if_room (length (word_bytes v)) room (Routes.Image (record { length = length (word_bytes v); place = place }))
+    (Routes.Refused The.BufferTooShort)
 routing_in place Of.TooShort room = Routes.TooShort
 routing_in place (Of.NotRouted r) room = Routes.Refused (refusal r)
 

@@ -21,7 +21,8 @@ const MAX_POWER: u32 = 1000;
 // The pairs that two plans give at most, before they are reduced.
 const MAX_SPREAD: usize = 2 * MAX_PAIRS;
 
-// The first n numbers of a column, and zeros behind them.
+// The first n numbers of a column, and zeros behind them. (kept: n beside the column, since this is public and promises the front of a
+// longer column too; those that call it hand in columns of just n numbers.)
 #[tactic(auto, using(columns::proofs::Limits::pair_limit, crate::proofs::Sizes::taken))]
 pub fn padded(column: &[u64], n: usize) -> [u64; MAX_PAIRS]
     requires { (n ≤ max_pairs) × (n ≤ length column.now) }

@@ -75,7 +75,7 @@ fn write_some<W: Write>(to: &mut W, bytes: &[u8]) -> Result<usize, Fault>
     Err(Fault::Unwritten)
 }
 
-// All of the bytes, in as many writes as that takes.
+// All of the bytes, in as many writes as that takes. (kept: a `while`, since no index is counted: each turn goes on by what a write took.)
 fn write_out<W: Write>(to: &mut W, bytes: &[u8]) -> Result<(), Fault>
     ensures { Sent (W.contents to.old) (W.contents to.new) bytes.now (is_ok result) }
 {
@@ -86,7 +86,8 @@ fn write_out<W: Write>(to: &mut W, bytes: &[u8]) -> Result<(), Fault>
     Ok(())
 }
 
-// All of a piece, fed, and its replies written whenever the output is full and at its end.
+// All of a piece, fed, and its replies written whenever the output is full and at its end. (kept: a `while`, since no index is counted:
+// each turn goes on by what `feed` took.)
 fn answer<W: Write>(state: State, piece: &[u8], out: &mut [u8], to: &mut W) -> Answered
     requires holds_state { HoldsState state }
     requires max_reply_in_bounds { max_reply ≤ length out.old }

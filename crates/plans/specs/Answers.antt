@@ -99,10 +99,12 @@ LentBy p (Ok l) = (is_plan p ≡ true) × (lent_plan l ≡ plan_of p)
 LentBy p (Err e) = (is_plan p ≡ false) × (e ≡ The.InvalidValue)
 
 -- "6, one word begins or equals another; 7, a belt isn't covered", with the column's letter
-judgement_number_example : map judgement_number (Ok tt ∷ faulty (InFrom Overlap) ∷ faulty (InTo Gap) ∷ Err NotADraft ∷ []) ≡ 0 ∷ 6 ∷ 7 ∷ 15 ∷ []
+judgement_number_example : map judgement_number (Ok tt ∷ faulty (InFrom Overlap) ∷ faulty (InTo Gap) ∷ Err NotADraft ∷ [])
+    ≡ 0 ∷ 6 ∷ 7 ∷ 15 ∷ []
 judgement_number_example = refl
 
-judgement_column_example : map judgement_column (Ok tt ∷ faulty (InFrom Overlap) ∷ faulty (InTo Gap) ∷ Err NotADraft ∷ []) ≡ 0 ∷ 70 ∷ 84 ∷ 0 ∷ []
+judgement_column_example : map judgement_column (Ok tt ∷ faulty (InFrom Overlap) ∷ faulty (InTo Gap) ∷ Err NotADraft ∷ [])
+    ≡ 0 ∷ 70 ∷ 84 ∷ 0 ∷ []
 judgement_column_example = refl
 
 -- "11→11, 12→12 is kept as 1→1, one pair"; "to column 1, 11: 6, T"; no draft
@@ -118,12 +120,14 @@ unfolding following is_plan in_table Of.is_kept shape_in_range granted max_pairs
 following_example = refl
 
 -- "φ inverse: 11→12, 121→112, 122→111"
-inverting_example : map inverting (value21 φ ∷ blank ∷ []) ≡ Ok (value21 (row 11 12 ∷ row 121 112 ∷ row 122 111 ∷ [])) ∷ Err The.InvalidValue ∷ []
+inverting_example : map inverting (value21 φ ∷ blank ∷ [])
+    ≡ Ok (value21 (row 11 12 ∷ row 121 112 ∷ row 122 111 ∷ [])) ∷ Err The.InvalidValue ∷ []
 unfolding inverting is_plan in_table Of.is_kept shape_in_range granted max_pairs max_digits Of.verdict Of.inverted inverse keep normal_form normal joined packed blank pack pack_on unpack unpack_in
 inverting_example = refl
 
 -- "φ to the fourth: 1→1"; 1001 is 12; "ψ .. to the 15th is 11"
-raising_example : (map (raising (value21 φ)) (pos 4 ∷ pos 1001 ∷ []) ≡ Ok (value21 (row 1 1 ∷ [])) ∷ Err The.PowerOutside ∷ []) × (raising (value21 ψ) (pos 15) ≡ Err The.LimitBroken)
+raising_example : (map (raising (value21 φ)) (pos 4 ∷ pos 1001 ∷ []) ≡ Ok (value21 (row 1 1 ∷ [])) ∷ Err The.PowerOutside ∷ [])
+    × (raising (value21 ψ) (pos 15) ≡ Err The.LimitBroken)
 unfolding raising is_plan in_table Of.is_kept shape_in_range granted max_pairs max_digits max_power Of.verdict Of.powered Of.raised compose identity keep normal_form normal joined packed blank pack pack_on unpack unpack_in
 raising_example = (refl, refl)
 

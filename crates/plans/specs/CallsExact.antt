@@ -1,7 +1,8 @@
 -- What keeping, routing and matching answer, and the number of every refusal as document 01 writes it. A contract is an equality with a
 -- definition, and both could be wrong alike; these statements tie the definitions to the columns of a draft, to the pairs of a plan and
 -- to the paper's figures. `CallsExact` gathers them. Read Theorems.antt next.
-use Rattle.std.specs.Prelude.{ℕ, ◌≤◌, ◌<◌, ◌≡◌, refl, ◌⊎◌, ◌↔◌, Bool, true, false, T, length, get_or, take, drop, ℤ, nat_abs, Result, Ok, Err}
+use Rattle.std.specs.Prelude.{ℕ, ◌≤◌, ◌<◌, ◌≡◌, refl, ◌⊎◌, ◌↔◌, Bool, true, false, T, length, get_or, take, drop}
+use Rattle.std.specs.Prelude.{ℤ, nat_abs, Result, Ok, Err}
 use Rattle.std.specs.Result.{result_unwrap_or}
 use mathlib.Core.List.{List, [], ◌∷◌, ◌++◌, map, Memᴰ}
 use Rattle.std.proofs.Math.Option.{some}
@@ -205,14 +206,18 @@ pub record AnswersNumbered : Type 0 where
   pub too_short : (routing_number Reply.TooShort ≡ 13) × (routing_place Reply.TooShort ≡ 0)
   pub not_routed : (r : Refusal) → (routing_number (Reply.Refused r) ≡ number_of r) × (routing_place (Reply.Refused r) ≡ 0)
   -- in the order of their numbers
-  pub numbers : map number_of (The.NoRecord ∷ The.WrongState ∷ The.ShapeOutside ∷ The.BadWord ∷ The.PairsFull ∷ The.WordsOverlap ∷ The.RootUncovered
-      ∷ The.SlotOutside ∷ The.SlotEmpty ∷ The.ShapesDiffer ∷ The.LimitBroken ∷ The.PowerOutside ∷ The.CodeTooShort ∷ The.BufferTooShort
-      ∷ The.InvalidValue ∷ The.CountFull ∷ The.SeedOutside ∷ The.StationOutside ∷ The.StationRefused ∷ The.RightMissing ∷ [])
+  pub numbers : map number_of (The.NoRecord ∷ The.WrongState ∷ The.ShapeOutside ∷ The.BadWord ∷ The.PairsFull ∷ The.WordsOverlap
+      ∷ The.RootUncovered ∷ The.SlotOutside ∷ The.SlotEmpty ∷ The.ShapesDiffer ∷ The.LimitBroken ∷ The.PowerOutside ∷ The.CodeTooShort
+      ∷ The.BufferTooShort ∷ The.InvalidValue ∷ The.CountFull ∷ The.SeedOutside ∷ The.StationOutside ∷ The.StationRefused
+      ∷ The.RightMissing ∷ [])
       ≡ count 1 20
   -- 6 and 7, "those of E for a column add ⇥F or ⇥T (from, to)"
-  pub verdicts : map judgement_number (Ok tt ∷ Err NotADraft ∷ faulty (InFrom Overlap) ∷ faulty (InFrom Gap) ∷ faulty (InTo Overlap) ∷ faulty (InTo Gap) ∷ [])
+  pub verdicts : map judgement_number (Ok tt ∷ Err NotADraft ∷ faulty (InFrom Overlap) ∷ faulty (InFrom Gap) ∷ faulty (InTo Overlap)
+      ∷ faulty (InTo Gap) ∷ [])
       ≡ 0 ∷ 15 ∷ 6 ∷ 7 ∷ 6 ∷ 7 ∷ []
-  pub verdict_columns : map judgement_column (faulty (InFrom Overlap) ∷ faulty (InFrom Gap) ∷ faulty (InTo Overlap) ∷ faulty (InTo Gap) ∷ []) ≡ bytes "FFTT"
+  pub verdict_columns : map judgement_column (faulty (InFrom Overlap) ∷ faulty (InFrom Gap) ∷ faulty (InTo Overlap)
+      ∷ faulty (InTo Gap) ∷ [])
+      ≡ bytes "FFTT"
 
 -- The numbers of document 01, "When each operation says no", as its figures; those of W stand in `RoutingExact`.
 pub record NumbersExact : Type 0 where

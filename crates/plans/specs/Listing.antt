@@ -28,7 +28,8 @@ listed_buffer p slot out =
 abbrev value : Plan
 value = packed (record { shape = shape 2 1; rows = row 1 1 ∷ [] })
 
-listing_example : (listing_answer value 66 16 ≡ Ok 16) × (listing_answer value 66 15 ≡ Err The.BufferTooShort) × (listing_answer value 73 16 ≡ Err The.SlotOutside) × (listing_answer blank 73 16 ≡ Err The.InvalidValue)
+listing_example : (listing_answer value 66 16 ≡ Ok 16) × (listing_answer value 66 15 ≡ Err The.BufferTooShort)
+    × (listing_answer value 73 16 ≡ Err The.SlotOutside) × (listing_answer blank 73 16 ≡ Err The.InvalidValue)
 unfolding listing_answer slot_count is_plan in_table is_kept shape_in_range granted max_pairs max_digits verdict keep normal_form normal joined
     packed blank pack pack_on unpack unpack_in
 listing_example = (refl, refl, refl, refl)

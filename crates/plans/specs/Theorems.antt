@@ -2,7 +2,9 @@
 -- demand 3: so a value is tied to the plan that it holds, place by place and digit by digit, and the laws of demand 3 are said of what
 -- the calls make of values. `LibraryExact` gathers the statements, and proofs/ has one term of it, `library_exact`. What is left of
 -- this folder is what the functions beneath the public calls promise.
-use Rattle.std.specs.Prelude.{ℕ, suc, ◌+◌, ◌*◌, ◌^◌, ◌≤◌, ◌<◌, ◌≡◌, refl, ◌↔◌, true, false, List, [], ◌∷◌, map, T, leb, length, get_or, take, drop, replicate, ℤ, pos, negsuc, nat_abs, ◌+ℤ◌, ◌*ℤ◌, Ok, IsOk}
+use Rattle.std.specs.Prelude.{ℕ, suc, ◌+◌, ◌*◌, ◌^◌, ◌≤◌, ◌<◌, ◌≡◌, refl, ◌↔◌, true, false}
+use Rattle.std.specs.Prelude.{List, [], ◌∷◌, map, T, leb, length, get_or, take, drop, replicate}
+use Rattle.std.specs.Prelude.{ℤ, pos, negsuc, nat_abs, ◌+ℤ◌, ◌*ℤ◌, Ok, IsOk}
 use Rattle.std.proofs.Math.Option.{some}
 use Rattle.higman.specs.Words.{Word, count, is_ways, is_word, child, spell}
 use Rattle.higman.specs.Tables.{BlockMap, image, row, φ, ψ}

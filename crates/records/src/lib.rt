@@ -21,7 +21,7 @@ const FIRST: usize = 2;
 const SECOND: usize = 4;
 
 // A record, by its letter. A slot is the byte that names it, a word or code the part of the line that spells it.
-// (kept: n and r as two digits, since a line may have any two: what a shape is, the crate `words` says, and a record is read without it.)
+// (kept: n and r as two digits: `Shape` is of the crate `words`, which this crate doesn't stand on.)
 #[derive(Clone, PartialEq, Eq, Debug, Drop)]
 pub enum Record {
     // P⇥slot⇥n⇥r
@@ -97,6 +97,10 @@ pub enum Record {
     // H
     Sum,
 }
+
+// The fields behind a letter, a function for each. (kept: `read_invert` and `read_same`, `read_list` and `read_empty`, which differ in the
+// record made alone; `read_open` and `read_follow` differ in that the first reads digits. Tried: in `read_fields` in their place `singles`
+// and a `map` to the record; five goals stay open that these functions close without an answer.)
 
 // A slot and two digits.
 #[tactic(auto, using(crate::proofs::Readers::open_read))]

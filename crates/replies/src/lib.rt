@@ -40,7 +40,8 @@ pub fn ok_number(k: u32, out: &mut [u8], at: usize) -> usize
     writing::put(b'\n', out, end_at)
 }
 
-// "A refusal is `no⇥` and its number"
+// "A refusal is `no⇥` and its number". (kept: a number, here and in `no_column`, since this crate lies below operations, where `Refusal`
+// is; and two functions, since `no` asks room for 7 bytes and `no_column` for 9, which one of both would have to tell by cases.)
 pub fn no(number: u8, out: &mut [u8], at: usize) -> usize
     requires { at + 7 ≤ length out.old }
     ensures { Wrote (no_line (decimal number ∷ [])) out.old at out.new result }

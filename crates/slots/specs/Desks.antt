@@ -1,5 +1,6 @@
 -- The desk that a head and its columns hold, and what it is for them to hold one. Read Works.antt next.
-use Rattle.std.specs.Prelude.{ℕ, ◌+◌, ◌≤◌, ◌<◌, ◌≡◌, refl, Bool, true, false, List, [], ◌∷◌, ◌++◌, map, T, leb, eqb, length, replicate, Some, None}
+use Rattle.std.specs.Prelude.{ℕ, ◌+◌, ◌≤◌, ◌<◌, ◌≡◌, refl, Bool, true, false}
+use Rattle.std.specs.Prelude.{List, [], ◌∷◌, ◌++◌, map, T, leb, eqb, length, replicate, Some, None}
 use Rattle.std.proofs.Math.Option.{Option, none, some}
 use Rattle.higman.specs.Words.{count}
 use Rattle.higman.specs.Tables.{row}

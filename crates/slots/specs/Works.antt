@@ -67,7 +67,8 @@ unchanged h (Err f) = Err f
 
 -- A work well done: what comes of an operation on a desk is held by the head and columns that it leaves, told by its reply and, where the
 -- reply is written at once, at the front of the output.
-pub record DoneBy (d : Desk) (o : Outcome Effect) (out : List ℕ) (h : Head) (w : Result Work Refused) (columns' out' : List ℕ) : Type 0 where
+pub record DoneBy (d : Desk) (o : Outcome Effect) (out : List ℕ) (h : Head) (w : Result Work Refused) (columns' out' : List ℕ)
+    : Type 0 where
   pub holds : HoldsDesk (head_after h w) columns'
   pub desk : desk_of (head_after h w) columns' ≡ desk_after d o
   pub reply : outcome_of (reply_in w) ≡ told (reply_to o)

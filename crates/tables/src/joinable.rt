@@ -21,7 +21,8 @@ fn is_part(x: u64, w: u64, i: u8) -> bool
     words::last(x) == i && words::parent(x) == w
 }
 
-// Whether the pairs from the place at on are the n parts of w with the n parts of v, in the same order.
+// Whether the pairs from the place at on are the n parts of w with the n parts of v, in the same order. (kept: two columns and no
+// `Pairs`, since `join` hands in the columns that it writes to, and no contract says that these are of one length.)
 pub fn are_parts(from: &[u64], to: &[u64], at: usize, w: u64, v: u64, arity: u8) -> bool
     requires { (arity ≤ 9) × (at + arity ≤ length from.now) × (at + arity ≤ length to.now) }
     ensures { result ≡ same_table (rows_at at arity from.now to.now) (prefixed (unpack w) (parts arity (unpack v))) }

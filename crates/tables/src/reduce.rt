@@ -1,7 +1,8 @@
 // Reduction (document 01, "Plans"; document 004, Lemma 4.3): the reduced table of two packed columns whose from column is a basis in
 // order. Where no pairs join the table is reduced as it is. Else a recursion over the blocks in digit order, with a cursor into the
 // input: a block is listed, or its parts follow one another. "The joins inside a block come before the join of the block itself"; a
-// joined pair is written over the pairs it joins.
+// joined pair is written over the pairs it joins. (kept: the columns that are written to side by side, out_from and out_to, and those of
+// `join`: `Pairs` lends columns to be read alone, and no contract says that the written ones are of one length.)
 ghost use Rattle.std.specs.Prelude.{◌≡◌, ◌++◌, ◌+◌, ◌≤◌, ◌<◌, T, length, drop};
 ghost use Rattle.higman.specs.Words.{child};
 ghost use Rattle.higman.specs.Tables.{Table};

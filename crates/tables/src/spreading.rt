@@ -1,5 +1,6 @@
 // The pairs of "a then b" before reduction (document 01, "Plans"). A pair of a gives one pair where a from-word of b begins its
-// to-word, and otherwise one for each from-word of b that its to-word begins.
+// to-word, and otherwise one for each from-word of b that its to-word begins. (kept: the columns that are written to side by side, froms
+// and tos: `Pairs` lends columns to be read alone, and no contract says that the written ones are of one length.)
 ghost use Rattle.std.specs.Prelude.{[], ◌∷◌, ◌++◌, ◌<◌, T, length};
 ghost use Rattle.words.specs.Packed.{unpack, is_packed};
 ghost use Rattle.columns.specs.Packed.{table};
