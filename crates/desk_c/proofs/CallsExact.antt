@@ -31,8 +31,9 @@ use Rattle.desk_values.specs.declared.Desk.{Desk}
 use Rattle.desk_values.specs.Values.{desk_in, is_desk_value, packed_desk}
 use Rattle.desk_values.proofs.Taken.{desk_values}
 use Rattle.desk_c.specs.declared.Job.{Job}
+use Rattle.desk_c.specs.declared.Written.{Written}
+use Rattle.desk_c.specs.declared.Done.{Done}
 use Rattle.desk_c.specs.declared.serving.Served.{Served}
-use Rattle.desk_c.specs.declared.serving.Worked.{Worked}
 use Rattle.desk_c.specs.Calls.{column_byte, reply_number, done_of, job_record, job_work, line_call, lent_of, served, buffer_after, plain_of}
 use Rattle.desk_c.specs.Calls.{worked}
 use Rattle.desk_c.specs.CallsExact.{TakenForDesk, plan_dropped, UnservedLine, ServedLine, LinesNumbered, IsJobOf, JobRefused}
@@ -184,13 +185,13 @@ no_value_of_line (refuses n c) h = refl
 module _ (j : Job) (line : Bytes) (v : Desk) (out : Bytes) where
   both_refused : (left : Desk) (n c : ℕ) → JobRefused j v left n c → UnservedLine line v out left n c → DoneAsLine j line v out
   both_refused left n c w l =
-      let nothing : written_reply line v out ≡ [] = ap (λ (s : Served). take s.answer.length (buffer_after line v out)) l.call in
+      let nothing : written_reply line v out ≡ [] = ap (λ (s : Served Written). take s.answer.length (buffer_after line v out)) l.call in
       record {
-        desk = ap (λ (x : Worked). x.desk) w ∙ sym (ap (λ (x : Served). x.desk) l.call);
-        number = ap (λ (x : Worked). x.answer.number) w ∙ sym (ap (λ (x : Served). x.answer.number) l.call);
-        column = ap (λ (x : Worked). x.answer.column) w ∙ sym (ap (λ (x : Served). x.answer.column) l.call);
+        desk = ap (λ (x : Served Done). x.desk) w ∙ sym (ap (λ (x : Served Written). x.desk) l.call);
+        number = ap (λ (x : Served Done). x.answer.number) w ∙ sym (ap (λ (x : Served Written). x.answer.number) l.call);
+        column = ap (λ (x : Served Done). x.answer.column) w ∙ sym (ap (λ (x : Served Written). x.answer.column) l.call);
         value = λ m e. absurd (omega (arith, ap length (sym nothing ∙ e)));
-        no_value = λ _. ap (λ (x : Worked). x.answer.value) w;
+        no_value = λ _. ap (λ (x : Served Done). x.answer.value) w;
       }
 
   both_done : (d : DeskOf) (e : Effect) → Plain d e.1
@@ -198,12 +199,12 @@ module _ (j : Job) (line : Bytes) (v : Desk) (out : Bytes) where
       → ServedLine line v out (packed_desk e.0) (reply_bytes e.1) → DoneAsLine j line v out
   both_done d e plain w l =
       let reply : written_reply line v out ≡ reply_bytes e.1 =
-      ap (λ (s : Served). take s.answer.length (buffer_after line v out)) l.call ∙ l.front in
-      let value = ap (λ (x : Worked). x.answer.value) w in
+      ap (λ (s : Served Written). take s.answer.length (buffer_after line v out)) l.call ∙ l.front in
+      let value = ap (λ (x : Served Done). x.answer.value) w in
       record {
-        desk = ap (λ (x : Worked). x.desk) w ∙ sym (ap (λ (x : Served). x.desk) l.call);
-        number = ap (λ (x : Worked). x.answer.number) w ∙ sym (ap (λ (x : Served). x.answer.number) l.call);
-        column = ap (λ (x : Worked). x.answer.column) w ∙ sym (ap (λ (x : Served). x.answer.column) l.call);
+        desk = ap (λ (x : Served Done). x.desk) w ∙ sym (ap (λ (x : Served Written). x.desk) l.call);
+        number = ap (λ (x : Served Done). x.answer.number) w ∙ sym (ap (λ (x : Served Written). x.answer.number) l.call);
+        column = ap (λ (x : Served Done). x.answer.column) w ∙ sym (ap (λ (x : Served Written). x.answer.column) l.call);
         value = λ n q. value ∙ value_of_line d e.1 plain n (sym reply ∙ q);
         no_value = λ none_written. value ∙ no_value_of_line e.1 (λ n q. none_written n (reply ∙ q));
       }
@@ -222,7 +223,7 @@ as_line r j v out h wf t room = by (operation (desk_in v) r) refl
         (job_done v t j e (job_works v t r j h ∙ p)) (line_done v t (record_text r) out e (line_works ∙ p) (leb-true _ _ q))
     by_room e p false q =
         let short = line_without_room v t (record_text r) out e (line_works ∙ p) (leb-false _ _ q) in
-        absurd (room (ap (λ (x : Served). x.answer.number) short.call))
+        absurd (room (ap (λ (x : Served Written). x.answer.number) short.call))
 
     by : (o : Outcome Effect) → operation (desk_in v) r ≡ o → DoneAsLine j (record_text r) v out
     by (refuse n c) e =
@@ -239,7 +240,7 @@ done_has_line j v t z = by (record_of_job j)
     by (inl (r, e, h)) = (r, h, done_formed v t r j h z)
     by (inr e) =
         let one = job_refused v t j 1 none (ap (λ o. o >>= operation (desk_in v)) e) in
-        absurd (omega (arith, ap (λ (w : Worked). w.answer.number) one))
+        absurd (omega (arith, ap (λ (w : Served Done). w.answer.number) one))
 
 lines_numbered : LinesNumbered
 lines_numbered =

@@ -176,6 +176,30 @@ module _ (j : Job) where
       (by_letter (byte "G") _ _ grant_read
       (by_letter (byte "H") _ _ (λ l. inl (H, refl, l)) (inr refl))))))))))))
 
+pub not_read : (j : Job) → ((r : Record) → IsJobOf r j → ⊥) → job_record j ≡ refuse no_record none
+not_read j h = by (record_of_job j)
+  where
+    by : Read j (job_record j) → job_record j ≡ refuse no_record none
+    by (inl (r, e, k)) = absurd (h r k)
+    by (inr e) = e
+
+-- a letter that is none of some
+abbrev pub OtherThan : ℕ → Bytes → Type 0
+OtherThan b [] = Unit {0}
+OtherThan b (c ∷ l) = (b ≡ c → ⊥) × OtherThan b l
+
+not_among : (b : ℕ) (l : Bytes) → OtherThan b l → Memᴰ b l → ⊥
+not_among b [] o m = elim m [ ]
+not_among b (c ∷ l) o (Memᴰ.head e) = o.0 e
+not_among b (c ∷ l) o (Memᴰ.tail m) = not_among b l o.1 m
+
+pub none_other : (j : Job) → OtherThan j.letter (bytes "PEFIKSCTXZGH") → (r : Record) → IsJobOf r j → ⊥
+none_other j o r k = not_among j.letter (bytes "PEFIKSCTXZGH") o (letter_known r j k)
+
+-- G, whatever its right
+pub grant_lettered : (j : Job) → j.letter ≡ byte "G" → job_record j ≡ grant_by j.a j.b j.c
+grant_lettered j l = λ i. job_record (record { letter = l i; a = j.a; b = j.b; c = j.c; k = j.k; seed = j.seed; splits = j.splits })
+
 -- the digits of a number that fits its field
 digits : (m k : ℕ) → T (has_digits m k) → length (decimal k) ≤ m
 digits m k h = leb→le (length (decimal k)) m h

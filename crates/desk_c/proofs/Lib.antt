@@ -1,5 +1,5 @@
 -- The laws of the calls, each file after those it leans on; the proofs of the functions cite them.
-pub mod Replied
+pub mod Passing
 pub mod Lent
 pub mod Pieces
 pub mod Jobs

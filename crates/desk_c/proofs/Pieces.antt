@@ -23,7 +23,8 @@ use Rattle.desk_core.specs.declared.feeding.Fed.{Fed as FedState}
 use Rattle.desk_core.specs.Feeding.{state_of, HoldsState, fed_up_to, FedBy}
 use Rattle.desk_values.specs.declared.Desk.{Desk}
 use Rattle.desk_values.specs.Values.{is_desk_value, packed_desk}
-use Rattle.desk_c.specs.declared.serving.FedDesk.{FedDesk}
+use Rattle.desk_c.specs.declared.Fed.{Fed}
+use Rattle.desk_c.specs.declared.serving.Served.{Served}
 use Rattle.desk_c.specs.Feeding.{unfed_with, FedOn, lines_of, piece_fed, buffer_fed, FedInto}
 
 -- no line held
@@ -96,7 +97,7 @@ module _ (overlong : Bool) (input : Bytes) (v : Desk) (out : Bytes) where
         let short = lt-ltb (length out) max_reply h in
         record { left = rw (e, piece_fed) (rw (short, piece_fed)); buffer = rw (e, buffer_fed) (rw (short, buffer_fed)) }
 
-    pub piece_taken : max_reply ≤ length out → (r : FedDesk) (out' : Bytes) → FedOn (lines_of overlong input v out) input out r out'
+    pub piece_taken : max_reply ≤ length out → (r : Served Fed) (out' : Bytes) → FedOn (lines_of overlong input v out) input out r out'
         → FedInto overlong input v out r out'
     unfolding piece_fed buffer_fed
     piece_taken h r out' k =

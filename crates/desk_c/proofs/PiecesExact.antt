@@ -17,7 +17,8 @@ use Rattle.replies.proofs.EveryReply.{replies_fit}
 use Rattle.desk_values.specs.declared.Desk.{Desk}
 use Rattle.desk_values.specs.Values.{desk_in, is_desk_value}
 use Rattle.desk_values.proofs.Taken.{desk_values}
-use Rattle.desk_c.specs.declared.serving.FedDesk.{FedDesk}
+use Rattle.desk_c.specs.declared.Fed.{Fed}
+use Rattle.desk_c.specs.declared.serving.Served.{Served}
 use Rattle.desk_c.specs.Feeding.{fed_of, lines_of, piece_fed, buffer_fed, FedInto}
 use Rattle.desk_c.specs.CallsExact.{TakenForDesk, UnfedPiece, FedPiece, PiecesExact}
 use Rattle.desk_c.proofs.Pieces.{piece_no_desk, piece_no_room, piece_taken}
@@ -83,7 +84,7 @@ module _ (overlong : Bool) (input : Bytes) (v : Desk) (out : Bytes) where
     unfolding max_reply
     fed h =
         let k = call_is h in
-        subst₂ (λ (r : FedDesk) (b : Bytes). FedPiece overlong input v out (lines h) r b) k.left k.buffer (fed_piece h)
+        subst₂ (λ (r : Served Fed) (b : Bytes). FedPiece overlong input v out (lines h) r b) k.left k.buffer (fed_piece h)
 
 pub pieces_exact : PiecesExact
 unfolding max_reply

@@ -22,10 +22,11 @@ use Rattle.desk_values.specs.declared.Desk.{Desk}
 use Rattle.desk_values.specs.Values.{desk_in, is_desk_value, Whole}
 use Rattle.desk_values.proofs.Taken.{desk_values}
 use Rattle.desk_c.specs.declared.Job.{Job}
+use Rattle.desk_c.specs.declared.Written.{Written}
+use Rattle.desk_c.specs.declared.Done.{Done}
+use Rattle.desk_c.specs.declared.Fed.{Fed}
 use Rattle.desk_c.specs.declared.serving.Served.{Served}
-use Rattle.desk_c.specs.declared.serving.Worked.{Worked}
 use Rattle.desk_c.specs.Calls.{done_of, job_record, job_work, line_call, lent_of, refused_with, served, plain_of, worked}
-use Rattle.desk_c.specs.declared.serving.FedDesk.{FedDesk}
 use Rattle.desk_c.specs.Feeding.{fed_of, lines_of, piece_fed, FedInto}
 use Rattle.desk_c.specs.Theorems.{DeskLeft}
 use Rattle.desk_c.proofs.Pieces.{piece_no_room, piece_taken}
@@ -71,10 +72,10 @@ module _ (v : Desk) (whole : Whole v) (t : T (is_desk_value v)) where
   holds = desk_values.holds v whole t
 
   -- the value that is left, by whether the test passes
-  abbrev line_value : Bytes → Bytes → Bool → Served
+  abbrev line_value : Bytes → Bytes → Bool → Served Written
   line_value line out b = elim b [ true ↦ lent_of (line_call (desk_in v) line out) | false ↦ refused_with v invalid_value 0 ]
 
-  abbrev job_value : Job → Bool → Worked
+  abbrev job_value : Job → Bool → Served Done
   job_value j b =
       elim b [ true ↦ plain_of (plain_call (desk_in v) (job_work j)) | false ↦ record { desk = v; answer = done_of (refuse invalid_value none) } ]
 
@@ -92,9 +93,9 @@ module _ (v : Desk) (whole : Whole v) (t : T (is_desk_value v)) where
       test : is_desk_value v ≡ true
       test = so (is_desk_value v) t
 
-      left : (r : FedDesk) (out' : Bytes) → FedInto overlong input v out r out' → T (is_desk_value r.desk)
+      left : (r : Served Fed) (out' : Bytes) → FedInto overlong input v out r out' → T (is_desk_value r.desk)
           → T (is_desk_value (piece_fed overlong input v out).desk)
-      left r out' k h = subst (λ (x : FedDesk). T (is_desk_value x.desk)) k.left h
+      left r out' k h = subst (λ (x : Served Fed). T (is_desk_value x.desk)) k.left h
 
       by : (b : Bool) → ltb (length out) max_reply ≡ b → T (is_desk_value (piece_fed overlong input v out).desk)
       by true e = left _ _ (piece_no_room overlong input v out test (ltb-true (length out) max_reply e)) t

@@ -25,7 +25,6 @@ use Rattle.desk_c.specs.declared.Job.{Job}
 use Rattle.desk_c.specs.declared.Written.{Written}
 use Rattle.desk_c.specs.declared.Done.{Done}
 use Rattle.desk_c.specs.declared.serving.Served.{Served}
-use Rattle.desk_c.specs.declared.serving.Worked.{Worked}
 
 -- the bytes of a desk in C: 16 for the size of each block, 4 for the letter with what fills it up, 4 for the station and for each count,
 -- 2 for each station's rights and for the sum of pairs, and 8 for each word; tests/headers compares it with what C says
@@ -127,36 +126,36 @@ abbrev pub line_call : DeskOf → Bytes → Bytes → DeskOf × Lent
 line_call d line out = lent_call d (λ x. line_operation x line) out
 
 -- the same with the desk as a value
-abbrev pub lent_of : DeskOf × Lent → Served
+abbrev pub lent_of : DeskOf × Lent → Served Written
 lent_of call = record { desk = packed_desk call.0; answer = written_of call.1.answer }
 
-pub record LentBy (call : DeskOf × Lent) (r : Served) (out' : Bytes) : Type 0 where
+pub record LentBy (call : DeskOf × Lent) (r : Served Written) (out' : Bytes) : Type 0 where
   pub left : r ≡ lent_of call
   pub buffer : out' ≡ call.1.buffer
 
 -- a refusal, and a desk beside it
-abbrev pub refused_with : Desk → ℕ → ℕ → Served
+abbrev pub refused_with : Desk → ℕ → ℕ → Served Written
 refused_with d number column = record { desk = d; answer = record { number = number; column = column; length = 0 } }
 
 -- What a line's call leaves of a value, and its answer. "15 before all these: a plan or desk handed in isn't one as described above; such a
 -- desk .. is left as it came."
-unfoldable pub served : Bytes → Desk → Bytes → Served
+unfoldable pub served : Bytes → Desk → Bytes → Served Written
 served line d out = elim (is_desk_value d) [ true ↦ lent_of (line_call (desk_in d) line out) | false ↦ refused_with d invalid_value 0 ]
 
 -- and of the buffer
 unfoldable pub buffer_after : Bytes → Desk → Bytes → Bytes
 buffer_after line d out = elim (is_desk_value d) [ true ↦ (line_call (desk_in d) line out).1.buffer | false ↦ out ]
 
-pub record ServedBy (line : Bytes) (d : Desk) (out : Bytes) (r : Served) (out' : Bytes) : Type 0 where
+pub record ServedBy (line : Bytes) (d : Desk) (out : Bytes) (r : Served Written) (out' : Bytes) : Type 0 where
   pub left : r ≡ served line d out
   pub buffer : out' ≡ buffer_after line d out
 
 -- a call that is lent nothing, with the desk as a value
-abbrev pub plain_of : DeskOf × Outcome Reply → Worked
+abbrev pub plain_of : DeskOf × Outcome Reply → Served Done
 plain_of call = record { desk = packed_desk call.0; answer = done_of call.1 }
 
 -- What such a call leaves of a value, and its answer.
-unfoldable pub worked : Work → Desk → Worked
+unfoldable pub worked : Work → Desk → Served Done
 worked work d =
     elim
     (is_desk_value d) [

@@ -16,7 +16,8 @@ use Rattle.desk.specs.Feeds.{Fed as FedLines, between, fed_within, FeedsExact}
 use Rattle.desk_values.specs.declared.Desk.{Desk}
 use Rattle.desk_values.specs.Values.{desk_in, is_desk_value, packed_desk, Whole}
 use Rattle.desk_c.specs.declared.Job.{Job}
-use Rattle.desk_c.specs.declared.serving.FedDesk.{FedDesk}
+use Rattle.desk_c.specs.declared.Fed.{Fed}
+use Rattle.desk_c.specs.declared.serving.Served.{Served}
 use Rattle.desk_c.specs.Calls.{column_byte, job_work, served, buffer_after, worked}
 use Rattle.desk_c.specs.Feeding.{piece_fed, buffer_fed}
 
@@ -128,7 +129,7 @@ pub record UnfedPiece (overlong : Bool) (input : Bytes) (v : Desk) (out : Bytes)
 
 -- A piece of input is fed: the desk, the flag and the replies are those that feeding the bytes taken leaves, and what was not taken stands
 -- behind them.
-pub record FedPiece (overlong : Bool) (input : Bytes) (v : Desk) (out : Bytes) (w : FedLines) (r : FedDesk) (out' : Bytes) : Type 0 where
+pub record FedPiece (overlong : Bool) (input : Bytes) (v : Desk) (out : Bytes) (w : FedLines) (r : Served Fed) (out' : Bytes) : Type 0 where
   pub call : r
       ≡ record {
         desk = packed_desk w.desk;

@@ -12,14 +12,15 @@ use Rattle.replies.specs.Sizes.{max_reply}
 use Rattle.slots.specs.Desks.{control_in}
 use Rattle.desk_values.specs.declared.Desk.{Desk}
 use Rattle.desk_values.specs.Values.{desk_in, is_desk_value, packed_desk}
-use Rattle.desk_c.specs.declared.serving.FedDesk.{FedDesk}
+use Rattle.desk_c.specs.declared.Fed.{Fed}
+use Rattle.desk_c.specs.declared.serving.Served.{Served}
 
 -- a refusal: "taken and length are 0, and overlong is as it was handed in"
-abbrev pub unfed_with : Desk → Bool → ℕ → FedDesk
+abbrev pub unfed_with : Desk → Bool → ℕ → Served Fed
 unfed_with v overlong number = record { desk = v; answer = record { number = number; overlong = overlong; taken = 0; length = 0 } }
 
 -- "the first `taken` bytes of the input were read, and `length` bytes of replies stand at the front of the lent buffer"
-abbrev pub fed_of : Bytes → FedLines → FedDesk
+abbrev pub fed_of : Bytes → FedLines → Served Fed
 fed_of input w =
     record {
       desk = packed_desk w.desk;
@@ -27,7 +28,7 @@ fed_of input w =
     }
 
 -- what the lines of a piece do on a desk, with as much room as the buffer has
-pub record FedOn (w : FedLines) (input out : Bytes) (r : FedDesk) (out' : Bytes) : Type 0 where
+pub record FedOn (w : FedLines) (input out : Bytes) (r : Served Fed) (out' : Bytes) : Type 0 where
   pub left : r ≡ fed_of input w
   pub buffer : out' ≡ written out 0 w.output
 
@@ -36,7 +37,7 @@ lines_of overlong input v out = fed_within max_reply (length out) (between (desk
 
 -- What the call leaves of a value, and its answer: "Refused with 15 where the struct is no desk, and then with 14 where the buffer has
 -- fewer bytes than DESK_LONGEST_REPLY, whatever the input".
-unfoldable pub piece_fed : Bool → Bytes → Desk → Bytes → FedDesk
+unfoldable pub piece_fed : Bool → Bytes → Desk → Bytes → Served Fed
 piece_fed overlong input v out =
     elim
     (is_desk_value v) [
@@ -58,7 +59,7 @@ buffer_fed overlong input v out =
       | true ↦ elim (ltb (length out) max_reply) [ true ↦ out | false ↦ written out 0 (lines_of overlong input v out).output ]
     ]
 
-pub record FedInto (overlong : Bool) (input : Bytes) (v : Desk) (out : Bytes) (r : FedDesk) (out' : Bytes) : Type 0 where
+pub record FedInto (overlong : Bool) (input : Bytes) (v : Desk) (out : Bytes) (r : Served Fed) (out' : Bytes) : Type 0 where
   pub left : r ≡ piece_fed overlong input v out
   pub buffer : out' ≡ buffer_fed overlong input v out
 

@@ -1,75 +1,48 @@
 -- What the functions beneath the calls promise: how the outcome of a work on a head and columns is told. These are inner: a reader may
 -- stop at Calls.antt and Theorems.antt.
-use Rattle.std.specs.Prelude.{ℕ, ◌≡◌, List, length}
-use Rattle.higman.specs.Text.{Bytes}
+use Rattle.std.specs.Prelude.{ℕ, ◌≡◌, ◌≤◌, ◌<◌, ◌⊎◌, List, length, Result, Ok, Err}
 use Rattle.higman.specs.Buffers.{written}
-use Rattle.desk.specs.Desk.{Desk as DeskOf}
-use Rattle.desk.specs.Replies.{Outcome as OutcomeOf, refuse, pass, Effect, settle, line_operation}
+use Rattle.desk.specs.Replies.{Outcome, pass, Effect}
 use Rattle.desk.specs.Bytes.{reply_bytes}
-use Rattle.desk.specs.Buffers.{output_of}
+use Rattle.operations.specs.declared.refusals.Refusal.TheVariants.{BufferTooShort}
 use Rattle.slots.specs.declared.Head.{Head}
 use Rattle.slots.specs.declared.Reply.{Reply}
-use Rattle.slots.specs.declared.Reply.TheVariants.{Silent, Ok, Number, Written as WrittenReply, Refused as RefusedReply, RefusedIn}
+use Rattle.slots.specs.declared.Reply.TheVariants as The
+use Rattle.slots.specs.declared.Refused.{Refused}
 use Rattle.slots.specs.declared.Work.{Work}
 use Rattle.slots.specs.Desks.{desk_of, HoldsDesk}
+use Rattle.slots.specs.Refused.{refused_for, outcome_of}
 use Rattle.slots.specs.Works.{DoneBy}
-use Rattle.lines.specs.declared.Sent.{Sent}
-use Rattle.lines.specs.Lines.{dropped_head, SettledBy}
+use Rattle.lines.specs.declared.Stepped.{Stepped}
 use Rattle.desk_c.specs.declared.Job.{Job}
-use Rattle.desk_c.specs.declared.Done.{Done}
-use Rattle.desk_c.specs.declared.serving.Outcome.{Outcome}
-use Rattle.desk_c.specs.declared.serving.Outcome.TheVariants.{Wrote, Refused}
-use Rattle.desk_c.specs.declared.serving.Replied.{Replied}
-use Rattle.desk_c.specs.Calls.{column_byte, job_work}
+use Rattle.desk_c.specs.Calls.{job_work}
 
--- a reply by its bytes, or a refusal
-abbrev pub outcome_of : OutcomeOf Bytes → Outcome
-outcome_of (refuse n c) = Refused n (column_byte c)
-outcome_of (pass b) = Wrote (length b)
+-- what comes of an operation is held by a head and columns, and its reply is written, for which the caller has room
+pub record Replied (o : Outcome Effect) (room : ℕ) (out : List ℕ) (s : Stepped) (columns' out' : List ℕ) : Type 0 where
+  pub effect : Effect
+  pub passed : o ≡ pass effect
+  pub holds : HoldsDesk s.head columns'
+  pub desk : desk_of s.head columns' ≡ effect.0
+  pub size : s.used ≡ length (reply_bytes effect.1)
+  pub fits : s.used ≤ room
+  pub output : out' ≡ written out 0 (reply_bytes effect.1)
 
--- what comes of an operation on a desk is held by a head and columns, told by an outcome and, where it is no refusal, written
-pub record RepliedTo (d : DeskOf) (o : OutcomeOf Effect) (out : List ℕ) (r : Replied) (columns' out' : List ℕ) : Type 0 where
-  pub holds : HoldsDesk r.head columns'
-  pub desk : desk_of r.head columns' ≡ (settle d o).0
-  pub outcome : r.outcome ≡ outcome_of (output_of o)
-  pub output : (e : Effect) → o ≡ pass e → out' ≡ written out 0 (reply_bytes e.1)
+-- it is refused, or for want of room
+abbrev pub NotReplied : Outcome Effect → ℕ → Refused → Type 0
+NotReplied o room f =
+    (o ≡ outcome_of (Err f)) ⊎ ((e : Effect) × (o ≡ pass e) × (room < length (reply_bytes e.1)) × (f ≡ refused_for BufferTooShort))
 
--- a line's work that is well done is replied to
-abbrev pub RepliedBy : Work → List ℕ → Replied → List ℕ → Type 0
-RepliedBy w out r out' =
-    (d : DeskOf) (line : Bytes) (out₀ columns' : List ℕ) → DoneBy d (line_operation d line) out₀ w columns' out
-    → RepliedTo d (line_operation d line) out₀ r columns' out'
-
--- its reply is written, and the head left as it is
-pub record WroteBy (w : Work) (out : List ℕ) (r : Replied) (out' : List ℕ) : Type 0 where
-  pub sent : Sent
-  pub settled : SettledBy w.reply out sent out'
-  pub replied : r ≡ record { head = w.head; outcome = Wrote sent.used }
+abbrev pub RepliedTo : Outcome Effect → ℕ → List ℕ → Result Stepped Refused → List ℕ → List ℕ → Type 0
+RepliedTo o room out (Ok s) columns' out' = Replied o room out s columns' out'
+RepliedTo o room out (Err f) columns' out' = NotReplied o room f
 
 -- a record without text is done
-abbrev pub JobDone : Job → Head → List ℕ → Work → List ℕ → Type 0
-JobDone j h columns w columns' = (out : List ℕ) → DoneBy (desk_of h columns) (job_work j (desk_of h columns)) out w columns' out
+abbrev pub JobDone : Job → Head → List ℕ → Result Work Refused → List ℕ → Type 0
+JobDone j h columns w columns' = (out : List ℕ) → DoneBy (desk_of h columns) (job_work j (desk_of h columns)) out h w columns' out
 
-abbrev pub done_with : ℕ → ℕ → ℕ → Done
-done_with number column value = record { number = number; column = column; value = value }
-
--- what is told of its reply
-abbrev pub told_plainly : Reply → Done
-told_plainly Silent = done_with 0 0 0
-told_plainly Ok = done_with 0 0 0
-told_plainly (Number k) = done_with 0 0 k
-told_plainly (WrittenReply n) = done_with 0 0 0
-told_plainly (RefusedReply n) = done_with n 0 0
-told_plainly (RefusedIn n c) = done_with n c 0
-
--- and what is left of the head
-abbrev pub head_by : Head → Reply → Head
-head_by h Silent = h
-head_by h Ok = h
-head_by h (Number k) = h
-head_by h (WrittenReply n) = h
-head_by h (RefusedReply n) = dropped_head h
-head_by h (RefusedIn n c) = dropped_head h
-
-abbrev pub head_left : Work → Head
-head_left w = head_by w.head w.reply
+-- the number that a reply has
+abbrev pub value_of : Reply → ℕ
+value_of The.Silent = 0
+value_of The.Ok = 0
+value_of (The.Number k) = k
+value_of (The.Written n) = 0

@@ -2,31 +2,28 @@
 use mathlib.Core.Path.{sym, ◌∙◌, ap, subst}
 use Rattle.slots.specs.declared.Head.{Head}
 use Rattle.slots.specs.Desks.{desk_of, HoldsDesk}
+use Rattle.lines.proofs.Settled.{holds_dropped}
 use Rattle.desk_values.specs.Values.{packed_desk}
-use Rattle.desk_c.specs.Calls.{job_work}
-use Rattle.desk_c.proofs.Jobs.{Leaves, plain_left, job_leaves}
-use Rattle.desk_c.proofs.serving.done_on.Goals.{After-perform-work, Start}
+use Rattle.desk_c.proofs.Jobs.{plain_done, plain_refused}
 use Rattle.desk_c.proofs.serving.done_on.Goals as goal
 
-abbrev start : After-perform-work → Start
-start c = c.before.before
+pub packed-requires : goal.packed-requires
+packed-requires c = (c.in-Ok.ensures c.perform.new.columns).holds
 
-leaves : (c : After-perform-work) → let a = (start c).args in let d = desk_of a.head a.columns in
-    Leaves d (job_work a.job d) c.perform-work.result c.perform-work.new.columns
-leaves c = let a = (start c).args in job_leaves a.head a.columns a.job c.perform-work.result c.perform-work.new.columns
-    c.perform-work.ensures
+pub packed-requires-in-Err : goal.packed-requires-in-Err
+packed-requires-in-Err c =
+    subst (λ (h : Head). HoldsDesk h c.perform.new.columns) (sym c.dropped.ensures)
+    (holds_dropped c.args.head c.perform.new.columns (c.in-Err.ensures c.perform.new.columns).holds)
 
-pub packed-after-requires : goal.packed-after-requires
-packed-after-requires c =
-    let p = c.before.before.before in
-    subst (λ (h : Head). HoldsDesk h c.perform-work.new.columns) (sym c.left.ensures) (leaves p).holds
+pub returns-in-Ok : goal.returns-in-Ok
+returns-in-Ok c =
+    let a = c.args in
+    plain_done a.head a.columns c.requires a.job c.perform.new.columns c.packed.result c.in-Ok.work c.in-Ok.ensures c.packed.ensures
+    c.value.result c.value.ensures
 
-pub returns : goal.returns
-returns c =
-    let l = c.before in
-    let t = l.before in
-    let p = t.before.before in
-    let a = (start p).args in
-    let columns = c.perform-work.new.columns in
-    plain_left (desk_of a.head a.columns) (start p).requires.is_desk_lem a.job c.perform-work.result columns (leaves p) c.packed-after.result
-    (c.packed-after.ensures ∙ ap (λ (h : Head). packed_desk (desk_of h columns)) c.left.ensures) c.told-answer.result c.told-answer.ensures
+pub returns-in-Err : goal.returns-in-Err
+returns-in-Err c =
+    let a = c.args in
+    let columns = c.perform.new.columns in
+    plain_refused a.head a.columns c.requires a.job columns c.packed-in-Err.result c.in-Err.refused c.in-Err.ensures
+    (c.packed-in-Err.ensures ∙ ap (λ (h : Head). packed_desk (desk_of h columns)) c.dropped.ensures) c.into.result c.into.ensures
