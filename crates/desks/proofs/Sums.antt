@@ -1,7 +1,8 @@
 -- The pairs of all slots by their sizes: added up slot by slot, and the sum over the slots of the desk.
-use Prim.Native.Nat.{ℕ, zero, suc, ◌+◌, ◌*◌, ◌^◌, ◌≤◌, ◌<◌}
-use mathlib.Core.Path.{◌≡◌, refl, ◌∙◌, ap, ap₂}
+use Prim.Native.Nat.{ℕ, zero, suc, ◌+◌, ◌-◌, ◌*◌, ◌^◌, ◌≤◌, ◌<◌}
+use mathlib.Core.Path.{◌≡◌, refl, sym, ◌∙◌, ap, ap₂}
 use mathlib.Core.List.{List, map}
+use native.Mathlib.Numerals.{add-one}
 use native.Mathlib.Omega.{arith}
 use lib.Dec.{T}
 use lib.ListN.{length, take, drop}
@@ -20,21 +21,29 @@ use Rattle.slots.specs.Desks.{slot_at, slots_of}
 use Rattle.slots.proofs.Held.{slots_eight, block_pairs}
 use Rattle.desks.specs.Tested.{FewPairs, sizes_from, sizes_sum}
 
+-- the pairs of the slots that are left, from one of the eight on
+module _ (h : Head) (i : ℕ) where
+  pub sizes_left : i < 8 → sizes_from h i (8 - i) ≡ (size_at h i).pairs + sizes_from h (i + 1) (8 - (i + 1))
+  sizes_left b =
+      let one : 8 - i ≡ suc (7 - i) = omega (arith, b) in
+      let next : 7 - i ≡ 8 - (i + 1) = omega (arith, b) in
+      ap (sizes_from h i) one ∙ ap₂ (λ j n. (size_at h i).pairs + sizes_from h j n) (sym (add-one i)) next
+
 -- the pairs of the slots that are left, and of all slots, as they stand in the list of sizes
 abbrev pairs_in : List Size → ℕ
 pairs_in l = sum_by (λ (s : Size). s.pairs) l
 
 module _ (h : Head) where
-  sizes_left : (i n : ℕ) → i + n ≤ length h.sizes → pairs_in (take n (drop i h.sizes)) ≡ sizes_from h i n
-  sizes_left i zero b = refl
-  sizes_left i (suc n) b =
+  sizes_listed : (i n : ℕ) → i + n ≤ length h.sizes → pairs_in (take n (drop i h.sizes)) ≡ sizes_from h i n
+  sizes_listed i zero b = refl
+  sizes_listed i (suc n) b =
       ap (λ l. pairs_in (take (suc n) l)) (drop-cons h.sizes i no_size (omega arith))
       ∙ sum_by-cons (λ (s : Size). s.pairs) (size_at h i) (take n (drop (suc i) h.sizes))
-      ∙ ap (λ k. (size_at h i).pairs + k) (sizes_left (suc i) n (omega arith))
+      ∙ ap (λ k. (size_at h i).pairs + k) (sizes_listed (suc i) n (omega arith))
 
   pub sizes_taken : 8 ≤ length h.sizes → pairs_in (take 8 h.sizes) ≡ sizes_sum h
   unfolding sizes_sum slot_count
-  sizes_taken b = sizes_left 0 8 b
+  sizes_taken b = sizes_listed 0 8 b
 
   sizes_below : FewPairs h → (i n : ℕ) → i + n ≤ slot_count → sizes_from h i n ≤ n * 128
   sizes_below few i zero b = omega arith
