@@ -1,4 +1,4 @@
--- Plans made of the first pairs of two longer columns, as the code makes them; Plans.antt has `packed`, which these are.
+-- Plans made of the pairs of two columns, as the code makes them; Plans.antt has `packed`, which these are.
 use Rattle.std.specs.Prelude.{ℕ, ◌-◌, List, ◌++◌, take, replicate}
 use Rattle.higman.specs.Limits.{max_pairs}
 use Rattle.operations.specs.declared.Plan.{Plan}

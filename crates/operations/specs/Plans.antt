@@ -1,5 +1,5 @@
 -- The values of the library: the plan that a value holds, what it is for a value to be a draft or a kept plan, and the value of a plan.
--- A caller of the library believes it; `LibraryExact` of plans says place by place what a value holds. Read Answers.antt next.
+-- A caller of the library believes it; `LibraryExact` of plans says place by place what a value holds. Read Refusals.antt next.
 use Rattle.std.specs.Prelude.{ℕ, ◌-◌, ◌≡◌, refl, Bool, true, false, ◌&&◌, List, [], ◌∷◌, ◌++◌, map, leb, eqb, length, get_or, take, drop, replicate}
 use Rattle.higman.specs.Words.{Shape, Word}
 use Rattle.higman.specs.Bases.{all}

@@ -1,5 +1,5 @@
-// The refusals, each named as higman's Refusals.antt names its number beside the papers' words. The promises of the calls speak of the
-// numbers, so that each refusal has the right one is proved with them.
+// The refusals, each named as higman's Refusals.antt names its number beside the papers' words. The promises of the calls speak of
+// the cases, and that each case has the right number is proved with `From`.
 ghost use Rattle.std.specs.Prelude.{◌≡◌};
 ghost use Rattle.operations.specs.Refusals.{number_of};
 
