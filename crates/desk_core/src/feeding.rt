@@ -127,7 +127,11 @@ fn end_line(head: Head, columns: &mut [u64], line: &[u8], overlong: bool, out: &
         columns.new out.new }
 {
     if overlong {
-        return lines::answer(head, Err(Refusal::NoRecord.into()), out);
+        // As `lines::answer` does, which has one caller so: with two it would be handed the work of every line through memory.
+        return Stepped {
+            head: lines::dropped(head),
+            used: lines::write_refusal(Refusal::NoRecord.into(), out),
+        };
     }
     lines::step(head, columns, line, out)
 }
