@@ -21,10 +21,10 @@ mod arranging;
 const IMAGE_AT: usize = 3;
 
 // The plan in the slot that a byte names, lent where it lies. 9.
-fn plan_in(head: Head, columns: &[u64], slot: u8) -> Result<Lent<'_>, Refusal>
-    requires holds { HoldsDesk head columns.now }
+fn plan_in<'a>(head: &Head, columns: &'a [u64], slot: u8) -> Result<Lent<'a>, Refusal>
+    requires holds { HoldsDesk head.now columns.now }
     requires named { is_slot slot ≡ true }
-    ensures { LentIn head columns.now slot result }
+    ensures { LentIn head.now columns.now slot result }
 {
     let i = slots::slot_number(slot);
     let size = head.sizes[i];
@@ -37,9 +37,9 @@ fn plan_in(head: Head, columns: &[u64], slot: u8) -> Result<Lent<'_>, Refusal>
 }
 
 // S: 2, 8, 20, 9, 10. "`ok⇥1` if the plans act alike, else `ok⇥0`".
-pub fn compare(head: Head, columns: &[u64], a: u8, b: u8) -> Result<Reply, Refused>
-    requires { HoldsDesk head columns.now }
-    ensures { TellsSilently (S a b) head columns.now result }
+pub fn compare(head: &Head, columns: &[u64], a: u8, b: u8) -> Result<Reply, Refused>
+    requires { HoldsDesk head.now columns.now }
+    ensures { TellsSilently (S a b) head.now columns.now result }
 {
     slots::admission(head, &[a, b], &[])?;
     let first = plan_in(head, columns, a)?;
@@ -71,14 +71,14 @@ fn write_block(plan: Lent, code: &[u8], out: &mut [u8]) -> usize
 // W: 2, 8, 20, 9, 4. "`ok⇥` and the image", and the place of its pair: the image first, into where it stands in the line, and then the line
 // around it. Where there is none, the block.
 pub fn route(
-    head: Head,
+    head: &Head,
     columns: &[u64],
     a: u8,
     code: &[u8],
     out: &mut [u8],
 ) -> Result<Reply, Refused>
-    requires { Asked head columns.now out.old }
-    ensures { Tells (W a code.now) head columns.now out.old result out.new }
+    requires { Asked head.now columns.now out.old }
+    ensures { Tells (W a code.now) head.now columns.now out.old result out.new }
 {
     slots::admission(head, &[a], &[])?;
     let plan = plan_in(head, columns, a)?;
@@ -94,9 +94,9 @@ pub fn route(
 }
 
 // L: 2, 8, 20, 9. "lists the plan as P, M and E records".
-pub fn list(head: Head, columns: &[u64], a: u8, out: &mut [u8]) -> Result<Reply, Refused>
-    requires { Asked head columns.now out.old }
-    ensures { Tells (L a) head columns.now out.old result out.new }
+pub fn list(head: &Head, columns: &[u64], a: u8, out: &mut [u8]) -> Result<Reply, Refused>
+    requires { Asked head.now columns.now out.old }
+    ensures { Tells (L a) head.now columns.now out.old result out.new }
 {
     slots::admission(head, &[a], &[])?;
     let plan = plan_in(head, columns, a)?;
@@ -105,17 +105,17 @@ pub fn list(head: Head, columns: &[u64], a: u8, out: &mut [u8]) -> Result<Reply,
 }
 
 // T: 2. "`ok⇥` and the count".
-pub fn count(head: Head) -> Result<Reply, Refused>
-    requires { HeadOfDesk head }
-    ensures { TellsByHead T head result }
+pub fn count(head: &Head) -> Result<Reply, Refused>
+    requires { HeadOfDesk head.now }
+    ensures { TellsByHead T head.now result }
 {
     slots::admission(head, &[], &[])?;
     Ok(Reply::Number(slots::count(head)))
 }
 
 // H: 2, 19. "a record H from station 0 give it as `ok⇥` and the number": the sum as it is stored.
-pub fn sum(head: Head) -> Result<Reply, Refused>
-    ensures { TellsByHead Record.H head result }
+pub fn sum(head: &Head) -> Result<Reply, Refused>
+    ensures { TellsByHead Record.H head.now result }
 {
     if head.draft.is_some() {
         return Err(Refusal::WrongState.into());
@@ -128,9 +128,9 @@ pub fn sum(head: Head) -> Result<Reply, Refused>
 
 // U: 2. "`slot⇥n⇥r⇥pairs` for each held slot .. then `ok⇥` and how many", in the order of change request E2, and of readable slots alone
 // (change request E6).
-pub fn survey(head: Head, out: &mut [u8]) -> Result<Reply, Refused>
-    requires { AskedByHead head out.old }
-    ensures { TellsByHeadInto U head out.old result out.new }
+pub fn survey(head: &Head, out: &mut [u8]) -> Result<Reply, Refused>
+    requires { AskedByHead head.now out.old }
+    ensures { TellsByHeadInto U head.now out.old result out.new }
 {
     slots::admission(head, &[], &[])?;
     let mut order = [0usize; SLOTS];

@@ -17,10 +17,9 @@ use Rattle.operations.specs.Plans.{in_table, blank, plan_of}
 use Rattle.slots.specs.declared.Head.{Head}
 use Rattle.slots.specs.declared.Refused.{Refused}
 use Rattle.slots.specs.declared.Reply.TheVariants.{Ok}
-use Rattle.slots.specs.declared.Work.{Work}
 use Rattle.slots.specs.Blocks.{size_at, value_at}
 use Rattle.slots.specs.Desks.{held_by, desk_of, HoldsDesk}
-use Rattle.slots.specs.Works.{Done}
+use Rattle.slots.specs.Works.{Work, Done}
 use Rattle.slots.proofs.Steps.{slot_below}
 use Rattle.changing.specs.Filling.{filled, filled_columns}
 use Rattle.changing.proofs.Filling.{replying, done_filling}

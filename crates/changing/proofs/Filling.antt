@@ -18,11 +18,10 @@ use Rattle.operations.specs.Plans.{in_table}
 use Rattle.slots.specs.declared.Head.{Head}
 use Rattle.slots.specs.declared.Refused.{Refused}
 use Rattle.slots.specs.declared.Reply.{Reply}
-use Rattle.slots.specs.declared.Work.{Work}
 use Rattle.slots.specs.Blocks.{filled_head, put}
 use Rattle.slots.specs.Desks.{held_by, full_in, desk_of, HoldsDesk}
 use Rattle.slots.specs.Refused.{refused_for, refusing}
-use Rattle.slots.specs.Works.{direct, told, Done}
+use Rattle.slots.specs.Works.{Work, direct, told, Done}
 use Rattle.slots.proofs.Held.{filled_desk, holds_filled}
 use Rattle.slots.proofs.Steps.{done_refused, at_limit_lem, at_end, done_passed}
 use Rattle.changing.specs.Filling.{filled, filled_columns}

@@ -27,9 +27,8 @@ use Rattle.operations.proofs.Values.{few_in_table}
 use Rattle.slots.specs.declared.Head.{Head}
 use Rattle.slots.specs.declared.Refused.{Refused}
 use Rattle.slots.specs.declared.Reply.TheVariants.{Number}
-use Rattle.slots.specs.declared.Work.{Work}
 use Rattle.slots.specs.Desks.{held_by, desk_of, HoldsDesk}
-use Rattle.slots.specs.Works.{Done}
+use Rattle.slots.specs.Works.{Work, Done}
 use Rattle.slots.proofs.Steps.{slot_below}
 use Rattle.changing.specs.Filling.{filled, filled_columns, Keepable, ToKeep}
 use Rattle.changing.proofs.Filling.{replying, done_filling}

@@ -75,23 +75,23 @@ fn covered_block(column: &[u64], arity: u8, w: u64, left: u8, at: usize) -> Opti
     if left == 0 {
         return None;
     }
-    covered_ways(column, arity, w, 1, left, at)
+    covered_ways(column, arity, w, left, at)
 }
 
-// The same of the parts of a block from a way on, up to the first that is not covered. The words of a part stand behind those of the
-// parts before it, so that the walk goes on where it has come to.
+// The same of the parts of a block, way by way, up to the first that is not covered. The words of a part stand behind those of the parts
+// before it, so that the walk goes on where it has come to.
 #[cycle(covered_block_covered_ways)]
-fn covered_ways(column: &[u64], arity: u8, w: u64, way: u8, left: u8, at: usize) -> Option<usize>
+fn covered_ways(column: &[u64], arity: u8, w: u64, left: u8, at: usize) -> Option<usize>
     requires walkable { Walkable arity column.now × (1 ≤ arity) × (arity ≤ 9) × (listed (unpack w) (words_of column.now) ≡ false) }
-    requires le_way { (1 ≤ way) × (way ≤ arity + 1) × (1 ≤ left) × (1 ≤ length (unpack w)) × (length (unpack w) + left ≤ max_digits)
-        × AtBlock column.now (child (unpack w) way) at }
-    ensures { Walked column.now (unpack w) (covered_from arity (words_of column.now) (left - 1) (unpack w) way) result }
+    requires in_bounds { (1 ≤ left) × (1 ≤ length (unpack w)) × (length (unpack w) + left ≤ max_digits)
+        × AtBlock column.now (child (unpack w) 1) at }
+    ensures { Walked column.now (unpack w) (covered_from arity (words_of column.now) (left - 1) (unpack w) 1) result }
 {
-    if arity < way {
-        return Some(at);
+    let mut next = at;
+    for way in 1..=arity {
+        next = covered_block(column, arity, words::child(w, way), left - 1, next)?;
     }
-    let next = covered_block(column, arity, words::child(w, way), left - 1, at)?;
-    covered_ways(column, arity, w, way + 1, left, next)
+    Some(next)
 }
 
 // Whether a belt isn't covered. Deeper than the longest words of a plan there is nothing to look for.

@@ -23,10 +23,9 @@ use Rattle.slots.specs.declared.Head.{Head}
 use Rattle.slots.specs.declared.Reply.{Reply}
 use Rattle.slots.specs.declared.Reply.TheVariants as The
 use Rattle.slots.specs.declared.Refused.{Refused}
-use Rattle.slots.specs.declared.Work.{Work}
 use Rattle.slots.specs.Desks.{desk_of, HoldsDesk}
 use Rattle.slots.specs.Refused.{refused_for, refusing, letter_of, outcome_of}
-use Rattle.slots.specs.Works.{told, reply_to, desk_after, unchanged, DoneBy, Done, Tells}
+use Rattle.slots.specs.Works.{Work, told, reply_to, desk_after, work_of, DoneBy, Done, Tells}
 use Rattle.slots.proofs.Steps.{done_refusal, done_told}
 use Rattle.lines.specs.Lines.{dropped_head}
 use Rattle.lines.proofs.Settled.{dropped_is}
@@ -56,7 +55,7 @@ module _ (j : Job) (h : Head) (columns : List ℕ) where
   module _ (H : HoldsDesk h columns) (w : Result Work Refused) where
     -- one that asks
     pub job_told : (p : Result Reply Refused) (r : Record) → job_record j ≡ pass r → ((out : List ℕ) → Tells r h columns out p out)
-        → w ≡ unchanged h p → JobDone j h columns w columns
+        → w ≡ work_of h p → JobDone j h columns w columns
     job_told p r e t q =
         job_done w columns r e (λ out. done_told h columns H (operation (desk_of h columns) r) out p out (t out) w q)
 

@@ -22,10 +22,9 @@ use Rattle.replies.proofs.EveryReply.{replies_fit}
 use Rattle.slots.specs.declared.Head.{Head}
 use Rattle.slots.specs.declared.Reply.{Reply}
 use Rattle.slots.specs.declared.Refused.{Refused}
-use Rattle.slots.specs.declared.Work.{Work}
 use Rattle.slots.specs.Desks.{desk_of, HoldsDesk}
 use Rattle.slots.specs.Refused.{refused_for, letter_of, outcome_of}
-use Rattle.slots.specs.Works.{told, reply_to, desk_after, DoneBy}
+use Rattle.slots.specs.Works.{Work, told, reply_to, desk_after, DoneBy}
 use Rattle.slots.proofs.Windows.{shown_same}
 use Rattle.lines.specs.declared.Stepped.{Stepped}
 use Rattle.lines.specs.Lines.{dropped_head, SettledBy}

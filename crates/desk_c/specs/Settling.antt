@@ -9,10 +9,9 @@ use Rattle.slots.specs.declared.Head.{Head}
 use Rattle.slots.specs.declared.Reply.{Reply}
 use Rattle.slots.specs.declared.Reply.TheVariants as The
 use Rattle.slots.specs.declared.Refused.{Refused}
-use Rattle.slots.specs.declared.Work.{Work}
 use Rattle.slots.specs.Desks.{desk_of, HoldsDesk}
 use Rattle.slots.specs.Refused.{refused_for, outcome_of}
-use Rattle.slots.specs.Works.{DoneBy}
+use Rattle.slots.specs.Works.{Work, DoneBy}
 use Rattle.lines.specs.declared.Stepped.{Stepped}
 use Rattle.desk_c.specs.declared.Job.{Job}
 use Rattle.desk_c.specs.Calls.{job_work}
@@ -31,6 +30,11 @@ pub record Replied (o : Outcome Effect) (room : ℕ) (out : List ℕ) (s : Stepp
 abbrev pub NotReplied : Outcome Effect → ℕ → Refused → Type 0
 NotReplied o room f =
     (o ≡ outcome_of (Err f)) ⊎ ((e : Effect) × (o ≡ pass e) × (room < length (reply_bytes e.1)) × (f ≡ refused_for BufferTooShort))
+
+-- what a line leaves on a lent head
+abbrev pub stepped : Head → Result ℕ Refused → Result Stepped Refused
+stepped h (Ok n) = Ok (record { head = h; used = n })
+stepped h (Err f) = Err f
 
 abbrev pub RepliedTo : Outcome Effect → ℕ → List ℕ → Result Stepped Refused → List ℕ → List ℕ → Type 0
 RepliedTo o room out (Ok s) columns' out' = Replied o room out s columns' out'

@@ -1,27 +1,27 @@
 // The work of the calls, by value: a value that is no desk is refused with 15 and comes back as it came, a line or a record is answered by
 // the desk's code, and what is left is packed into one value again. A reply is written into a buffer of this module's own first, so
 // that "a lent buffer then holds what it held before" at a refusal, 14 included.
-ghost use Rattle.std.specs.Prelude.{◌≡◌, ◌≤◌, length};
+ghost use Rattle.std.specs.Prelude.{◌≡◌, ◌≤◌, length, OnErr};
 ghost use Rattle.operations.specs.Refusals.{number_of};
 ghost use Rattle.replies.specs.Sizes.{max_reply};
 ghost use Rattle.desk.specs.Replies.{line_operation};
 ghost use Rattle.slots.specs.Desks.{desk_of, HoldsDesk};
+ghost use Rattle.slots.specs.Works.{work_of};
 ghost use Rattle.slots.specs.Refused.{letter_of};
 ghost use Rattle.asking.specs.Asked.{Asked};
 ghost use Rattle.desk.specs.Buffers.{plain_call};
 ghost use Rattle.desk_c.specs.Calls.{column_byte, line_call, LentBy, ServedBy, job_work, plain_of, worked};
 ghost use Rattle.desk.specs.Feeds.{between, fed_within};
 ghost use Rattle.desk_c.specs.Feeding.{unfed_with, FedOn, FedInto};
-ghost use Rattle.desk_c.specs.Settling.{RepliedTo, JobDone, value_of};
+ghost use Rattle.desk_c.specs.Settling.{RepliedTo, stepped, JobDone, value_of};
 
 use crate::{Done, Fed, Job, Written};
 use desk_core::feeding;
 use desk_core::feeding::{MAX_LINE, MAX_REPLY, State};
 use desk_values::Desk;
-use lines::Stepped;
 use operations::Column;
 use operations::refusals::Refusal;
-use slots::{COLUMNS, Head, Refused, Reply, Work};
+use slots::{COLUMNS, Head, Refused, Reply};
 use words::Shape;
 
 // "s one or two digits" (change request E3)
@@ -78,24 +78,21 @@ fn letter(column: Option<Column>) -> u8
 
 // A line is read and worked, and its reply written where the caller's buffer has room for it; else it is refused with 14.
 fn answer(
-    head: Head,
+    head: &mut Head,
     columns: &mut [u64],
     line: &[u8],
     out: &mut [u8],
     room: usize,
-) -> Result<Stepped, Refused>
-    requires { Asked head columns.old out.old }
-    ensures { RepliedTo (line_operation (desk_of head columns.old) line.now) room out.old result columns.new out.new }
+) -> Result<usize, Refused>
+    requires { Asked head.old columns.old out.old }
+    ensures { RepliedTo (line_operation (desk_of head.old columns.old) line.now) room out.old (stepped head.new result) columns.new out.new }
 {
-    let work = lines::work(head, columns, line, out)?;
-    let used = lines::write_reply(work.reply, out);
+    let reply = lines::work(head, columns, line, out)?;
+    let used = lines::write_reply(reply, out);
     if room < used {
         return Err(Refusal::BufferTooShort.into());
     }
-    Ok(Stepped {
-        head: work.head,
-        used,
-    })
+    Ok(used)
 }
 
 // A line is answered, and its reply written into a lent buffer. Where it is refused, for 14 too, the line is not done.
@@ -103,14 +100,14 @@ fn lend(head: Head, columns: [u64; COLUMNS], line: &[u8], out: &mut [u8]) -> Ser
     requires { HoldsDesk head columns }
     ensures { LentBy (line_call (desk_of head columns) line.now out.old) result out.new }
 {
+    let mut next = head;
     let mut words = columns;
     let mut bytes = [0; MAX_REPLY];
-    match answer(head, &mut words, line, &mut bytes, out.len()) {
-        Ok(replied) => {
-            let n = replied.used;
+    match answer(&mut next, &mut words, line, &mut bytes, out.len()) {
+        Ok(n) => {
             out[..n].copy_from_slice(&bytes[..n]);
             Served {
-                desk: desk_values::packed(replied.head, words),
+                desk: desk_values::packed(next, words),
                 answer: Written {
                     number: 0,
                     column: 0,
@@ -208,9 +205,10 @@ pub fn feed(desk: Desk, overlong: bool, input: &[u8], out: &mut [u8]) -> Served<
 }
 
 // The work of a record without text, by its letter.
-fn perform(head: Head, columns: &mut [u64], job: Job) -> Result<Work, Refused>
-    requires { HoldsDesk head columns.old }
-    ensures { JobDone job head columns.old result columns.new }
+fn perform(head: &mut Head, columns: &mut [u64], job: Job) -> Result<Reply, Refused>
+    requires { HoldsDesk head.old columns.old }
+    ensures done { JobDone job head.old columns.old (work_of head.new result) columns.new }
+    ensures kept { OnErr result (head.new ≡ head.old) }
 {
     let shape = Shape {
         arity: job.b,
@@ -222,15 +220,15 @@ fn perform(head: Head, columns: &mut [u64], job: Job) -> Result<Work, Refused>
         b'F' => changing::follow(head, columns, job.a, job.b, job.c),
         b'I' => changing::invert(head, columns, job.a, job.b),
         b'K' => changing::power(head, columns, job.a, job.k, job.b),
-        b'S' => slots::unchanged(head, asking::compare(head, columns, job.a, job.b)),
+        b'S' => asking::compare(head, columns, job.a, job.b),
         b'C' => changing::empty(head, columns, job.a),
-        b'T' => slots::unchanged(head, asking::count(head)),
+        b'T' => asking::count(head),
         b'X' if job.splits <= MAX_SPLITS => {
             changing::exercise(head, columns, job.a, shape, job.splits, job.seed)
         }
         b'Z' => stations::name(head, job.a),
         b'G' => stations::grant(head, job.a, job.b, job.c),
-        b'H' => slots::unchanged(head, asking::sum(head)),
+        b'H' => asking::sum(head),
         _ => Err(Refusal::NoRecord.into()),
     }
 }
@@ -250,14 +248,15 @@ fn done_on(head: Head, columns: [u64; COLUMNS], job: Job) -> Served<Done>
     requires { HoldsDesk head columns }
     ensures { result ≡ plain_of (plain_call (desk_of head columns) (job_work job)) }
 {
+    let mut next = head;
     let mut words = columns;
-    match perform(head, &mut words, job) {
-        Ok(work) => Served {
-            desk: desk_values::packed(work.head, words),
+    match perform(&mut next, &mut words, job) {
+        Ok(reply) => Served {
+            desk: desk_values::packed(next, words),
             answer: Done {
                 number: 0,
                 column: 0,
-                value: value(work.reply),
+                value: value(reply),
             },
         },
         Err(refused) => Served {

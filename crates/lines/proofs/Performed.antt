@@ -18,10 +18,9 @@ use Rattle.operations.specs.declared.refusals.Refusal.TheVariants as The
 use Rattle.slots.specs.declared.Head.{Head}
 use Rattle.slots.specs.declared.Reply.{Reply}
 use Rattle.slots.specs.declared.Refused.{Refused}
-use Rattle.slots.specs.declared.Work.{Work}
 use Rattle.slots.specs.Desks.{desk_of, HoldsDesk}
 use Rattle.slots.specs.Refused.{refused_for, refusing}
-use Rattle.slots.specs.Works.{unchanged, DoneBy, Done, Tells}
+use Rattle.slots.specs.Works.{Work, work_of, DoneBy, Done, Tells}
 use Rattle.slots.proofs.Steps.{done_refusal, done_told}
 use Rattle.lines.specs.Lines.{LineDone, LineWorked}
 
@@ -40,7 +39,7 @@ module _ (h : Head) (columns : List ℕ) (line : Bytes) (r : Record) (out : List
 
 -- one that asks leaves the head and the columns as they are
 pub line_told : (h : Head) (columns : List ℕ) → HoldsDesk h columns → (line : Bytes) (r : Record) (out : List ℕ) (p : Result Reply Refused)
-    (out' : List ℕ) (w : Result Work Refused) → w ≡ unchanged h p → (x : Record) (m : DeskRecord) → r ≡ x → meant line x ≡ pass m
+    (out' : List ℕ) (w : Result Work Refused) → w ≡ work_of h p → (x : Record) (m : DeskRecord) → r ≡ x → meant line x ≡ pass m
     → Tells m h columns out p out' → LineDone h columns line r out w columns out'
 line_told h columns H line r out p out' w u x m e q t =
     line_done h columns line r out w columns out' x m e q (done_told h columns H (operation (desk_of h columns) m) out p out' t w u)

@@ -3,7 +3,7 @@ use Prim.Native.Nat.{ℕ}
 use mathlib.Core.Path.{◌≡◌, refl, sym, ◌∙◌, ap, subst, subst₂}
 use mathlib.Core.List.{List, [], ◌∷◌}
 use mathlib.Core.Option.{Option, none, some}
-use Rattle.std.specs.Prelude.{Result, Ok, Err}
+use Rattle.std.specs.Prelude.{Result, Ok, Err, OnErr}
 use native.Mathlib.Omega.{arith}
 use lib.ListN.{length}
 use Rattle.higman.specs.Text.{Bytes, decimal}
@@ -25,10 +25,9 @@ use Rattle.operations.specs.Refusals.{number_of}
 use Rattle.slots.specs.declared.Reply.{Reply as Told}
 use Rattle.slots.specs.declared.Reply.TheVariants as The
 use Rattle.slots.specs.declared.Refused.{Refused}
-use Rattle.slots.specs.declared.Work.{Work}
 use Rattle.slots.specs.Blocks.{value_at}
 use Rattle.slots.specs.Desks.{desk_of, HoldsDesk}
-use Rattle.slots.specs.Works.{direct, told, desk_after, reply_to, DoneBy}
+use Rattle.slots.specs.Works.{Work, work_of, direct, told, desk_after, reply_to, DoneBy}
 use Rattle.slots.specs.Refused.{letter, letter_of, outcome_of}
 use Rattle.lines.specs.Lines.{dropped_head, SettledBy, Answered}
 
@@ -163,6 +162,12 @@ module _ (d : Desk) where
       → settle d o ≡ (dropped (desk_after d o), reply_to o)
   told_refusal (refuse m l) k n c e = refl
   told_refusal (pass x) (passes k) n c e = absurd (passes_told x.1 n c k (sym e))
+
+-- a work that is well done on a lent head is so on the head that is left, since a refusal leaves it as it was
+pub done_left : (d : Desk) (o : Outcome Effect) (out : List ℕ) (h h' : Head) (p : Result Told Refused) (columns' out' : List ℕ)
+    → OnErr p (h' ≡ h) → DoneBy d o out h (work_of h' p) columns' out' → DoneBy d o out h' (work_of h' p) columns' out'
+done_left d o out h h' (Ok q) columns' out' e k = record { holds = k.holds; desk = k.desk; reply = k.reply; output = k.output }
+done_left d o out h h' (Err f) columns' out' e k = subst (λ x. DoneBy d o out x (Err f) columns' out') (sym e) k
 
 -- a work that is well done for a line is answered once its reply is settled, and a refusal drops the open plan
 module _ (d : Desk) (line : Bytes) (out₀ columns' out out' : List ℕ) (used : ℕ) (h : Head) where

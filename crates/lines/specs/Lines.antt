@@ -12,10 +12,9 @@ use Rattle.asking.specs.Asked.{Asked}
 use Rattle.slots.specs.declared.Head.{Head}
 use Rattle.slots.specs.declared.Reply.{Reply}
 use Rattle.slots.specs.declared.Refused.{Refused}
-use Rattle.slots.specs.declared.Work.{Work}
 use Rattle.slots.specs.Desks.{desk_of, HoldsDesk}
 use Rattle.slots.specs.Refused.{outcome_of}
-use Rattle.slots.specs.Works.{direct, told, DoneBy}
+use Rattle.slots.specs.Works.{Work, work_of, direct, told, DoneBy}
 use Rattle.lines.specs.declared.Stepped.{Stepped}
 
 -- a desk, room for any reply, and a record that was read of a line
@@ -49,7 +48,7 @@ SettledBy p out used out' =
     (q : ReplyOf) (out₀ : List ℕ) → outcome_of p ≡ told q → out ≡ written out₀ 0 (direct q) → Wrote (reply_bytes q) out₀ 0 out' used
 
 -- and what comes of the work of a line is the answer to it
-abbrev pub AnswersWork : Head → Result Work Refused → List ℕ → Stepped → List ℕ → Type 0
-AnswersWork h w out s out' =
-    (d : Desk) (line : Bytes) (out₀ columns' : List ℕ) → DoneBy d (line_operation d line) out₀ h w columns' out
+abbrev pub AnswersWork : Head → Result Reply Refused → List ℕ → Stepped → List ℕ → Type 0
+AnswersWork h p out s out' =
+    (d : Desk) (line : Bytes) (out₀ columns' : List ℕ) → DoneBy d (line_operation d line) out₀ h (work_of h p) columns' out
     → Answered (respond_line d line) out₀ s columns' out'

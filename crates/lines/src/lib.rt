@@ -3,16 +3,17 @@
 // through the desk that the head and columns hold. (kept: a head and its columns side by side, as `slots::Head` says.)
 #![tactic(auto)]
 
-ghost use Rattle.std.specs.Prelude.{◌≡◌, ◌≤◌, length, Ok, Err};
+ghost use Rattle.std.specs.Prelude.{◌≡◌, ◌≤◌, length, Ok, Err, OnErr};
 ghost use Rattle.replies.specs.Sizes.{max_reply};
 ghost use Rattle.desk.specs.Replies.{respond_line};
 ghost use Rattle.asking.specs.Asked.{Asked};
 ghost use Rattle.slots.specs.Desks.{desk_of};
+ghost use Rattle.slots.specs.Works.{work_of};
 ghost use Rattle.lines.specs.Lines.{Working, LineDone, LineWorked, dropped_head, SettledBy, AnswersWork, Answered};
 
 use operations::refusals::Refusal;
 use records::Record;
-use slots::{Head, Refused, Reply, Work};
+use slots::{Head, Refused, Reply};
 use words::Shape;
 
 // A line that was answered: the head after it, and how many bytes its reply has.
@@ -56,34 +57,31 @@ pub fn write_refusal(refused: Refused, out: &mut [u8]) -> usize
     }
 }
 
-// What the work of a record comes to: its reply is written, and a refusal drops the open plan.
-pub fn answer(head: Head, work: Result<Work, Refused>, out: &mut [u8]) -> Stepped
+// What the work of a record comes to: its reply is written, and a refusal drops the open plan. So many bytes.
+pub fn answer(head: &mut Head, reply: Result<Reply, Refused>, out: &mut [u8]) -> usize
     requires { max_reply ≤ length out.old }
-    ensures { AnswersWork head work out.old result out.new }
+    ensures { AnswersWork head.old reply out.old (record { head = head.new; used = result }) out.new }
 {
-    match work {
-        Ok(work) => Stepped {
-            head: work.head,
-            used: write_reply(work.reply, out),
-        },
-        Err(refused) => Stepped {
-            head: dropped(head),
-            used: write_refusal(refused, out),
-        },
+    match reply {
+        Ok(reply) => write_reply(reply, out),
+        Err(refused) => {
+            *head = dropped(*head);
+            write_refusal(refused, out)
+        }
     }
 }
 
 // The work of the record that was read of a line.
 pub fn perform(
-    head: Head,
+    head: &mut Head,
     columns: &mut [u64],
     line: &[u8],
     record: Record,
     out: &mut [u8],
-) -> Result<Work, Refused>
-    requires { Working head columns.old line.now «record» out.old }
-    ensures { LineDone head columns.old line.now «record» out.old result
-        columns.new out.new }
+) -> Result<Reply, Refused>
+    requires { Working head.old columns.old line.now «record» out.old }
+    ensures done { LineDone head.old columns.old line.now «record» out.old (work_of head.new result) columns.new out.new }
+    ensures kept { OnErr result (head.new ≡ head.old) }
 {
     match record {
         Record::Open { slot, arity, roots } => {
@@ -95,14 +93,12 @@ pub fn perform(
         Record::Follow { a, b, c } => changing::follow(head, columns, a, b, c),
         Record::Invert { a, c } => changing::invert(head, columns, a, c),
         Record::Power { a, k, c } => changing::power(head, columns, a, k, c),
-        Record::Same { a, b } => slots::unchanged(head, asking::compare(head, columns, a, b)),
-        Record::Route { a, code } => {
-            slots::unchanged(head, asking::route(head, columns, a, &line[code], out))
-        }
-        Record::List { a } => slots::unchanged(head, asking::list(head, columns, a, out)),
+        Record::Same { a, b } => asking::compare(head, columns, a, b),
+        Record::Route { a, code } => asking::route(head, columns, a, &line[code], out),
+        Record::List { a } => asking::list(head, columns, a, out),
         Record::Empty { a } => changing::empty(head, columns, a),
-        Record::Count => slots::unchanged(head, asking::count(head)),
-        Record::Survey => slots::unchanged(head, asking::survey(head, out)),
+        Record::Count => asking::count(head),
+        Record::Survey => asking::survey(head, out),
         Record::Exercise {
             slot,
             arity,
@@ -119,14 +115,20 @@ pub fn perform(
             slot,
             right,
         } => stations::grant(head, station, slot, right),
-        Record::Sum => slots::unchanged(head, asking::sum(head)),
+        Record::Sum => asking::sum(head),
     }
 }
 
 // The work of a line: what is read of it is done, and a line that is no record is refused.
-pub fn work(head: Head, columns: &mut [u64], line: &[u8], out: &mut [u8]) -> Result<Work, Refused>
-    requires { Asked head columns.old out.old }
-    ensures { LineWorked head columns.old line.now out.old result columns.new out.new }
+pub fn work(
+    head: &mut Head,
+    columns: &mut [u64],
+    line: &[u8],
+    out: &mut [u8],
+) -> Result<Reply, Refused>
+    requires { Asked head.old columns.old out.old }
+    ensures done { LineWorked head.old columns.old line.now out.old (work_of head.new result) columns.new out.new }
+    ensures kept { OnErr result (head.new ≡ head.old) }
 {
     let record = records::read(line).ok_or(Refusal::NoRecord)?;
     perform(head, columns, line, record, out)
@@ -138,6 +140,8 @@ pub fn step(head: Head, columns: &mut [u64], line: &[u8], out: &mut [u8]) -> Ste
     ensures { Answered (respond_line (desk_of head columns.old) line.now) out.old result
         columns.new out.new }
 {
-    let work = work(head, columns, line, out);
-    answer(head, work, out)
+    let mut next = head;
+    let reply = work(&mut next, columns, line, out);
+    let used = answer(&mut next, reply, out);
+    Stepped { head: next, used }
 }

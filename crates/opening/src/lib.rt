@@ -2,41 +2,40 @@
 // when accepted."). (kept: a head and its columns side by side, as `slots::Head` says.)
 #![tactic(auto)]
 
+ghost use Rattle.std.specs.Prelude.{◌≡◌, OnErr};
 ghost use Rattle.desk.specs.Records.{P, M};
 ghost use Rattle.slots.specs.Desks.{HoldsDesk};
-ghost use Rattle.slots.specs.Works.{HeadOfDesk, DoneByHead, DoneSilently};
+ghost use Rattle.slots.specs.Works.{HeadOfDesk, DoneByHead, DoneSilently, work_of};
 
 use operations::MAX_PAIRS;
 use operations::refusals::Refusal;
-use slots::{BLOCK, DRAFT, Head, Refused, Reply, Size, Work};
+use slots::{BLOCK, DRAFT, Head, Refused, Reply, Size};
 use words::Shape;
 
 // P: 2, 8, 20, 3.
-pub fn open(head: Head, slot: u8, shape: Shape) -> Result<Work, Refused>
-    requires { HeadOfDesk head }
-    ensures { DoneByHead (P slot shape.arity shape.roots) head result }
+pub fn open(head: &mut Head, slot: u8, shape: Shape) -> Result<Reply, Refused>
+    requires { HeadOfDesk head.old }
+    ensures done { DoneByHead (P slot shape.arity shape.roots) head.old (work_of head.new result) }
+    ensures kept { OnErr result (head.new ≡ head.old) }
 {
     slots::admission(head, &[], &[slot])?;
     if !shape.is_in_range() {
         return Err(Refusal::ShapeOutside.into());
     }
-    let mut next = head;
-    next.sizes[DRAFT] = Size {
+    head.sizes[DRAFT] = Size {
         arity: shape.arity,
         roots: shape.roots,
         pairs: 0,
     };
-    next.draft = Some(slots::slot_number(slot) as u8);
-    Ok(Work {
-        head: next,
-        reply: Reply::Silent,
-    })
+    head.draft = Some(slots::slot_number(slot) as u8);
+    Ok(Reply::Silent)
 }
 
 // M: 2, 4, 5.
-pub fn pair(head: Head, columns: &mut [u64], from: &[u8], to: &[u8]) -> Result<Work, Refused>
-    requires { HoldsDesk head columns.old }
-    ensures { DoneSilently (M from.now to.now) head columns.old result columns.new }
+pub fn pair(head: &mut Head, columns: &mut [u64], from: &[u8], to: &[u8]) -> Result<Reply, Refused>
+    requires { HoldsDesk head.old columns.old }
+    ensures done { DoneSilently (M from.now to.now) head.old columns.old (work_of head.new result) columns.new }
+    ensures kept { OnErr result (head.new ≡ head.old) }
 {
     if head.draft.is_none() {
         return Err(Refusal::WrongState.into());
@@ -51,10 +50,6 @@ pub fn pair(head: Head, columns: &mut [u64], from: &[u8], to: &[u8]) -> Result<W
     let from_at = DRAFT * BLOCK + size.pairs;
     columns[from_at] = from_word;
     columns[from_at + MAX_PAIRS] = to_word;
-    let mut next = head;
-    next.sizes[DRAFT].pairs += 1;
-    Ok(Work {
-        head: next,
-        reply: Reply::Silent,
-    })
+    head.sizes[DRAFT].pairs += 1;
+    Ok(Reply::Silent)
 }

@@ -58,9 +58,9 @@ fn fault_of(words: &[u64], shape: Shape) -> Result<(), Reason>
 
 // "the verdict on a plan names the column and, within it, the reason"
 #[tactic(auto, using(columns::proofs::Limits::pair_limit, crate::proofs::Sizes::taken))]
-pub fn judge(draft: Plan) -> Result<(), Fault>
-    requires { DraftColumns draft }
-    ensures { result ≡ verdict_of (verdict (shape_of draft) (rows_of draft)) }
+pub fn judge(draft: &Plan) -> Result<(), Fault>
+    requires { DraftColumns draft.now }
+    ensures { result ≡ verdict_of (verdict (shape_of draft.now) (rows_of draft.now)) }
 {
     let shape = draft.shape();
     fault_of(&draft.from[..draft.pairs], shape).map_err(Fault::InFrom)?;
@@ -69,9 +69,10 @@ pub fn judge(draft: Plan) -> Result<(), Fault>
 
 // "E closes: reduce and keep."
 #[tactic(auto, using(columns::proofs::Limits::pair_limit, crate::proofs::Sizes::taken))]
-pub fn close(draft: Plan) -> Result<Plan, Fault>
-    requires { DraftColumns draft }
-    ensures { result ≡ closing (shape_of draft) (rows_of draft) }
+#[inline(never)]
+pub fn close(draft: &Plan) -> Result<Plan, Fault>
+    requires { DraftColumns draft.now }
+    ensures { result ≡ closing (shape_of draft.now) (rows_of draft.now) }
 {
     let shape = draft.shape();
     let mut from = draft.from;

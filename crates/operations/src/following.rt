@@ -52,9 +52,9 @@ fn filled(from: &[u64], to: &[u64], shape: Shape) -> Plan
 }
 
 // Two plans of one shape, one after the other.
-fn composed(a: Plan, b: Plan) -> Result<Plan, Refusal>
-    requires { (is_plan a ≡ true) × (is_plan b ≡ true) × (shape_of a ≡ shape_of b) }
-    ensures { result ≡ composing a b }
+fn composed(a: &Plan, b: &Plan) -> Result<Plan, Refusal>
+    requires { (is_plan a.now ≡ true) × (is_plan b.now ≡ true) × (shape_of a.now ≡ shape_of b.now) }
+    ensures { result ≡ composing a.now b.now }
 {
     let first = a.lent();
     let second = b.lent();
@@ -93,7 +93,7 @@ pub fn compose(a: Plan, b: Plan) -> Result<Plan, Refusal>
     if a.shape() != b.shape() {
         return Err(Refusal::ShapesDiffer);
     }
-    composed(a, b)
+    composed(&a, &b)
 }
 
 // The inverse: what is kept of the columns exchanged.
@@ -123,7 +123,7 @@ fn repeat(a: Plan, n: u32) -> Result<Plan, Refusal>
 {
     let mut power = identity(a.shape());
     for _ in 0..n {
-        power = composed(power, a)?;
+        power = composed(&power, &a)?;
     }
     Ok(power)
 }

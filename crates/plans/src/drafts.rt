@@ -1,6 +1,6 @@
 // Drafts (document 01, "Plans" and "When each operation says no"): whether a value is a draft, and the verdict on it. 15 is given here;
 // the checks of the columns are those that the desk makes when it closes a draft.
-ghost use Rattle.std.specs.Prelude.{◌≡◌, ◌≤◌, length};
+ghost use Rattle.std.specs.Prelude.{◌≡◌, ◌≤◌, true, length};
 ghost use Rattle.higman.specs.Bases.{all};
 ghost use Rattle.higman.specs.Limits.{is_plan_word};
 ghost use Rattle.words.specs.Bytes.{shape_of};
@@ -19,11 +19,16 @@ pub fn are_words(column: &[u64], shape: Shape) -> bool
     column.iter().all(|&word| words::is_word(word, shape))
 }
 
-// Whether nothing stands in a column.
+// Whether nothing stands in a column. The numbers are all looked at, many at a time: a search that ended at the first other one would
+// take them one by one.
 pub fn are_zeros(column: &[u64]) -> bool
     ensures { result ≡ zeros column.now }
 {
-    column.iter().all(|&word| word == 0)
+    let mut none = true;
+    for &word in column {
+        none &= word == 0;
+    }
+    none
 }
 
 // Whether the first n numbers of a column hold words that a plan of the shape may hold, with nothing behind them.
@@ -38,6 +43,14 @@ fn is_column(column: &[u64], n: usize, shape: Shape) -> bool
 pub fn is_draft(p: Plan) -> bool
     ensures { result ≡ is_draft p }
 {
+    holds_draft(&p)
+}
+
+// The same of a value where it lies: it has 2 KB, and every call of the library looks at the plans that it is handed.
+pub(crate) fn holds_draft(p: &Plan) -> bool
+    ensures value { result ≡ is_draft p.now }
+    ensures even { result ≡ true → length p.now.from ≡ length p.now.to }
+{
     p.pairs <= MAX_PAIRS
         && p.shape().is_in_range()
         && is_column(&p.from, p.pairs, p.shape())
@@ -48,7 +61,14 @@ pub fn is_draft(p: Plan) -> bool
 pub fn verdict(draft: Plan) -> Result<(), Rejection>
     ensures { result ≡ judged draft }
 {
-    if !is_draft(draft) {
+    judge(&draft)
+}
+
+// The same of a value where it lies.
+pub(crate) fn judge(draft: &Plan) -> Result<(), Rejection>
+    ensures { result ≡ judged draft.now }
+{
+    if !holds_draft(draft) {
         return Err(Rejection::NotADraft);
     }
     Ok(closing::judge(draft)?)

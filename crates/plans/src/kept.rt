@@ -12,17 +12,24 @@ use operations::{Lent, Plan, closing};
 pub fn keep(draft: Plan) -> Result<Plan, Rejection>
     ensures { result ≡ keeping draft }
 {
-    if !drafts::is_draft(draft) {
+    if !drafts::holds_draft(&draft) {
         return Err(Rejection::NotADraft);
     }
-    Ok(closing::close(draft)?)
+    Ok(closing::close(&draft)?)
 }
 
 // Whether a value is a kept plan: accepted, reduced, and with its from-words in order. Then keeping it would give it back.
 pub fn is_plan(p: Plan) -> bool
     ensures { result ≡ is_plan p }
 {
-    drafts::verdict(p).is_ok()
+    holds_plan(&p)
+}
+
+// The same of a value where it lies.
+fn holds_plan(p: &Plan) -> bool
+    ensures { result ≡ is_plan p.now }
+{
+    drafts::judge(p).is_ok()
         && tables::normal::is_normal(&p.from[..p.pairs], &p.to[..p.pairs], p.arity)
 }
 
@@ -30,7 +37,7 @@ pub fn is_plan(p: Plan) -> bool
 pub(crate) fn check(p: &Plan) -> Result<(), Refusal>
     ensures { Checked p.now result }
 {
-    if !is_plan(*p) {
+    if !holds_plan(p) {
         return Err(Refusal::InvalidValue);
     }
     Ok(())

@@ -26,10 +26,9 @@ use Rattle.operations.specs.declared.refusals.Refusal.TheVariants as The
 use Rattle.operations.specs.Refusals.{number_of}
 use Rattle.slots.specs.declared.Reply.{Reply}
 use Rattle.slots.specs.declared.Refused.{Refused}
-use Rattle.slots.specs.declared.Work.{Work}
 use Rattle.slots.specs.Desks.{desk_of, HoldsDesk, allowed_in}
 use Rattle.slots.specs.Refused.{refused_for, refusing, letter_of, outcome_of}
-use Rattle.slots.specs.Works.{uses_of, AdmittedAs, direct, told, reply_to, desk_after, unchanged, DoneBy, Done, ToldBy, Tells}
+use Rattle.slots.specs.Works.{Work, uses_of, AdmittedAs, direct, told, reply_to, desk_after, work_of, DoneBy, Done, ToldBy, Tells}
 use Rattle.slots.proofs.Held.{open_is}
 
 module _ (d : Desk) (r : Record) where
@@ -178,13 +177,13 @@ done_refusal h columns H o f e out w q =
 
 -- what is told of a desk is done where the head and the columns are left as they are
 pub done_told : (h : Head) (columns : List ℕ) → HoldsDesk h columns → (o : Outcome Effect) (out : List ℕ) (p : Result Reply Refused)
-    (out' : List ℕ) → ToldBy (desk_of h columns) o out p out' → (w : Result Work Refused) → w ≡ unchanged h p
+    (out' : List ℕ) → ToldBy (desk_of h columns) o out p out' → (w : Result Work Refused) → w ≡ work_of h p
     → DoneBy (desk_of h columns) o out h w columns out'
 done_told h columns H o out p out' t w e =
     subst (λ x. DoneBy (desk_of h columns) o out h x columns out') (sym e) (by p t)
   where
     by : (p : Result Reply Refused) → ToldBy (desk_of h columns) o out p out'
-        → DoneBy (desk_of h columns) o out h (unchanged h p) columns out'
+        → DoneBy (desk_of h columns) o out h (work_of h p) columns out'
     by (Ok p) t = record { holds = H; desk = sym t.desk; reply = t.reply; output = t.output }
     by (Err f) t = record { holds = H; desk = sym t.desk; reply = t.reply; output = t.output }
 

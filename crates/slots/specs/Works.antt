@@ -16,7 +16,6 @@ use Rattle.slots.specs.declared.Head.{Head}
 use Rattle.slots.specs.declared.Reply.{Reply}
 use Rattle.slots.specs.declared.Reply.TheVariants as The
 use Rattle.slots.specs.declared.Refused.{Refused}
-use Rattle.slots.specs.declared.Work.{Work}
 use Rattle.slots.specs.Desks.{desk_of, HoldsDesk}
 use Rattle.slots.specs.Refused.{outcome_of}
 
@@ -51,6 +50,16 @@ abbrev pub reply_to : Outcome Effect → ReplyOf
 reply_to (refuse n c) = refuses n c
 reply_to (pass e) = e.1
 
+-- what comes of a record that is done: the head, and the reply
+pub record Work : Type 0 where
+  pub head : Head
+  pub reply : Reply
+
+-- and of one that was worked on a lent head: the head that is left, and the reply, or the refusal
+abbrev pub work_of : Head → Result Reply Refused → Result Work Refused
+work_of h (Ok p) = Ok (record { head = h; reply = p })
+work_of h (Err f) = Err f
+
 -- the head after a record, which a refusal leaves as it was, and the reply
 abbrev pub head_after : Head → Result Work Refused → Head
 head_after h (Ok w) = w.head
@@ -59,11 +68,6 @@ head_after h (Err f) = h
 abbrev pub reply_in : Result Work Refused → Result Reply Refused
 reply_in (Ok w) = Ok w.reply
 reply_in (Err f) = Err f
-
--- what comes of a record that only asks
-abbrev pub unchanged : Head → Result Reply Refused → Result Work Refused
-unchanged h (Ok p) = Ok (record { head = h; reply = p })
-unchanged h (Err f) = Err f
 
 -- A work well done: what comes of an operation on a desk is held by the head and columns that it leaves, told by its reply and, where the
 -- reply is written at once, at the front of the output.

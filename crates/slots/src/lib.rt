@@ -8,7 +8,7 @@ ghost use Rattle.higman.specs.Bases.{all};
 ghost use Rattle.desk.specs.Desk.{fresh_control, count_in, right_of, IsControl};
 ghost use Rattle.slots.specs.Blocks.{noted_in, named_in, given_in};
 ghost use Rattle.slots.specs.Desks.{control_of, full_in, Countable, RightAsked, RightGiven, RightsAsked, allowed_in};
-ghost use Rattle.slots.specs.Works.{HeadOfDesk, AdmittedAs, unchanged};
+ghost use Rattle.slots.specs.Works.{HeadOfDesk, AdmittedAs};
 
 use operations::refusals::Refusal;
 use operations::{Column, Fault, listing};
@@ -71,8 +71,8 @@ pub struct Control {
 }
 
 // What is known of a desk beside its words: the sizes of the blocks, the slot for which a plan is open, and what it keeps beside its plans.
-// (kept: a head by value and the columns lent beside it, since document 01 names by-value operations beneath the calls, and the 18 KB of
-// words stay where they lie.)
+// (kept: a head and the columns lent beside it, since the words have 18 KB and stay where they lie. A record is worked on a head that is
+// lent: one that went in by value and came back in a Result was copied and cleared at each exit, which took twice the time of a line.)
 #[derive(Clone, Copy)]
 pub struct Head {
     pub sizes: [Size; BLOCKS],
@@ -138,13 +138,6 @@ impl From<Fault> for Refused {
     }
 }
 
-// What comes of a record that is done: the head, and the reply.
-#[derive(Drop)]
-pub struct Work {
-    pub head: Head,
-    pub reply: Reply,
-}
-
 // Station 0 is named, every count is 0, every right is 2, and there are no pairs.
 pub fn fresh_control() -> Control
     ensures { control_of result ≡ fresh_control }
@@ -158,19 +151,18 @@ pub fn fresh_control() -> Control
 }
 
 // The count of the named station's changes.
-pub fn count(head: Head) -> u32
-    requires { IsControl (control_of head.control) }
-    ensures { result ≡ count_in (control_of head.control) }
+pub fn count(head: &Head) -> u32
+    requires { IsControl (control_of head.now.control) }
+    ensures { result ≡ count_in (control_of head.now.control) }
 {
-    let control = head.control;
-    let station = control.station as usize;
-    control.changes[station]
+    let station = head.control.station as usize;
+    head.control.changes[station]
 }
 
 // Whether no change more of the named station is counted.
-pub fn is_full(head: Head) -> bool
-    requires { IsControl (control_of head.control) }
-    ensures { result ≡ full_in head.control }
+pub fn is_full(head: &Head) -> bool
+    requires { IsControl (control_of head.now.control) }
+    ensures { result ≡ full_in head.now.control }
 {
     MAX_CHANGES <= count(head)
 }
@@ -244,9 +236,9 @@ fn are_slots(names: &[u8]) -> bool
 }
 
 // What all records of slots have in common, by the slots that one reads and those that are its targets: 2, 8, 20.
-pub fn admission(head: Head, reads: &[u8], targets: &[u8]) -> Result<(), Refused>
-    requires { HeadOfDesk head }
-    ensures { AdmittedAs head reads.now targets.now result }
+pub fn admission(head: &Head, reads: &[u8], targets: &[u8]) -> Result<(), Refused>
+    requires { HeadOfDesk head.now }
+    ensures { AdmittedAs head.now reads.now targets.now result }
 {
     if head.draft.is_some() {
         return Err(Refusal::WrongState.into());
@@ -267,14 +259,4 @@ pub fn slot_number(slot: u8) -> usize
     ensures { result ≡ slot_number slot }
 {
     (slot - b'A') as usize
-}
-
-// What comes of a record that only asks: the head as it was, and the reply.
-pub fn unchanged(head: Head, reply: Result<Reply, Refused>) -> Result<Work, Refused>
-    ensures { result ≡ unchanged head reply }
-{
-    reply.map(|reply| Work {
-        head: head,
-        reply: reply,
-    })
 }

@@ -18,11 +18,10 @@ use Rattle.desk.specs.Replies.{grant_by}
 use Rattle.slots.specs.declared.Head.{Head}
 use Rattle.operations.specs.declared.refusals.Refusal.TheVariants as The
 use Rattle.slots.specs.declared.Refused.{Refused}
-use Rattle.slots.specs.declared.Work.{Work}
 use Rattle.slots.specs.Blocks.{value_at, given_in}
 use Rattle.slots.specs.Desks.{desk_of, HoldsDesk}
 use Rattle.slots.specs.Refused.{refused_for, refusing}
-use Rattle.slots.specs.Works.{DoneBy, Done}
+use Rattle.slots.specs.Works.{Work, DoneBy, Done}
 use Rattle.slots.proofs.Held.{control_held}
 use Rattle.slots.proofs.Rows.{given_control}
 use Rattle.slots.proofs.Steps.{amiss_closed, tested, done_refusal}

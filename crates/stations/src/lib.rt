@@ -3,17 +3,19 @@
 // .. and gets `ok`; it counts no change."
 #![tactic(auto)]
 
+ghost use Rattle.std.specs.Prelude.{◌≡◌, OnErr};
 ghost use Rattle.desk.specs.Records.{Z};
-ghost use Rattle.slots.specs.Works.{DoneByHead};
+ghost use Rattle.slots.specs.Works.{DoneByHead, work_of};
 ghost use Rattle.stations.specs.Granted.{GrantedByHead};
 
 use operations::listing;
 use operations::refusals::Refusal;
-use slots::{Head, Refused, Reply, STATIONS, Work, rights};
+use slots::{Head, Refused, Reply, STATIONS, rights};
 
 // Z: 2, 18.
-pub fn name(head: Head, station: u8) -> Result<Work, Refused>
-    ensures { DoneByHead (Z station) head result }
+pub fn name(head: &mut Head, station: u8) -> Result<Reply, Refused>
+    ensures done { DoneByHead (Z station) head.old (work_of head.new result) }
+    ensures kept { OnErr result (head.new ≡ head.old) }
 {
     if head.draft.is_some() {
         return Err(Refusal::WrongState.into());
@@ -21,18 +23,14 @@ pub fn name(head: Head, station: u8) -> Result<Work, Refused>
     if STATIONS <= station as usize {
         return Err(Refusal::StationOutside.into());
     }
-    let control = head.control;
-    let mut next = head;
-    next.control = slots::named(control, station);
-    Ok(Work {
-        head: next,
-        reply: Reply::Ok,
-    })
+    head.control = slots::named(head.control, station);
+    Ok(Reply::Ok)
 }
 
 // G: 1, 2, 18, 8, 19. The station, the slot and the right by their numbers and its byte; a right above 2 is 1.
-pub fn grant(head: Head, station: u8, slot: u8, right: u8) -> Result<Work, Refused>
-    ensures { GrantedByHead station slot right head result }
+pub fn grant(head: &mut Head, station: u8, slot: u8, right: u8) -> Result<Reply, Refused>
+    ensures done { GrantedByHead station slot right head.old (work_of head.new result) }
+    ensures kept { OnErr result (head.new ≡ head.old) }
 {
     if rights::WRITE < right {
         return Err(Refusal::NoRecord.into());
@@ -46,18 +44,13 @@ pub fn grant(head: Head, station: u8, slot: u8, right: u8) -> Result<Work, Refus
     if !listing::is_slot(slot) {
         return Err(Refusal::SlotOutside.into());
     }
-    let control = head.control;
-    if control.station != 0 {
+    if head.control.station != 0 {
         return Err(Refusal::StationRefused.into());
     }
     if station == 0 {
         return Err(Refusal::StationRefused.into());
     }
     let i = slots::slot_number(slot);
-    let mut next = head;
-    next.control = slots::given(control, station, i, right);
-    Ok(Work {
-        head: next,
-        reply: Reply::Ok,
-    })
+    head.control = slots::given(head.control, station, i, right);
+    Ok(Reply::Ok)
 }

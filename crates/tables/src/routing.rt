@@ -87,6 +87,16 @@ pub fn unmatched<'a>(from: &[u64], code: &'a [u8]) -> Match<'a>
     }
 }
 
+// Copies a tail over as many bytes. (kept: a loop, since `copy_from_slice` would have the archive for C need `memmove`.)
+fn copy(tail: &[u8], out: &mut [u8])
+    requires { length tail.now ≡ length out.old }
+    ensures { out.new ≡ tail.now }
+{
+    for i in 0..tail.len() {
+        out[i] = tail[i];
+    }
+}
+
 // Routes a code: writes its image from the start of a buffer on, the to-word and right behind it the tail, and tells the pair's place.
 pub fn route_into(
     from: &[u64],
@@ -113,7 +123,7 @@ pub fn route_into(
     }
     let end = words::writing::write(to[k], out, 0);
     let length = end + tail.len();
-    out[end..length].copy_from_slice(tail);
+    copy(tail, &mut out[end..length]);
     Ok(Image {
         length,
         place: k + 1,

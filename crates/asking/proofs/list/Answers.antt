@@ -23,9 +23,9 @@ use Rattle.asking.proofs.list.Goals.{In_ok-admission, In_ok-plan}
 use Rattle.asking.proofs.list.Goals as goal
 
 -- the record is admitted, and so the byte names a slot
-asks : (c : In_ok-admission) → let a = c.args in Asks a.head a.columns.now (L a.a)
+asks : (c : In_ok-admission) → let a = c.args in Asks a.head.now a.columns.now (L a.a)
 unfolding kind
-asks c = let a = c.args in asks_by a.head a.columns.now (L a.a) (a.a ∷ []) refl c.in_ok-admission.ensures
+asks c = let a = c.args in asks_by a.head.now a.columns.now (L a.a) (a.a ∷ []) refl c.in_ok-admission.ensures
 
 a_named : (c : In_ok-admission) → is_slot c.args.a ≡ true
 unfolding kind
@@ -39,7 +39,7 @@ pub returns-in_err-admission : goal.returns-in_err-admission
 unfolding kind
 returns-in_err-admission c =
     let a = c.args in
-    tells_by a.head a.columns.now (L a.a) a.out.now (a.a ∷ []) [] false refl _ c.in_err-admission.ensures _ (returned _ _ c.from_residual.ensures.1)
+    tells_by a.head.now a.columns.now (L a.a) a.out.now (a.a ∷ []) [] false refl _ c.in_err-admission.ensures _ (returned _ _ c.from_residual.ensures.1)
 
 pub plan_in-requires-clause-named : goal.plan_in-requires-clause-named
 plan_in-requires-clause-named c = a_named c
@@ -47,7 +47,7 @@ plan_in-requires-clause-named c = a_named c
 pub returns-in_err-plan : goal.returns-in_err-plan
 returns-in_err-plan c =
     let a = c.args in
-    tells_job a.head a.columns.now (L a.a) a.out.now (asks (goal.at.returns-in_err-plan c).In_ok-admission).admitted _
+    tells_job a.head.now a.columns.now (L a.a) a.out.now (asks (goal.at.returns-in_err-plan c).In_ok-admission).admitted _
     (list_none _ a.a c.in_err-plan.ensures) _ (returned _ _ c.from_residual-in_err-plan.ensures.1)
 
 -- so that all of it is written
@@ -68,6 +68,6 @@ returns c =
     let named = a_named at.In_ok-admission in
     let used = c.in_ok-used.used in
     let told : Ok used ≡ Ok (length (listing a.a p)) = c.in_ok-used.ensures.value ∙ listing_told a.a named p a.out.now (room at.In_ok-plan) in
-    answered a.head a.columns.now (L a.a) a.out.now (asks at.In_ok-admission) (lists a.a p)
-    (list_done (desk_of a.head a.columns.now) a.a p c.in_ok-plan.ensures) (Written used) (ap (λ n. pass (Written n)) (cc told)) _
+    answered a.head.now a.columns.now (L a.a) a.out.now (asks at.In_ok-admission) (lists a.a p)
+    (list_done (desk_of a.head.now a.columns.now) a.a p c.in_ok-plan.ensures) (Written used) (ap (λ n. pass (Written n)) (cc told)) _
     (c.in_ok-used.ensures.out_after ∙ listing_written a.a named p a.out.now (room at.In_ok-plan))

@@ -40,9 +40,9 @@ use Rattle.asking.proofs.route.Goals.{In_ok-admission, In_ok-plan, After-route}
 use Rattle.asking.proofs.route.Goals as goal
 
 -- the record is admitted, and so the byte names a slot
-asks : (c : In_ok-admission) → let a = c.args in Asks a.head a.columns.now (W a.a a.code.now)
+asks : (c : In_ok-admission) → let a = c.args in Asks a.head.now a.columns.now (W a.a a.code.now)
 unfolding kind
-asks c = let a = c.args in asks_by a.head a.columns.now (W a.a a.code.now) (a.a ∷ []) refl c.in_ok-admission.ensures
+asks c = let a = c.args in asks_by a.head.now a.columns.now (W a.a a.code.now) (a.a ∷ []) refl c.in_ok-admission.ensures
 
 a_named : (c : In_ok-admission) → is_slot c.args.a ≡ true
 unfolding kind
@@ -52,7 +52,7 @@ pub returns-in_err-admission : goal.returns-in_err-admission
 unfolding kind
 returns-in_err-admission c =
     let a = c.args in
-    tells_by a.head a.columns.now (W a.a a.code.now) a.out.now (a.a ∷ []) [] false refl _ c.in_err-admission.ensures _
+    tells_by a.head.now a.columns.now (W a.a a.code.now) a.out.now (a.a ∷ []) [] false refl _ c.in_err-admission.ensures _
     (returned _ _ c.from_residual.ensures.1)
 
 pub plan_in-requires-clause-named : goal.plan_in-requires-clause-named
@@ -61,7 +61,7 @@ plan_in-requires-clause-named c = a_named c
 pub returns-in_err-plan : goal.returns-in_err-plan
 returns-in_err-plan c =
     let a = c.args in
-    tells_job a.head a.columns.now (W a.a a.code.now) a.out.now (asks (goal.at.returns-in_err-plan c).In_ok-admission).admitted _
+    tells_job a.head.now a.columns.now (W a.a a.code.now) a.out.now (asks (goal.at.returns-in_err-plan c).In_ok-admission).admitted _
     (route_none _ a.a c.in_err-plan.ensures a.code.now) _ (returned _ _ c.from_residual-in_err-plan.ensures.1)
 
 -- the plan, the code and its route, and the output behind the place of `ok⇥`, which is lent to the route
@@ -75,7 +75,7 @@ abbrev answer : In_ok-plan → Route
 answer c = routed (plan c) (code c)
 
 abbrev desk : In_ok-plan → Desk
-desk c = desk_of c.args.head c.args.columns.now
+desk c = desk_of c.args.head.now c.args.columns.now
 
 abbrev out : In_ok-plan → List ℕ
 out c = c.args.out.now
@@ -136,7 +136,7 @@ returns-in-Image c =
     let image = word_bytes sent.image in
     let placed = written_lent (out p) image c.route.new.out image_at (c.in-Image.ensures.out_after ∙ sent.buffer) in
     let line = image_line (out p) image (decimal told.place) (wide p) sent.size placed c.ok_image.ensures in
-    answered a.head a.columns.now (W a.a a.code.now) (out p) (asks at.In_ok-admission) (ok_image sent.image told.place) (job_told p ∙ sent.reply)
+    answered a.head.now a.columns.now (W a.a a.code.now) (out p) (asks at.In_ok-admission) (ok_image sent.image told.place) (job_told p ∙ sent.reply)
     (Written c.ok_image.result) (ap (λ n. pass (Written n)) (line.place ∙ zero-add _)) _ line.contents
 
 pub write_block-requires : goal.write_block-requires
@@ -154,7 +154,7 @@ returns-in-TooShort c =
     let short = route_short (desk p) (plan p) (code p) (behind p) (answer p) (room p) (sym c.in-TooShort.ensures.value) in
     let same = unmoved p c.route.new.out c.in-TooShort.ensures.out_after short.buffer in
     let line = c.write_block.ensures in
-    answered a.head a.columns.now (W a.a a.code.now) (out p) (asks at.In_ok-admission) (ok_block (placed_block (plan p).rows (code p)))
+    answered a.head.now a.columns.now (W a.a a.code.now) (out p) (asks at.In_ok-admission) (ok_block (placed_block (plan p).rows (code p)))
     (job_told p ∙ short.reply) (Written c.write_block.result) (ap (λ n. pass (Written n)) (line.place ∙ zero-add _)) _
     (line.contents ∙ ap (λ x. written x 0 (reply_bytes (ok_block (placed_block (plan p).rows (code p))))) same)
 
@@ -165,6 +165,6 @@ returns-in-Refused c =
     let p = at.In_ok-plan in
     let stopped = route_refused (desk p) (plan p) (code p) (behind p) (answer p) (room p) c.in-Refused.refusal (sym c.in-Refused.ensures.value) in
     let same = unmoved p c.route.new.out c.in-Refused.ensures.out_after stopped.buffer in
-    subst (λ x. Tells (W a.a a.code.now) a.head a.columns.now (out p) (Err c.into.result) x) (sym same)
-    (tells_job a.head a.columns.now (W a.a a.code.now) (out p) (asks at.In_ok-admission).admitted _ (job_told p ∙ stopped.reply) _
+    subst (λ x. Tells (W a.a a.code.now) a.head.now a.columns.now (out p) (Err c.into.result) x) (sym same)
+    (tells_job a.head.now a.columns.now (W a.a a.code.now) (out p) (asks at.In_ok-admission).admitted _ (job_told p ∙ stopped.reply) _
     (ap Err c.into.ensures))

@@ -29,20 +29,20 @@ asks h columns o = asks_by h columns H [] refl (admission_passed h [] [] o refl 
 pub returns-then-is_some : goal.returns-then-is_some
 unfolding kind
 returns-then-is_some c = λ columns out.
-    let h = c.args.head in
+    let h = c.args.head.now in
     tells_by h columns H out [] [] false refl (refused_for The.WrongState) (admission_open h [] [] (sym c.is_some.ensures ∙ c.if-is_some.true)) _
     (ap Err c.into.ensures)
 
 pub returns-then-head-ne0 : goal.returns-then-head-ne0
 unfolding job desk_of ◌>>=◌
 returns-then-head-ne0 c = λ columns out.
-    let h = c.args.head in
+    let h = c.args.head.now in
     tells_job h columns H out (asks h columns (sym c.is_some.ensures ∙ c.if-is_some.false)).admitted (refused_for The.StationRefused)
     (ap (told (desk_of h columns)) (ne_eqb h.control.station 0 c.if-head-ne0.true)) _ (ap Err c.into-then-head-ne0.ensures)
 
 pub returns : goal.returns
 unfolding job desk_of ◌>>=◌
 returns c = λ columns out.
-    let h = c.args.head in
+    let h = c.args.head.now in
     answered h columns H out (asks h columns (sym c.is_some.ensures ∙ c.if-is_some.false)) (ok_number h.control.pairs)
     (ap (told (desk_of h columns)) (eq-eqb h.control.station 0 c.if-head-ne0.false)) _ refl out refl

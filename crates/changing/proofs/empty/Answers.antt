@@ -11,6 +11,7 @@ use Rattle.higman.specs.Listing.{is_slot, slot_number}
 use Rattle.desk.specs.Records.{C, kind, writing}
 use Rattle.operations.specs.declared.Plan.{Plan}
 use Rattle.operations.specs.declared.refusals.Refusal.TheVariants.{SlotEmpty}
+use Rattle.slots.specs.Works.{work_of}
 use Rattle.slots.specs.Blocks.{size_at, value_at}
 use Rattle.slots.specs.Desks.{desk_of}
 use Rattle.slots.specs.Refused.{refused_for}
@@ -27,15 +28,15 @@ named : (c : In_ok-admission) → is_slot c.args.a ≡ true
 unfolding kind
 named c =
     let a = c.args in
-    admitted_named (desk_of a.head a.columns.now) (C a.a) (c.in_ok-admission.ensures (C a.a) true a.columns.now refl) (writing a.a)
+    admitted_named (desk_of a.head.now a.columns.now) (C a.a) (c.in_ok-admission.ensures (C a.a) true a.columns.now refl) (writing a.a)
     (Memᴰ.head refl)
 
-pub returns-in_err-admission : goal.returns-in_err-admission
+pub returns-in_err-admission-clause-done : goal.returns-in_err-admission-clause-done
 unfolding kind
-returns-in_err-admission c = λ out.
+returns-in_err-admission-clause-done c = λ out.
     let a = c.args in
-    refused_by a.head a.columns.now c.requires (C a.a) out [] (a.a ∷ []) true refl _ c.in_err-admission.ensures _
-    (returned _ _ c.from_residual.ensures.1)
+    refused_by a.head.now a.columns.now c.requires (C a.a) out [] (a.a ∷ []) true refl _ c.in_err-admission.ensures _
+    (ap (work_of _) (returned _ _ c.from_residual.ensures.1))
 
 pub slot_number-i-requires : goal.slot_number-i-requires
 slot_number-i-requires c = named c
@@ -47,15 +48,15 @@ pub bounds-head-i : goal.bounds-head-i
 bounds-head-i c =
     omega (arith, slots_eight, below (goal.at.bounds-head-i c).In_ok-admission c.slot_number-i.result c.slot_number-i.ensures)
 
-pub returns-then-head-i-eq0 : goal.returns-then-head-i-eq0
+pub returns-then-head-i-eq0-clause-done : goal.returns-then-head-i-eq0-clause-done
 unfolding kind value_at
-returns-then-head-i-eq0 c = λ out.
+returns-then-head-i-eq0-clause-done c = λ out.
     let a = c.args in
-    let none = ap (λ i. (size_at a.head i).pairs) (sym c.slot_number-i.ensures) ∙ c.if-head-i-eq0.true in
-    refused_job a.head a.columns.now c.requires (C a.a) out (c.in_ok-admission.ensures (C a.a) true a.columns.now refl)
+    let none = ap (λ i. (size_at a.head.now i).pairs) (sym c.slot_number-i.ensures) ∙ c.if-head-i-eq0.true in
+    refused_job a.head.now a.columns.now c.requires (C a.a) out (c.in_ok-admission.ensures (C a.a) true a.columns.now refl)
     (refused_for SlotEmpty)
-    (empty_none (desk_of a.head a.columns.now) a.a
-    (read_none a.head a.columns.now a.a (named (goal.at.returns-then-head-i-eq0 c).In_ok-admission) none)) _ (ap Err c.into.ensures)
+    (empty_none (desk_of a.head.now a.columns.now) a.a
+    (read_none a.head.now a.columns.now a.a (named (goal.at.returns-then-head-i-eq0-clause-done c).In_ok-admission) none)) _ (ap Err c.into.ensures)
 
 pub fill-requires : goal.fill-requires
 fill-requires c =
@@ -66,24 +67,24 @@ fill-requires c =
     }
 
 -- the slot holds a plan
-full : (c : Else-head-i-eq0) → (size_at c.args.head (slot_number c.args.a)).pairs ≡ 0 → ⊥
-full c q = c.if-head-i-eq0.false (ap (λ i. (size_at c.args.head i).pairs) c.slot_number-i.ensures ∙ q)
+full : (c : Else-head-i-eq0) → (size_at c.args.head.now (slot_number c.args.a)).pairs ≡ 0 → ⊥
+full c q = c.if-head-i-eq0.false (ap (λ i. (size_at c.args.head.now i).pairs) c.slot_number-i.ensures ∙ q)
 
-pub returns-in_err-next : goal.returns-in_err-next
+pub returns-in_err-fill-clause-done : goal.returns-in_err-fill-clause-done
 unfolding kind
-returns-in_err-next c = λ out.
+returns-in_err-fill-clause-done c = λ out.
     let a = c.args in
-    let at = goal.at.returns-in_err-next c in
-    done_emptying a.head a.columns.now c.requires a.a (named at.In_ok-admission) (c.in_ok-admission.ensures (C a.a) true a.columns.now refl)
-    (full at.Else-head-i-eq0) out _ (c.in_err-next.ensures.value ∙ ap₂ (filled a.head) c.slot_number-i.ensures c.blank.ensures) _
-    (c.in_err-next.ensures.columns_after ∙ ap₂ (filled_columns a.head a.columns.now) c.slot_number-i.ensures c.blank.ensures) _
-    (returned _ _ c.from_residual-in_err-next.ensures.1)
+    let at = goal.at.returns-in_err-fill-clause-done c in
+    done_emptying a.head.now a.columns.now c.requires a.a (named at.In_ok-admission) (c.in_ok-admission.ensures (C a.a) true a.columns.now refl)
+    (full at.Else-head-i-eq0) out _ (c.in_err-fill.ensures.value ∙ ap₂ (filled a.head.now) c.slot_number-i.ensures c.blank.ensures) _
+    (c.in_err-fill.ensures.columns_after ∙ ap₂ (filled_columns a.head.now a.columns.now) c.slot_number-i.ensures c.blank.ensures) _
+    (ap (work_of _) (returned _ _ c.from_residual-in_err-fill.ensures.1))
 
-pub returns : goal.returns
+pub returns-clause-done : goal.returns-clause-done
 unfolding kind
-returns c = λ out.
+returns-clause-done c = λ out.
     let a = c.args in
-    let at = goal.at.returns c in
-    done_emptying a.head a.columns.now c.requires a.a (named at.In_ok-admission) (c.in_ok-admission.ensures (C a.a) true a.columns.now refl)
-    (full at.Else-head-i-eq0) out _ (c.in_ok-next.ensures.value ∙ ap₂ (filled a.head) c.slot_number-i.ensures c.blank.ensures) _
-    (c.in_ok-next.ensures.columns_after ∙ ap₂ (filled_columns a.head a.columns.now) c.slot_number-i.ensures c.blank.ensures) _ refl
+    let at = goal.at.returns-clause-done c in
+    done_emptying a.head.now a.columns.now c.requires a.a (named at.In_ok-admission) (c.in_ok-admission.ensures (C a.a) true a.columns.now refl)
+    (full at.Else-head-i-eq0) out _ (c.in_ok-fill.ensures.value ∙ ap₂ (filled a.head.now) c.slot_number-i.ensures c.blank.ensures) _
+    (c.in_ok-fill.ensures.columns_after ∙ ap₂ (filled_columns a.head.now a.columns.now) c.slot_number-i.ensures c.blank.ensures) _ refl

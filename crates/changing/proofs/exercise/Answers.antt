@@ -13,6 +13,7 @@ use Rattle.words.specs.Bytes.{shape_of}
 use Rattle.desk.specs.Records.{X, kind, writing}
 use Rattle.desk.specs.Replies.{pass, admission}
 use Rattle.operations.specs.declared.refusals.Refusal.TheVariants.{ShapeOutside}
+use Rattle.slots.specs.Works.{work_of}
 use Rattle.slots.specs.Desks.{desk_of}
 use Rattle.slots.specs.Refused.{refused_for}
 use Rattle.slots.proofs.Steps.{admitted_named, returned, refused_by, refused_job}
@@ -24,7 +25,7 @@ use Rattle.changing.proofs.exercise.Goals as goal
 
 -- the record is admitted, and so the byte names a slot
 admitted : (c : In_ok-admission)
-    → let a = c.args in admission (desk_of a.head a.columns.now) (X a.slot a.shape.arity a.shape.roots a.splits a.seed) ≡ pass tt
+    → let a = c.args in admission (desk_of a.head.now a.columns.now) (X a.slot a.shape.arity a.shape.roots a.splits a.seed) ≡ pass tt
 unfolding kind
 admitted c = let a = c.args in c.in_ok-admission.ensures (X a.slot a.shape.arity a.shape.roots a.splits a.seed) true a.columns.now refl
 
@@ -32,32 +33,32 @@ named : (c : In_ok-admission) → is_slot c.args.slot ≡ true
 unfolding kind
 named c = admitted_named _ _ (admitted c) (writing c.args.slot) (Memᴰ.head refl)
 
-pub returns-in_err-admission : goal.returns-in_err-admission
+pub returns-in_err-admission-clause-done : goal.returns-in_err-admission-clause-done
 unfolding kind
-returns-in_err-admission c = λ out.
+returns-in_err-admission-clause-done c = λ out.
     let a = c.args in
-    refused_by a.head a.columns.now c.requires (X a.slot a.shape.arity a.shape.roots a.splits a.seed) out [] (a.slot ∷ []) true refl _
-    c.in_err-admission.ensures _ (returned _ _ c.from_residual.ensures.1)
+    refused_by a.head.now a.columns.now c.requires (X a.slot a.shape.arity a.shape.roots a.splits a.seed) out [] (a.slot ∷ []) true refl _
+    c.in_err-admission.ensures _ (ap (work_of _) (returned _ _ c.from_residual.ensures.1))
 
-pub returns-then-not-is_in_range : goal.returns-then-not-is_in_range
-returns-then-not-is_in_range c = λ out.
+pub returns-then-not-is_in_range-clause-done : goal.returns-then-not-is_in_range-clause-done
+returns-then-not-is_in_range-clause-done c = λ out.
     let a = c.args in
-    refused_job a.head a.columns.now c.requires (X a.slot a.shape.arity a.shape.roots a.splits a.seed) out
-    (admitted (goal.at.returns-then-not-is_in_range c).In_ok-admission) (refused_for ShapeOutside)
+    refused_job a.head.now a.columns.now c.requires (X a.slot a.shape.arity a.shape.roots a.splits a.seed) out
+    (admitted (goal.at.returns-then-not-is_in_range-clause-done c).In_ok-admission) (refused_for ShapeOutside)
     (exercise_outside _ a.slot (shape_of a.shape) a.splits a.seed (sym c.is_in_range.ensures ∙ c.if-not-is_in_range.true)) _
     (ap Err c.into.ensures)
 
 in_range : (c : Else-not-is_in_range) → shape_in_range (shape_of c.args.shape) ≡ true
 in_range c = sym c.is_in_range.ensures ∙ c.if-not-is_in_range.false
 
-pub returns-in_err-plan : goal.returns-in_err-plan
-returns-in_err-plan c = λ out.
+pub returns-in_err-plan-clause-done : goal.returns-in_err-plan-clause-done
+returns-in_err-plan-clause-done c = λ out.
     let a = c.args in
-    let at = goal.at.returns-in_err-plan c in
+    let at = goal.at.returns-in_err-plan-clause-done c in
     let s = shape_of a.shape in
-    refused_job a.head a.columns.now c.requires (X a.slot a.shape.arity a.shape.roots a.splits a.seed) out (admitted at.In_ok-admission) _
+    refused_job a.head.now a.columns.now c.requires (X a.slot a.shape.arity a.shape.roots a.splits a.seed) out (admitted at.In_ok-admission) _
     (exercise_refused _ a.slot s a.splits a.seed (in_range at.Else-not-is_in_range)
-    (not_made (Of.exercise s a.splits a.seed) _ c.in_err-plan.ensures)) _ (returned _ _ c.from_residual-in_err-plan.ensures.1)
+    (not_made (Of.exercise s a.splits a.seed) _ c.in_err-plan.ensures)) _ (ap (work_of _) (returned _ _ c.from_residual-in_err-plan.ensures.1))
 
 pub slot_number-requires : goal.slot_number-requires
 slot_number-requires c = named (goal.at.slot_number-requires c).In_ok-admission
@@ -73,15 +74,15 @@ exercised c =
 pub keep-requires : goal.keep-requires
 keep-requires c =
     let at = goal.at.keep-requires c in
-    keepable c.args.slot _ c.slot_number.ensures _ c.args.head c.args.columns.now c.requires (named at.In_ok-admission)
+    keepable c.args.slot _ c.slot_number.ensures _ c.args.head.now c.args.columns.now c.requires (named at.In_ok-admission)
     (exercised at.In_ok-plan).is_plan_fact
 
-pub returns : goal.returns
+pub returns-clause-done : goal.returns-clause-done
 unfolding kind
-returns c =
+returns-clause-done c =
     let a = c.args in
-    let at = goal.at.returns c in
+    let at = goal.at.returns-clause-done c in
     let r = X a.slot a.shape.arity a.shape.roots a.splits a.seed in
-    c.keep.ensures r
+    c.keep.ensures.done r
     (to_keep a.slot _ c.slot_number.ensures _ _ r (admitted at.In_ok-admission) refl
     (exercise_keeps _ a.slot (shape_of a.shape) a.splits a.seed (in_range at.Else-not-is_in_range) _ (exercised at.In_ok-plan).granted))

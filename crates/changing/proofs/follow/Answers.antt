@@ -1,5 +1,5 @@
 -- `changing::follow` meets its contract: the tests in the paper's order, and then what the two plans give is kept.
-use mathlib.Core.Path.{◌≡◌, refl}
+use mathlib.Core.Path.{◌≡◌, refl, ap}
 use mathlib.Core.Bool.{true}
 use mathlib.Core.List.Memᴰ
 use mathlib.Core.List.{[], ◌∷◌}
@@ -9,6 +9,7 @@ use Rattle.higman.proofs.Demand3.{demand3}
 use Rattle.desk.specs.Records.{F, kind, reading, writing}
 use Rattle.desk.specs.Replies.{pass, admission}
 use Rattle.operations.specs.Plans.{plan_of}
+use Rattle.slots.specs.Works.{work_of}
 use Rattle.slots.specs.Desks.{desk_of}
 use Rattle.slots.proofs.Steps.{admitted_named, returned, refused_by, refused_job}
 use Rattle.changing.proofs.Answered.{Made, made, not_made}
@@ -18,7 +19,7 @@ use Rattle.changing.proofs.follow.Goals.{In_ok-admission, In_ok-plan}
 use Rattle.changing.proofs.follow.Goals as goal
 
 -- the record is admitted, and so the three bytes name slots
-admitted : (c : In_ok-admission) → admission (desk_of c.args.head c.args.columns.now) (F c.args.a c.args.b c.args.c) ≡ pass tt
+admitted : (c : In_ok-admission) → admission (desk_of c.args.head.now c.args.columns.now) (F c.args.a c.args.b c.args.c) ≡ pass tt
 unfolding kind
 admitted c = let a = c.args in c.in_ok-admission.ensures (F a.a a.b a.c) true a.columns.now refl
 
@@ -34,39 +35,39 @@ c_named : (c : In_ok-admission) → is_slot c.args.c ≡ true
 unfolding kind
 c_named c = admitted_named _ _ (admitted c) (writing c.args.c) (Memᴰ.tail (Memᴰ.tail (Memᴰ.head refl)))
 
-pub returns-in_err-admission : goal.returns-in_err-admission
+pub returns-in_err-admission-clause-done : goal.returns-in_err-admission-clause-done
 unfolding kind
-returns-in_err-admission c = λ out.
+returns-in_err-admission-clause-done c = λ out.
     let a = c.args in
-    refused_by a.head a.columns.now c.requires (F a.a a.b a.c) out (a.a ∷ a.b ∷ []) (a.c ∷ []) true refl _ c.in_err-admission.ensures _
-    (returned _ _ c.from_residual.ensures.1)
+    refused_by a.head.now a.columns.now c.requires (F a.a a.b a.c) out (a.a ∷ a.b ∷ []) (a.c ∷ []) true refl _ c.in_err-admission.ensures _
+    (ap (work_of _) (returned _ _ c.from_residual.ensures.1))
 
 pub operand-requires-clause-a_value : goal.operand-requires-clause-a_value
 operand-requires-clause-a_value c = a_named c
 
-pub returns-in_err-first : goal.returns-in_err-first
-returns-in_err-first c = λ out.
+pub returns-in_err-first-clause-done : goal.returns-in_err-first-clause-done
+returns-in_err-first-clause-done c = λ out.
     let a = c.args in
-    refused_job a.head a.columns.now c.requires (F a.a a.b a.c) out (admitted (goal.at.returns-in_err-first c).In_ok-admission) _
-    (follow_first _ a.a a.b a.c c.in_err-first.ensures) _ (returned _ _ c.from_residual-in_err-first.ensures.1)
+    refused_job a.head.now a.columns.now c.requires (F a.a a.b a.c) out (admitted (goal.at.returns-in_err-first-clause-done c).In_ok-admission) _
+    (follow_first _ a.a a.b a.c c.in_err-first.ensures) _ (ap (work_of _) (returned _ _ c.from_residual-in_err-first.ensures.1))
 
 pub operand-requires-2-clause-a_value : goal.operand-requires-2-clause-a_value
 operand-requires-2-clause-a_value c = b_named (goal.at.operand-requires-2-clause-a_value c).In_ok-admission
 
-pub returns-in_err-second : goal.returns-in_err-second
-returns-in_err-second c = λ out.
+pub returns-in_err-second-clause-done : goal.returns-in_err-second-clause-done
+returns-in_err-second-clause-done c = λ out.
     let a = c.args in
-    refused_job a.head a.columns.now c.requires (F a.a a.b a.c) out (admitted (goal.at.returns-in_err-second c).In_ok-admission) _
+    refused_job a.head.now a.columns.now c.requires (F a.a a.b a.c) out (admitted (goal.at.returns-in_err-second-clause-done c).In_ok-admission) _
     (follow_second _ a.a a.b a.c _ c.in_ok-first.ensures.there c.in_err-second.ensures) _
-    (returned _ _ c.from_residual-in_err-second.ensures.1)
+    (ap (work_of _) (returned _ _ c.from_residual-in_err-second.ensures.1))
 
-pub returns-in_err-plan : goal.returns-in_err-plan
-returns-in_err-plan c = λ out.
+pub returns-in_err-plan-clause-done : goal.returns-in_err-plan-clause-done
+returns-in_err-plan-clause-done c = λ out.
     let a = c.args in
-    refused_job a.head a.columns.now c.requires (F a.a a.b a.c) out (admitted (goal.at.returns-in_err-plan c).In_ok-admission) _
+    refused_job a.head.now a.columns.now c.requires (F a.a a.b a.c) out (admitted (goal.at.returns-in_err-plan-clause-done c).In_ok-admission) _
     (follow_refused _ a.a a.b a.c _ c.in_ok-first.ensures.there _ c.in_ok-second.ensures.there
     (not_made (followed (plan_of c.in_ok-first.first) (plan_of c.in_ok-second.second)) _ c.in_err-plan.ensures)) _
-    (returned _ _ c.from_residual-in_err-plan.ensures.1)
+    (ap (work_of _) (returned _ _ c.from_residual-in_err-plan.ensures.1))
 
 pub slot_number-requires : goal.slot_number-requires
 slot_number-requires c = c_named (goal.at.slot_number-requires c).In_ok-admission
@@ -82,14 +83,14 @@ composed c =
 pub keep-requires : goal.keep-requires
 keep-requires c =
     let at = goal.at.keep-requires c in
-    keepable c.args.c _ c.slot_number.ensures _ c.args.head c.args.columns.now c.requires (c_named at.In_ok-admission)
+    keepable c.args.c _ c.slot_number.ensures _ c.args.head.now c.args.columns.now c.requires (c_named at.In_ok-admission)
     (composed at.In_ok-plan).is_plan_fact
 
-pub returns : goal.returns
+pub returns-clause-done : goal.returns-clause-done
 unfolding kind
-returns c =
+returns-clause-done c =
     let a = c.args in
-    let at = goal.at.returns c in
-    c.keep.ensures (F a.a a.b a.c)
+    let at = goal.at.returns-clause-done c in
+    c.keep.ensures.done (F a.a a.b a.c)
     (to_keep a.c _ c.slot_number.ensures _ _ (F a.a a.b a.c) (admitted at.In_ok-admission) refl
     (follow_keeps _ a.a a.b a.c _ c.in_ok-first.ensures.there _ c.in_ok-second.ensures.there _ (composed at.In_ok-plan).granted))

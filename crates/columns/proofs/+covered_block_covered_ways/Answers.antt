@@ -1,5 +1,5 @@
 -- The proof of the cycle of `covered_block` and `covered_ways`: what the walk over a block and over its parts answers.
-use Rattle.std.proofs.Common.{◌≡◌, ◌-◌, ◌≤◌, ◌<◌, ℕ, Bool, List, length, get_or, Bor, sym, ◌∙◌, ap, subst, arith}
+use Rattle.std.proofs.Common.{◌≡◌, refl, ◌+◌, ◌-◌, ◌≤◌, ◌<◌, ℕ, Bool, List, length, get_or, Bor, sym, ◌∙◌, ap, subst, arith}
 use Rattle.std.proofs.lemmas.Grind.{common_steps}
 use Rattle.std.specs.Prelude.{Some}
 use Rattle.std.specs.Slice.{IsItemAt}
@@ -53,7 +53,7 @@ covered_block-covered_ways-requires t c =
     let none = listed_nowhere a.arity a.column.now may a.w a.at at within (λ e. c.if-word-w.false (sym same ∙ e)) in
     let first = at_first a.arity a.column.now may (unpack a.w) a.at long at in
     let below : 1 ≤ a.left = omega (arith, c.if-left-eq0.false) in
-    (omega arith, ((may, low, high, none), (omega arith, omega arith, below, long, fits, first)))
+    (omega arith, ((may, low, high, none), (below, long, fits, first)))
 
 pub covered_block-returns : goal.covered_block-returns
 covered_block-returns t c =
@@ -63,32 +63,38 @@ covered_block-returns t c =
     let parts = covered_parts a.arity (words_of a.column.now) a.left (unpack a.w) none c.if-left-eq0.false in
     subst (λ b. Walked a.column.now (unpack a.w) b c.covered_ways.result) (sym parts) c.covered_ways.ensures
 
-pub covered_ways-returns-then-arity-way : goal.covered_ways-returns-then-arity-way
-covered_ways-returns-then-arity-way t c =
-    let a = c.args in
-    let (may, low, high, none) = c.requires.walkable in
-    let (some_way, last, below, long, fits, at) = c.requires.le_way in (
-      all_done (part a.arity a.column.now a.left a.w) a.way a.arity c.if-arity-way.true,
-      past_parts a.arity a.column.now may (unpack a.w) a.at a.way long c.if-arity-way.true none at,
-    )
+pub covered_ways-loop-way-init : goal.covered_ways-loop-way-init
+covered_ways-loop-way-init t c =
+    let (below, long, fits, first) = c.requires.in_bounds in
+    record { left_over = refl; here = first }
 
 pub covered_ways-returns-in_err-next : goal.covered_ways-returns-in_err-next
 covered_ways-returns-in_err-next t c =
     let a = c.args in
     let missed = rw c.child.ensures at c.in_err-next.ensures in
-    rw c.from_residual.ensures (all_stop (part a.arity a.column.now a.left a.w) a.way a.arity (omega arith) missed)
+    let stop = all_stop (part a.arity a.column.now a.left a.w) c.loop-way.way a.arity (omega arith) missed in
+    rw c.from_residual.ensures (c.loop-way.invariant.left_over ∙ stop)
 
-pub covered_ways-covered_ways-requires : goal.covered_ways-covered_ways-requires
-covered_ways-covered_ways-requires t c =
+pub covered_ways-loop-way-preserved : goal.covered_ways-loop-way-preserved
+covered_ways-loop-way-preserved t c =
     let a = c.args in
-    let (some_way, last, below, long, fits, at) = c.requires.le_way in
+    let way = c.loop-way.way in
     let passed = rw c.child.ensures at c.in_ok-next.ensures in
-    let later = at_later a.column.now (unpack a.w) c.in_ok-next.next a.way passed.1 in
-    (omega arith, (c.requires.walkable, (omega arith, omega arith, below, long, fits, later)))
+    record {
+      left_over = c.loop-way.invariant.left_over ∙ all_pass (part a.arity a.column.now a.left a.w) way a.arity (omega arith) passed.0;
+      here = at_later a.column.now (unpack a.w) c.in_ok-next.next way passed.1;
+    }
 
-pub covered_ways-returns : goal.covered_ways-returns
-covered_ways-returns t c =
+pub covered_ways-returns-in_ok-next : goal.covered_ways-returns-in_ok-next
+covered_ways-returns-in_ok-next t c =
     let a = c.args in
+    let (may, low, high, none) = c.requires.walkable in
+    let (below, long, fits, first) = c.requires.in_bounds in
+    let way = c.loop-way.way in
     let passed = rw c.child.ensures at c.in_ok-next.ensures in
-    let pass = all_pass (part a.arity a.column.now a.left a.w) a.way a.arity (omega arith) passed.0 in
-    subst (λ b. Walked a.column.now (unpack a.w) b c.covered_ways.result) (sym pass) c.covered_ways.ensures
+    let pass = all_pass (part a.arity a.column.now a.left a.w) way a.arity (omega arith) passed.0 in
+    let done = all_done (part a.arity a.column.now a.left a.w) (way + 1) a.arity (omega arith) in
+    let later = at_later a.column.now (unpack a.w) c.in_ok-next.next way passed.1 in (
+      c.loop-way.invariant.left_over ∙ pass ∙ done,
+      past_parts a.arity a.column.now may (unpack a.w) c.in_ok-next.next (way + 1) long (omega arith) none later,
+    )

@@ -11,6 +11,7 @@ use Rattle.desk.specs.Desk.{with_draft, IsDesk}
 use Rattle.desk.specs.Records.{P, kind, writing}
 use Rattle.desk.specs.Replies.{Effect, silent, new_draft}
 use Rattle.operations.specs.declared.refusals.Refusal.TheVariants.{ShapeOutside}
+use Rattle.slots.specs.Works.{work_of}
 use Rattle.slots.specs.declared.Size.{Size}
 use Rattle.slots.specs.Desks.{desk_of}
 use Rattle.slots.specs.Refused.{refused_for}
@@ -28,35 +29,37 @@ named c =
     let a = c.args in
     let columns = c.requires.0 in
     let r = P a.slot a.shape.arity a.shape.roots in
-    admitted_named (desk_of a.head columns) r (c.in_ok-admission.ensures r false columns refl) (writing a.slot) (Memᴰ.head refl)
+    admitted_named (desk_of a.head.now columns) r (c.in_ok-admission.ensures r false columns refl) (writing a.slot) (Memᴰ.head refl)
 
-pub returns-in_err-admission : goal.returns-in_err-admission
+pub returns-in_err-admission-clause-done : goal.returns-in_err-admission-clause-done
 unfolding kind
-returns-in_err-admission c = λ columns out H.
+returns-in_err-admission-clause-done c = λ columns out H.
     let a = c.args in
-    refused_by a.head columns H (P a.slot a.shape.arity a.shape.roots) out [] (a.slot ∷ []) false refl _ c.in_err-admission.ensures _
-    (returned _ _ c.from_residual.ensures.1)
+    refused_by a.head.now columns H (P a.slot a.shape.arity a.shape.roots) out [] (a.slot ∷ []) false refl _ c.in_err-admission.ensures _
+    (ap (work_of _) (returned _ _ c.from_residual.ensures.1))
 
-pub returns-then-not-is_in_range : goal.returns-then-not-is_in_range
+pub returns-then-not-is_in_range-clause-done : goal.returns-then-not-is_in_range-clause-done
 unfolding kind
-returns-then-not-is_in_range c = λ columns out H.
+returns-then-not-is_in_range-clause-done c = λ columns out H.
     let a = c.args in
     let r = P a.slot a.shape.arity a.shape.roots in
     let no = sym c.is_in_range.ensures ∙ c.if-not-is_in_range.true in
-    refused_job a.head columns H r out (c.in_ok-admission.ensures r false columns refl) (refused_for ShapeOutside)
-    (open_outside (desk_of a.head columns) a.slot a.shape.arity a.shape.roots no) _ (ap Err c.into.ensures)
+    refused_job a.head.now columns H r out (c.in_ok-admission.ensures r false columns refl) (refused_for ShapeOutside)
+    (open_outside (desk_of a.head.now columns) a.slot a.shape.arity a.shape.roots no) _ (ap Err c.into.ensures)
 
 pub slot_number-requires : goal.slot_number-requires
-slot_number-requires c = named c
+slot_number-requires c = named (goal.at.slot_number-requires c).Else-not-is_in_range
 
-pub overflow_cast-next : goal.overflow_cast-next
-overflow_cast-next c = record { fits = omega (arith, c.slot_number.ensures, slot_below c.args.slot (named c.before), slots_eight) }
+pub overflow_cast-head : goal.overflow_cast-head
+overflow_cast-head c =
+    let named = named (goal.at.overflow_cast-head c).Else-not-is_in_range in
+    record { fits = omega (arith, c.slot_number.ensures, slot_below c.args.slot named, slots_eight) }
 
-pub returns : goal.returns
+pub returns-clause-done : goal.returns-clause-done
 unfolding kind
-returns c = λ columns out H.
+returns-clause-done c = λ columns out H.
     let a = c.args in
-    let h = a.head in
+    let h = a.head.now in
     let d = desk_of h columns in
     let r = P a.slot a.shape.arity a.shape.roots in
     let slot = c.slot_number.result in

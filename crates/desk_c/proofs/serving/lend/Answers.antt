@@ -8,6 +8,7 @@ use lib.ListN.{length, length-replicate, take, drop}
 use Rattle.replies.specs.Sizes.{max_reply}
 use Rattle.slots.specs.declared.Head.{Head}
 use Rattle.slots.specs.Desks.{desk_of, HoldsDesk}
+use Rattle.lines.specs.declared.Stepped.{Stepped}
 use Rattle.lines.proofs.Settled.{holds_dropped}
 use Rattle.desk_values.specs.Values.{packed_desk}
 use Rattle.desk_c.proofs.Lent.{call_refused, reply_fits, call_done}
@@ -32,8 +33,8 @@ unfolding max_reply
 returns-in-Ok c =
     let a = c.args in
     let out = a.out.now in
-    let s = c.in-Ok.replied in
-    let n = s.used in
+    let n = c.in-Ok.n in
+    let s : Stepped = record { head = c.answer.new.head; used = n } in
     let bytes = c.answer.new.out in
     let columns = c.answer.new.columns in
     let long = length-replicate {A = ℕ} 5127 0 in

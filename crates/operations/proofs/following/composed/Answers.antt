@@ -40,7 +40,7 @@ room l =
     omega (arith, pair_limit, few, lent_pairs l.lent-first.result, lent_pairs l.lent-second.result)
 
 -- what F answers
-answered : (l : After-lent-second) → making (followed (first l) (second l)) ≡ composing l.args.a l.args.b
+answered : (l : After-lent-second) → making (followed (first l) (second l)) ≡ composing l.args.a.now l.args.b.now
 answered l = ap₂ (λ p q. making (followed p q)) l.lent-first.ensures l.lent-second.ensures
 
 -- where the pairs were written

@@ -8,25 +8,26 @@ use Rattle.operations.proofs.Exits.{returned}
 use Rattle.plans.specs.declared.Rejection.TheVariants.{NotADraft, Faulty}
 use Rattle.plans.proofs.DraftChecks.{judged_none, draft_closes}
 use Rattle.plans.proofs.Accepted.{keeping_by, keeping_closed}
-use Rattle.plans.proofs.kept.keep.Goals.{Else-not-is_draft}
+use Rattle.plans.proofs.kept.keep.Goals.{Else-not-holds_draft}
 use Rattle.plans.proofs.kept.keep.Goals as goal
 
 -- what the test says once it has passed
-passed : (c : Else-not-is_draft) → is_draft c.args.draft ≡ true
-passed c = sym c.is_draft.ensures ∙ c.if-not-is_draft.false
+passed : (c : Else-not-holds_draft) → is_draft c.args.draft ≡ true
+passed c = sym c.holds_draft.ensures.value ∙ c.if-not-holds_draft.false
 
-pub returns-then-not-is_draft : goal.returns-then-not-is_draft
-returns-then-not-is_draft c =
-    keeping_by c.args.draft (Err NotADraft) (sym (judged_none c.args.draft (sym c.is_draft.ensures ∙ c.if-not-is_draft.true)))
+pub returns-then-not-holds_draft : goal.returns-then-not-holds_draft
+returns-then-not-holds_draft c =
+    keeping_by c.args.draft (Err NotADraft) (sym (judged_none c.args.draft (sym c.holds_draft.ensures.value ∙ c.if-not-holds_draft.true)))
 
 pub close-requires : goal.close-requires
-close-requires c = draft_closes c.args.draft (columns_even c.args.draft _ c.well_formed.0) (passed c)
+close-requires c =
+    draft_closes c.args.draft (columns_even c.args.draft _ c.well_formed.0) (passed (goal.at.close-requires c).Else-not-holds_draft)
 
 pub returns-in_err-close : goal.returns-in_err-close
 returns-in_err-close c =
     let f = c.in_err-close.field-0.0 in
     returned c.from_residual.result (Faulty f) c.from_residual.ensures.1
-    ∙ keeping_closed c.args.draft (Err f) (passed (goal.at.returns-in_err-close c).Else-not-is_draft) c.in_err-close.ensures
+    ∙ keeping_closed c.args.draft (Err f) (passed (goal.at.returns-in_err-close c).Else-not-holds_draft) c.in_err-close.ensures
 
 pub returns : goal.returns
-returns c = keeping_closed c.args.draft _ (passed (goal.at.returns c).Else-not-is_draft) c.in_ok-close.ensures
+returns c = keeping_closed c.args.draft _ (passed (goal.at.returns c).Else-not-holds_draft) c.in_ok-close.ensures

@@ -59,8 +59,8 @@ returns c =
     record {
       value = ap₂ (λ n k. Ok (record { length = n; place = k })) size (sym f.place) ∙ answer.0;
       out_after =
-          written_part a.out.now (word_bytes head) c.behind-tail.result.now c.write-end.new.out c.copy_from_slice.new.self
-          c.write-end.result _ c.write-end.ensures c.copy_from_slice.ensures.after (omega arith)
+          written_part a.out.now (word_bytes head) c.behind-tail.result.now c.write-end.new.out c.copy.new.out
+          c.write-end.result _ c.write-end.ensures c.copy.ensures (omega arith)
           ∙ ap (written a.out.now 0) (ap (λ l. word_bytes head ++ l) c.behind-tail.ensures.result_value ∙ sym f.bytes)
           ∙ answer.1;
     }
