@@ -61,8 +61,10 @@ pub fn overlaps(column: &[u64]) -> bool
 
 // Where the walk over a covered block has come to, looked at `left` ways below it; None where there is a gap. The words before the place
 // at stand before the block, so that the word there is the block, lies in it, or there is a gap. It and the walk over the ways call each
-// other: that is the form which document 01 names for this check.
+// other: that is the form which document 01 names for this check. It is inlined there, so that a word of the column
+// is looked at without a call.
 #[cycle(covered_block_covered_ways)]
+#[inline(always)]
 fn covered_block(column: &[u64], arity: u8, w: u64, left: u8, at: usize) -> Option<usize>
     requires walkable { Walkable arity column.now × (1 ≤ arity) × (arity ≤ 9) }
     requires in_bounds { (1 ≤ length (unpack w)) × (length (unpack w) + left ≤ max_digits) × AtBlock column.now (unpack w) at }
@@ -81,6 +83,7 @@ fn covered_block(column: &[u64], arity: u8, w: u64, left: u8, at: usize) -> Opti
 // The same of the parts of a block, way by way, up to the first that is not covered. The words of a part stand behind those of the parts
 // before it, so that the walk goes on where it has come to.
 #[cycle(covered_block_covered_ways)]
+#[inline(never)]
 fn covered_ways(column: &[u64], arity: u8, w: u64, left: u8, at: usize) -> Option<usize>
     requires walkable { Walkable arity column.now × (1 ≤ arity) × (arity ≤ 9) × (listed (unpack w) (words_of column.now) ≡ false) }
     requires in_bounds { (1 ≤ left) × (1 ≤ length (unpack w)) × (length (unpack w) + left ≤ max_digits)

@@ -1,48 +1,56 @@
--- Comparing two tables by their columns: two numbers hold the same word exactly where they are the same number.
-use Prim.Native.Nat.{ℕ}
-use mathlib.Core.Path.{◌≡◌, refl, sym, ◌∙◌, ap, ap₂}
+-- Comparing two tables that columns hold, place by place: two numbers hold the same word exactly where they are the same number.
+use Prim.Native.Nat.{ℕ, ◌+◌, ◌≤◌, ◌<◌}
+use mathlib.Core.Path.{◌≡◌, sym, ◌∙◌, ap, ap₂}
 use mathlib.Core.Logic.{◌⊎◌, inl, inr}
-use mathlib.Core.Bool.{Bool, true, false, ◌&&◌}
-use mathlib.Core.List.{List, [], ◌∷◌}
+use mathlib.Core.Bool.{Bool, true, false, ◌&&◌, and-false}
+use mathlib.Core.List.{List}
 use native.Mathlib.Omega.{arith}
-use borrow.Author.Tests.{eqb-true, eqb-false}
-use lib.Dec.{eqb}
-use lib.ListN.{length}
-use lib.Pointwise.{pointwise}
+use lib.ListN.{length, get_or, drop, drop_of_length-le}
 use Rattle.higman.specs.Bases.{same_word}
 use Rattle.higman.specs.Tables.{same_table}
 use Rattle.higman.proofs.Tests.{passes, so, T_of, same_word_lem, same_word_refl}
 use Rattle.words.specs.Packed.{unpack}
 use Rattle.words.proofs.Packing.{unpack_injective}
 use Rattle.columns.specs.Packed.{table}
+use Rattle.columns.specs.Columns.{word_at}
+use Rattle.tables.proofs.Lookup.{table_left}
 
-same_number : (x y : ℕ) → eqb x y ≡ same_word (unpack x) (unpack y)
-same_number x y = go (passes (eqb x y)) (passes (same_word (unpack x) (unpack y)))
+same_number : (x y : ℕ) → x ≡ y → same_word (unpack x) (unpack y) ≡ true
+same_number x y e = ap (λ z. same_word (unpack x) (unpack z)) (sym e) ∙ so (same_word (unpack x) (unpack x)) (same_word_refl (unpack x))
+
+other_number : (x y : ℕ) → (x ≡ y → ⊥) → same_word (unpack x) (unpack y) ≡ false
+other_number x y h = go (passes (same_word (unpack x) (unpack y)))
   where
-    go : (eqb x y ≡ true) ⊎ (eqb x y ≡ false) → (same_word (unpack x) (unpack y) ≡ true) ⊎ (same_word (unpack x) (unpack y) ≡ false)
-        → eqb x y ≡ same_word (unpack x) (unpack y)
-    go (inl e) _ =
-        e ∙ sym (so (same_word (unpack x) (unpack x)) (same_word_refl (unpack x)))
-        ∙ ap (λ z. same_word (unpack x) (unpack z)) (eqb-true x y e)
-    go (inr e) (inl f) = absurd (eqb-false x y e (unpack_injective x y (same_word_lem (unpack x) (unpack y) (T_of f))))
-    go (inr e) (inr f) = e ∙ sym f
+    go : (same_word (unpack x) (unpack y) ≡ true) ⊎ (same_word (unpack x) (unpack y) ≡ false) → same_word (unpack x) (unpack y) ≡ false
+    go (inl e) = absurd (h (unpack_injective x y (same_word_lem (unpack x) (unpack y) (T_of e))))
+    go (inr e) = e
 
-apart : (a b p q : Bool) → ((a && p) && (b && q)) ≡ (a && b && (p && q))
-apart true true p q = refl
-apart true false true q = refl
-apart true false false q = refl
-apart false b p q = refl
+-- the pairs from a place on
+abbrev pub same_from : List ℕ → List ℕ → List ℕ → List ℕ → ℕ → Bool
+same_from af at bf bt i = same_table (table (drop i af) (drop i at)) (table (drop i bf) (drop i bt))
 
-pub same_columns : (af at bf bt : List ℕ) → length af ≡ length at → length bf ≡ length bt
-    → (pointwise eqb af bf && pointwise eqb at bt) ≡ same_table (table af at) (table bf bt)
-same_columns [] [] [] [] e f = refl
-same_columns [] [] (y ∷ bf) (z ∷ bt) e f = refl
-same_columns (x ∷ af) (w ∷ at) [] [] e f = refl
-same_columns (x ∷ af) (w ∷ at) (y ∷ bf) (z ∷ bt) e f =
-    apart (eqb x y) (eqb w z) (pointwise eqb af bf) (pointwise eqb at bt)
-    ∙ ap₂ (λ a r. a && eqb w z && r) (same_number x y) (same_columns af at bf bt (omega arith) (omega arith))
-    ∙ ap (λ b. same_word (unpack x) (unpack y) && b && same_table (table af at) (table bf bt)) (same_number w z)
-same_columns [] (w ∷ at) bf bt e f = absurd (omega arith)
-same_columns (x ∷ af) [] bf bt e f = absurd (omega arith)
-same_columns af at [] (z ∷ bt) e f = absurd (omega arith)
-same_columns af at (y ∷ bf) [] e f = absurd (omega arith)
+module _ (af at bf bt : List ℕ) (la : length af ≡ length at) (lf : length af ≡ length bf) (lt : length af ≡ length bt) (i : ℕ) where
+  pub at_end : length af ≤ i → same_from af at bf bt i ≡ true
+  at_end h =
+      let k : length bf ≤ i = omega arith in
+      ap₂ (λ l m. same_table (table l (drop i at)) (table m (drop i bt))) (drop_of_length-le af h) (drop_of_length-le bf k)
+
+  module _ (h : i < length af) where
+    place : same_from af at bf bt i
+        ≡ (same_word (word_at af i) (word_at bf i) && same_word (word_at at i) (word_at bt i) && same_from af at bf bt (i + 1))
+    place = ap₂ same_table (table_left af at i h (omega arith)) (table_left bf bt i (omega arith) (omega arith))
+
+    pub from_differs : (get_or af i 0 ≡ get_or bf i 0 → ⊥) → same_from af at bf bt i ≡ false
+    from_differs d =
+        place ∙ ap (λ x. x && same_word (word_at at i) (word_at bt i) && same_from af at bf bt (i + 1)) (other_number (get_or af i 0) (get_or bf i 0) d)
+
+    pub to_differs : (get_or at i 0 ≡ get_or bt i 0 → ⊥) → same_from af at bf bt i ≡ false
+    to_differs d =
+        place
+        ∙ ap (λ x. same_word (word_at af i) (word_at bf i) && x && same_from af at bf bt (i + 1)) (other_number (get_or at i 0) (get_or bt i 0) d)
+        ∙ ap (λ x. x && same_from af at bf bt (i + 1)) (and-false (same_word (word_at af i) (word_at bf i)))
+
+    pub same_place : get_or af i 0 ≡ get_or bf i 0 → get_or at i 0 ≡ get_or bt i 0 → same_from af at bf bt i ≡ same_from af at bf bt (i + 1)
+    same_place e f =
+        place
+        ∙ ap₂ (λ x y. x && y && same_from af at bf bt (i + 1)) (same_number (get_or af i 0) (get_or bf i 0) e) (same_number (get_or at i 0) (get_or bt i 0) f)

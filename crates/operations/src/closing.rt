@@ -67,7 +67,7 @@ pub fn judge(draft: &Plan) -> Result<(), Fault>
     fault_of(&draft.to[..draft.pairs], shape).map_err(Fault::InTo)
 }
 
-// "E closes: reduce and keep."
+// "E closes: reduce and keep." Never inlined: its answer has a plan, which a caller would clear for a draft that is refused before.
 #[tactic(auto, using(columns::proofs::Limits::pair_limit, crate::proofs::Sizes::taken))]
 #[inline(never)]
 pub fn close(draft: &Plan) -> Result<Plan, Fault>
