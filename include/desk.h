@@ -5,7 +5,7 @@
  * A desk has eight slots 'A' to 'H' for plans (plans.h says what a plan is), at most one open plan, the sum of the pairs in its slots,
  * and for each of eight stations, 0 to 7, a count of the changes done while that station was named and its rights on the slots. It is a
  * value of the caller's: the library keeps nothing, allocates nothing and prints nothing. Calls on different desks may run at the same
- * time, calls on one desk may not. A desk may be copied and stored like any other struct. A call needs some 140 KB of stack.
+ * time, calls on one desk may not. A desk may be copied and stored like any other struct. A call needs up to 205 KB of stack.
  *
  * desk_line takes the records that the desk program reads, one line a call, desk_feed as many lines as a piece of its input has, and
  * desk_do those that have no text, by number:
